@@ -1,0 +1,4 @@
+mod Namespace
+mod Forms
+mod Scan
+pub mod Table

@@ -1,0 +1,9 @@
+-- The worked examples hold of the name rules: one statement, which antt computes. Assumes nothing.
+use mathlib.Core.Path.{_≡_, refl}
+use mathlib.Core.Bool.{true}
+use Rattle.names.specs.Names.{startsWith, wellKnown, unique, validName}
+use Rattle.names.specs.Table.{table, agrees}
+
+pub table-agrees : agrees table ≡ true
+unfolding startsWith wellKnown unique validName
+table-agrees = refl

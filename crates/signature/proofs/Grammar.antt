@@ -1,0 +1,167 @@
+-- What the reader knows of one type and of a row at an index, from what its callees ensure and which variants they returned: a lemma for each way
+-- through the code, whose premises are what the code knows on that way.
+-- Assumes nothing.
+use mathlib.Core.Path.{_≡_, refl, subst}
+use mathlib.Core.Bool.{Bool, true, false, _&&_, _||_}
+use mathlib.Core.List.{List, [], _∷_}
+use mathlib.Core.Option.{Option, none, some}
+use Prim.Native.Nat.{ℕ, zero, suc, _+_, _-_, _*_, _≤_, _<_}
+use native.Mathlib.Omega.{arith}
+use lib.Dec.{leb, eqb}
+use lib.ListN.{length, drop, getD}
+use borrow.Author.Needs.{needs}
+use Rattle.wire.specs.Bytes.{byte}
+use Rattle.wire.proofs.From.{next, past, skip}
+use Rattle.signature.specs.Signature.{headOf, closed, one, row}
+use Rattle.signature.specs.Reader.{leftOf, rowOf, StepFits, RunFits, HeadAt, OneAt, RowAt}
+use Rattle.signature.specs.declared.Head.{Head}
+use Rattle.signature.specs.declared.Head.the-variants as head
+use Rattle.signature.specs.declared.Step.{Step}
+use Rattle.signature.specs.declared.Step.the-variants as step
+use Rattle.signature.specs.declared.Run.{Run}
+use Rattle.signature.specs.declared.Run.the-variants as run
+
+-- a type that ends past a later start ends past this one
+further : (s : List ℕ) (at from : ℕ) → at ≤ from → (r : Step) → StepFits s from r → StepFits s at r
+further s at from h (step.Rest k) f = omega arith
+further s at from h step.Bad f = tt
+
+-- ---- what a variant says of places
+
+module _ {s : List ℕ} {at arrays parens : ℕ} where
+  module _ {x : Head} (h : HeadAt s at arrays parens x) where
+    pub plain-in : x ≡ head.Plain → at < length s
+    plain-in e = subst (HeadAt s at arrays parens) e h .fits
+
+    pub array-in : x ≡ head.Array → (at < length s) × (arrays < 32)
+    array-in e = subst (HeadAt s at arrays parens) e h .fits
+
+    pub dict-in : {key : Bool} → x ≡ head.Dict key → (at < length s) × (arrays < 32)
+    dict-in e = subst (HeadAt s at arrays parens) e h .fits
+
+    pub paren-in : x ≡ head.Paren → (at < length s) × (parens < 32)
+    paren-in e = subst (HeadAt s at arrays parens) e h .fits
+
+  pub type-in : {x : Step} → OneAt s at arrays parens x → {k : ℕ} → x ≡ step.Rest k → (at < k) × (k ≤ length s)
+  type-in o e = subst (OneAt s at arrays parens) e o .fits
+
+  pub row-in : {m : Run} → RowAt s at arrays parens m → {n end : ℕ} → m ≡ run.Types n end → (at ≤ end) × (n ≤ length s - at)
+  row-in w e = subst (RowAt s at arrays parens) e w .fits
+
+-- ---- one type
+
+module _ {s : List ℕ} {at arrays parens : ℕ} {x : Head} (h : HeadAt s at arrays parens x) where
+  pub plain : x ≡ head.Plain → OneAt s at arrays parens (step.Rest (at + 1))
+  unfolding one
+  plain e = record { is = go; fits = omega (arith, plain-in h e) }
+    where
+      go : (fuel : ℕ) → 2 * (length s - at) ≤ fuel → some (drop (at + 1) s) ≡ one fuel arrays parens (drop at s)
+      go zero l = absurd (omega (arith, plain-in h e))
+      go (suc fuel) l = rw (one, ← h .is, e, skip s at 1 (at + 1) refl)
+
+  pub array : x ≡ head.Array → {r : Step} → OneAt s (at + 1) (arrays + 1) parens r → OneAt s at arrays parens r
+  unfolding one
+  array e {r} o = record { is = go; fits = further s at (at + 1) (omega arith) r (o .fits) }
+    where
+      go : (fuel : ℕ) → 2 * (length s - at) ≤ fuel → leftOf s r ≡ one fuel arrays parens (drop at s)
+      go zero l = absurd (omega (arith, array-in h e))
+      go (suc fuel) l = rw (one, ← h .is, e, skip s at 1 (at + 1) refl) (o .is fuel (omega (arith, array-in h e)))
+
+  pub other : x ≡ head.None → OneAt s at arrays parens step.Bad
+  unfolding one
+  other e = record { is = go; fits = tt }
+    where
+      go : (fuel : ℕ) → 2 * (length s - at) ≤ fuel → none ≡ one fuel arrays parens (drop at s)
+      go zero l = refl
+      go (suc fuel) l = rw (one, ← h .is, e)
+
+  module _ {key : Bool} (e : x ≡ head.Dict key) {m : Run} (w : RowAt s (at + 2) (arrays + 1) parens m) where
+    pub dict : {n end : ℕ} → m ≡ run.Types n end → {r : Step} → leftOf s r ≡ closed (byte "}") (key && eqb n 2) (drop end s)
+        → StepFits s end r → OneAt s at arrays parens r
+    unfolding one
+    dict {n} {end} q {r} d f = record { is = go; fits = further s at end (omega (arith, row-in w q)) r f }
+      where
+        go : (fuel : ℕ) → 2 * (length s - at) ≤ fuel → leftOf s r ≡ one fuel arrays parens (drop at s)
+        go zero l = absurd (omega (arith, dict-in h e))
+        go (suc fuel) l = rw (one, ← h .is, e, skip s at 2 (at + 2) refl, ← w .is fuel (omega (arith, dict-in h e)), q) d
+
+    pub dict-bad : m ≡ run.Bad → OneAt s at arrays parens step.Bad
+    unfolding one
+    dict-bad q = record { is = go; fits = tt }
+      where
+        go : (fuel : ℕ) → 2 * (length s - at) ≤ fuel → none ≡ one fuel arrays parens (drop at s)
+        go zero l = refl
+        go (suc fuel) l = rw (one, ← h .is, e, skip s at 2 (at + 2) refl, ← w .is fuel (omega (arith, dict-in h e)), q)
+
+  module _ (e : x ≡ head.Paren) {m : Run} (w : RowAt s (at + 1) arrays (parens + 1) m) where
+    pub paren : {n end : ℕ} → m ≡ run.Types n end → {r : Step} → leftOf s r ≡ closed (byte ")") (leb 1 n) (drop end s)
+        → StepFits s end r → OneAt s at arrays parens r
+    unfolding one
+    paren {n} {end} q {r} d f = record { is = go; fits = further s at end (omega (arith, row-in w q)) r f }
+      where
+        go : (fuel : ℕ) → 2 * (length s - at) ≤ fuel → leftOf s r ≡ one fuel arrays parens (drop at s)
+        go zero l = absurd (omega (arith, paren-in h e))
+        go (suc fuel) l = rw (one, ← h .is, e, skip s at 1 (at + 1) refl, ← w .is fuel (omega (arith, paren-in h e)), q) d
+
+    pub paren-bad : m ≡ run.Bad → OneAt s at arrays parens step.Bad
+    unfolding one
+    paren-bad q = record { is = go; fits = tt }
+      where
+        go : (fuel : ℕ) → 2 * (length s - at) ≤ fuel → none ≡ one fuel arrays parens (drop at s)
+        go zero l = refl
+        go (suc fuel) l = rw (one, ← h .is, e, skip s at 1 (at + 1) refl, ← w .is fuel (omega (arith, paren-in h e)), q)
+
+-- ---- a row
+
+module _ {s : List ℕ} {at arrays parens : ℕ} where
+  pub at-end : length s ≤ at → RowAt s at arrays parens (run.Types 0 at)
+  unfolding row
+  at-end h = record { is = go; fits = omega arith }
+    where
+      go : (fuel : ℕ) → 2 * (length s - at) + 1 ≤ fuel → some (0, drop at s) ≡ row fuel arrays parens (drop at s)
+      go zero l = absurd (omega arith)
+      go (suc fuel) l = rw (past s at h)
+
+  pub at-close : at < length s → eqb (getD s at 0) (byte ")") || eqb (getD s at 0) (byte "}") ≡ true → RowAt s at arrays parens (run.Types 0 at)
+  unfolding row
+  at-close h t = record { is = go; fits = omega arith }
+    where
+      go : (fuel : ℕ) → 2 * (length s - at) + 1 ≤ fuel → some (0, drop at s) ≡ row fuel arrays parens (drop at s)
+      go zero l = absurd (omega arith)
+      go (suc fuel) l = rw (row, next s at h, t)
+
+  module _ (h : at < length s) (t : eqb (getD s at 0) (byte ")") || eqb (getD s at 0) (byte "}") ≡ false)
+      {x : Step} (o : OneAt s at arrays parens x) where
+    -- the type in front, where its first byte is written out
+    front-is : (fuel : ℕ) → 2 * (length s - at) ≤ fuel → leftOf s x ≡ one fuel arrays parens (getD s at 0 ∷ drop (at + 1) s)
+    front-is fuel l = rw (next s at h) at (o .is fuel l)
+
+    pub at-bad : x ≡ step.Bad → RowAt s at arrays parens run.Bad
+    unfolding row
+    at-bad e = record { is = go; fits = tt }
+      where
+        go : (fuel : ℕ) → 2 * (length s - at) + 1 ≤ fuel → none ≡ row fuel arrays parens (drop at s)
+        go zero l = refl
+        go (suc fuel) l = rw (row, next s at h, t, ← front-is fuel (omega arith), e)
+
+    module _ {k : ℕ} (e : x ≡ step.Rest k) {m : Run} (w : RowAt s k arrays parens m) where
+      pub more : {n end : ℕ} → m ≡ run.Types n end → RowAt s at arrays parens (run.Types (n + 1) end)
+      unfolding row
+      more {n} {end} q = record { is = go; fits = omega (arith, type-in o e, row-in w q) }
+        where
+          go : (fuel : ℕ) → 2 * (length s - at) + 1 ≤ fuel → some (n + 1, drop end s) ≡ row fuel arrays parens (drop at s)
+          go zero l = absurd (omega arith)
+          go (suc fuel) l =
+              rw (row, next s at h, t, ← front-is fuel (omega arith), e, ← w .is fuel (omega (arith, type-in o e)), q)
+
+      pub more-bad : m ≡ run.Bad → RowAt s at arrays parens run.Bad
+      unfolding row
+      more-bad q = record { is = go; fits = tt }
+        where
+          go : (fuel : ℕ) → 2 * (length s - at) + 1 ≤ fuel → none ≡ row fuel arrays parens (drop at s)
+          go zero l = refl
+          go (suc fuel) l =
+              rw (row, next s at h, t, ← front-is fuel (omega arith), e, ← w .is fuel (omega (arith, type-in o e)), q)
+
+-- what answers each need of `list` and `one` that is not of numbers alone
+pub ruleset ways = (plain, array, other, dict, dict-bad, paren, paren-bad, at-end, at-close, at-bad, more, more-bad, needs)

@@ -1,0 +1,132 @@
+// The signature rule of D-Bus: a list of types calls one type, and one type calls a list for parentheses and braces.
+ghost use mathlib.Core.Path.{_≡_};
+ghost use lib.ListN.{drop};
+ghost use Rattle.signature.specs.Signature.{basic, closed, validSignature};
+ghost use Rattle.signature.specs.Reader.{leftOf, StepFits, HeadAt, OneAt, RowAt};
+
+// How a type begins; a dict entry, with or without a basic key.
+pub enum Head {
+    Plain,
+    Array,
+    Dict(bool),
+    Paren,
+    None,
+}
+
+// Where the bytes after one type start.
+pub enum Step {
+    Rest(usize),
+    Bad,
+}
+
+// How many types stand in a row, and where the bytes after them start.
+pub enum Run {
+    Types(usize, usize),
+    Bad,
+}
+
+fn is_basic(b: u8) -> bool
+    ensures { λ r. ⌜ r ≡ basic b ⌝ }
+{
+    (b == b'y')
+        | (b == b'b')
+        | (b == b'n')
+        | (b == b'q')
+        | (b == b'i')
+        | (b == b'u')
+        | (b == b'x')
+        | (b == b't')
+        | (b == b'd')
+        | (b == b's')
+        | (b == b'o')
+        | (b == b'g')
+        | (b == b'h')
+}
+
+fn head_at(s: &[u8], at: usize, arrays: usize, parens: usize) -> Head
+    ensures { λ r. ⌜ HeadAt (now (s .entry)) at arrays parens r ⌝ }
+{
+    if s.len() <= at {
+        return Head::None;
+    }
+    let b = s[at];
+    if is_basic(b) | (b == b'v') {
+        return Head::Plain;
+    }
+    if (b == b'(') & (parens < 32) {
+        return Head::Paren;
+    }
+    if (b == b'a') & (arrays < 32) {
+        if wire::peek(s, at + 1) == b'{' {
+            return Head::Dict(is_basic(wire::peek(s, at + 2)));
+        }
+        return Head::Array;
+    }
+    Head::None
+}
+
+// Past the closing byte at `end`, where all is well so far.
+fn close(s: &[u8], end: usize, well: bool, by: u8) -> Step
+    ensures is { λ r. ⌜ leftOf (now (s .entry)) r ≡ closed by well (drop end (now (s .entry))) ⌝ }
+    ensures fits { λ r. ⌜ StepFits (now (s .entry)) end r ⌝ }
+{
+    if s.len() <= end {
+        return Step::Bad;
+    }
+    if well & (s[end] == by) {
+        Step::Rest(end + 1)
+    } else {
+        Step::Bad
+    }
+}
+
+// The one type at `at`.
+fn one(s: &[u8], at: usize, arrays: usize, parens: usize) -> Step
+    ensures { λ r. ⌜ OneAt (now (s .entry)) at arrays parens r ⌝ }
+{
+    match head_at(s, at, arrays, parens) {
+        Head::Plain => Step::Rest(at + 1),
+        Head::Array => one(s, at + 1, arrays + 1, parens),
+        Head::Dict(key) => match list(s, at + 2, arrays + 1, parens) {
+            Run::Types(n, end) => close(s, end, key & (n == 2), b'}'),
+            Run::Bad => Step::Bad,
+        },
+        Head::Paren => match list(s, at + 1, arrays, parens + 1) {
+            Run::Types(n, end) => close(s, end, 1 <= n, b')'),
+            Run::Bad => Step::Bad,
+        },
+        Head::None => Step::Bad,
+    }
+}
+
+// The types in a row from `at` on, up to a closing byte or the end.
+fn list(s: &[u8], at: usize, arrays: usize, parens: usize) -> Run
+    ensures { λ r. ⌜ RowAt (now (s .entry)) at arrays parens r ⌝ }
+{
+    if s.len() <= at {
+        return Run::Types(0, at);
+    }
+    let b = s[at];
+    if (b == b')') | (b == b'}') {
+        return Run::Types(0, at);
+    }
+    match one(s, at, arrays, parens) {
+        Step::Rest(next) => match list(s, next, arrays, parens) {
+            Run::Types(n, end) => Run::Types(n + 1, end),
+            Run::Bad => Run::Bad,
+        },
+        Step::Bad => Run::Bad,
+    }
+}
+
+pub fn is_valid(s: &[u8]) -> bool
+    ensures { λ r. ⌜ r ≡ validSignature (now (s .entry)) ⌝ }
+{
+    if 255 < s.len() {
+        return false;
+    }
+    match list(s, 0, 0, 0) {
+        Run::Types(_, end) => s.len() <= end,
+        Run::Bad => false,
+    }
+}

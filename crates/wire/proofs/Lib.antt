@@ -1,0 +1,4 @@
+pub mod From
+pub mod Texts
+pub mod Words
+mod Runs

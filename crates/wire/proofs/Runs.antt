@@ -1,0 +1,139 @@
+-- Loops over bytes: each invariant says what is left to do, and there is a law for each way through the loop. Assumes nothing.
+use mathlib.Core.Path.{_≡_, refl, sym, ap, _∙_}
+use mathlib.Core.Bool.{Bool, true, false, _&&_}
+use mathlib.Core.List.{List, [], _∷_, _++_, append-nil}
+use Prim.Native.Nat.{ℕ, suc, _+_, _-_, _≤_, _<_}
+use native.Mathlib.Omega.{arith}
+use native.Mathlib.Nat.{le-antisymm}
+use native.Mathlib.Numerals.{add-one}
+use lib.ListN.{length, take, drop, getD, set, replicate, length-set, drop-of-length-le}
+use lib.Seq.{drop-cons, take-length, set-at, take-suc, length-take-le, append-snoc}
+use borrow.Author.Fill.{fill-none, fill-more}
+use borrow.Author.Needs.{needs}
+use borrow.Author.Tests.{eq-eqb, ne-eqb}
+use Rattle.wire.specs.Bytes.{allZero, same}
+use Rattle.wire.proofs.From.{next, past}
+use Rattle.wire.proofs.Texts as texts
+
+-- ---- a run of zeros
+
+pub record Zeros (s : List ℕ) (from to i : ℕ) : Type 0 where
+  pub low : from ≤ i
+  pub high : i ≤ to
+  pub inside : to ≤ length s
+  pub same : allZero (take (to - from) (drop from s)) ≡ allZero (take (to - i) (drop i s))
+
+pub zeros-begin : {s : List ℕ} {from to : ℕ} → from ≤ to → to ≤ length s → Zeros s from to from
+zeros-begin h k = record { low = omega arith; high = h; inside = k; same = refl }
+
+module _ {s : List ℕ} {from to i : ℕ} (z : Zeros s from to i) where
+  -- the byte at i and those after it
+  part : i < to → take (to - i) (drop i s) ≡ getD s i 0 ∷ take (to - (i + 1)) (drop (i + 1) s)
+  part h =
+      let e : to - i ≡ suc (to - (i + 1)) = omega arith in
+      rw (e, next s i (omega arith))
+
+  pub zeros-more : i < to → getD s i 0 ≡ 0 → Zeros s from to (i + 1)
+  unfolding allZero
+  zeros-more h e =
+      record { low = omega arith; high = omega arith; inside = z .inside; same = z .same ∙ rw (part h, eq-eqb (getD s i 0) 0 e) }
+
+  pub zeros-stop : i < to → (getD s i 0 ≡ 0 → ⊥) → false ≡ allZero (take (to - from) (drop from s))
+  unfolding allZero
+  zeros-stop h e = sym (z .same ∙ rw (part h, ne-eqb (getD s i 0) 0 e))
+
+  pub zeros-end : to ≤ i → true ≡ allZero (take (to - from) (drop from s))
+  unfolding allZero
+  zeros-end h = let e : to - i ≡ 0 = omega arith in sym (z .same ∙ rw e)
+
+pub ruleset zeros = (zeros-begin, zeros-more, zeros-stop, zeros-end, needs)
+
+-- ---- equal ranges
+
+pub record Alike (a b : List ℕ) (i : ℕ) : Type 0 where
+  pub long : length a ≡ length b
+  pub left : same a b ≡ same (drop i a) (drop i b)
+
+pub alike-begin : {a b : List ℕ} → length a ≡ length b → Alike a b 0
+alike-begin h = record { long = h; left = refl }
+
+pub alike-length : (a b : List ℕ) → (length a ≡ length b → ⊥) → false ≡ same a b
+alike-length a b h = sym (texts.same-length a b h)
+
+module _ {a b : List ℕ} {i : ℕ} (z : Alike a b i) where
+  pub alike-more : i < length a → getD a i 0 ≡ getD b i 0 → Alike a b (i + 1)
+  unfolding same
+  alike-more h e =
+      let l : length a ≡ length b = z .long in
+      record { long = l; left = z .left ∙ rw (next a i h, next b i (omega arith), eq-eqb (getD a i 0) (getD b i 0) e) }
+
+  pub alike-stop : i < length a → (getD a i 0 ≡ getD b i 0 → ⊥) → false ≡ same a b
+  unfolding same
+  alike-stop h e =
+      let l : length a ≡ length b = z .long in
+      sym (z .left ∙ rw (next a i h, next b i (omega arith), ne-eqb (getD a i 0) (getD b i 0) e))
+
+  pub alike-end : length a ≤ i → true ≡ same a b
+  unfolding same
+  alike-end h =
+      let l : length a ≡ length b = z .long in
+      sym (z .left ∙ rw (past a i h, past b i (omega arith)))
+
+pub ruleset alike = (alike-begin, alike-length, alike-more, alike-stop, alike-end, needs)
+
+-- ---- a copy: what stands already, and what is still the old
+
+pub record Copying (d₀ src d : List ℕ) (i : ℕ) : Type 0 where
+  pub inside : i ≤ length src
+  pub sized : length d ≡ length src
+  pub whole : length d₀ ≡ length src
+  pub left : d ≡ take i src ++ drop i d₀
+
+pub copying-begin : {d src : List ℕ} → length d ≡ length src → Copying d src d 0
+copying-begin h = record { inside = omega arith; sized = h; whole = h; left = refl }
+
+module _ {d₀ src d : List ℕ} {i : ℕ} (z : Copying d₀ src d i) where
+  pub copying-more : i < length src → Copying d₀ src (set d i (getD src i 0)) (i + 1)
+  copying-more h =
+      let w : length d₀ ≡ length src = z .whole in
+      record {
+        inside = omega arith;
+        sized = length-set d i (getD src i 0) ∙ z .sized;
+        whole = w;
+        left =
+            rw (z .left, drop-cons d₀ i 0 (omega arith), add-one, take-suc src i 0 h)
+            (set-at (take i src) (getD d₀ i 0) (drop (suc i) d₀) (getD src i 0) i (length-take-le i src (omega arith))
+            ∙ sym (append-snoc (take i src) (getD src i 0) (drop (suc i) d₀)));
+      }
+
+  pub copying-end : length src ≤ i → d ≡ src
+  copying-end h =
+      let w : length d₀ ≡ length src = z .whole in
+      let k : i ≡ length src = le-antisymm (z .inside) h in
+      z .left ∙ rw (drop-of-length-le d₀ {i = i} (omega arith), append-nil {A = ℕ}, k, take-length)
+
+pub ruleset copying = (copying-begin, copying-more, copying-end, needs)
+
+-- ---- zeros written
+
+pub record Wiping (s₀ s : List ℕ) (i : ℕ) : Type 0 where
+  pub inside : i ≤ length s₀
+  pub sized : length s ≡ length s₀
+  pub left : s ≡ replicate i 0 ++ drop i s₀
+
+pub wiping-begin : {s : List ℕ} → Wiping s s 0
+wiping-begin = record { inside = omega arith; sized = refl; left = refl }
+
+module _ {s₀ s : List ℕ} {i : ℕ} (z : Wiping s₀ s i) where
+  pub wiping-more : i < length s → Wiping s₀ (set s i 0) (i + 1)
+  wiping-more h =
+      let l : length s ≡ length s₀ = z .sized in
+      record { inside = omega arith; sized = length-set s i 0 ∙ l; left = rw (z .left) (fill-more i 0 s₀ (omega arith)) }
+
+  pub wiping-end : length s ≤ i → s ≡ replicate (length s₀) 0
+  wiping-end h =
+      let l : length s ≡ length s₀ = z .sized in
+      let k : i ≡ length s₀ = le-antisymm (z .inside) (omega arith) in
+      z .left ∙ rw (drop-of-length-le s₀ {i = i} (omega arith), append-nil {A = ℕ}, k)
+
+pub ruleset wiping = (wiping-begin, wiping-more, wiping-end, needs)

@@ -1,0 +1,82 @@
+-- Numbers and their bytes. Assumes nothing.
+use mathlib.Core.Path.{_≡_, refl, sym, ap, ap₂, _∙_}
+use mathlib.Core.List.{List, [], _∷_, _++_, append-assoc}
+use Prim.Native.Nat.{ℕ, suc, _+_, _-_, _*_, _/_, _%_, _^_, _≤_, _<_}
+use native.Mathlib.Omega.{arith}
+use native.Mathlib.Nat.{add-zero, add-sub-cancel-left}
+use lib.ListN.{length, take, drop, set, getD, length-drop}
+use lib.Seq.{sets, sets-eq, drop-drop, getD-drop, take-all}
+use Rattle.wire.specs.Words.{joined, wordAt, wordBytes}
+use Rattle.wire.specs.declared.Order.{Order}
+use Rattle.wire.specs.declared.Order.the-variants.{Little, Big}
+
+pub word-length : (n : ℕ) → length (wordBytes n) ≡ 4
+unfolding wordBytes
+word-length n = refl
+
+-- the bytes of a number below 2 ^ 32 say the number
+pub word-again : (n : ℕ) (s : List ℕ) → n < 2 ^ 32 → wordAt Little (wordBytes n ++ s) 0 ≡ n
+unfolding wordAt wordBytes
+word-again n s h = omega arith
+
+-- four bytes are those of their number
+pub bytes-again : (b : List ℕ) → length b ≡ 4 → ((i : ℕ) → getD b i 0 < 256) → wordBytes (wordAt Little b 0) ≡ b
+unfolding wordAt wordBytes
+bytes-again [] e h = absurd (omega arith)
+bytes-again (a ∷ []) e h = absurd (omega arith)
+bytes-again (a ∷ b ∷ []) e h = absurd (omega arith)
+bytes-again (a ∷ b ∷ c ∷ []) e h = absurd (omega arith)
+bytes-again (a ∷ b ∷ c ∷ d ∷ []) e h =
+    let ha : a < 256 = h 0 in
+    let hb : b < 256 = h 1 in
+    let hc : c < 256 = h 2 in
+    let hd : d < 256 = h 3 in
+    let n = a + 256 * b + 65536 * c + 16777216 * d in
+    let p : n % 256 ≡ a = omega arith in
+    let q : n / 256 ≡ b + 256 * c + 65536 * d = omega arith in
+    let r : (b + 256 * c + 65536 * d) % 256 ≡ b = omega arith in
+    let s : (b + 256 * c + 65536 * d) / 256 ≡ c + 256 * d = omega arith in
+    let t : (c + 256 * d) % 256 ≡ c = omega arith in
+    let u : (c + 256 * d) / 256 ≡ d = omega arith in
+    let v : d % 256 ≡ d = omega arith in
+    rw (p, q, r, s, t, u, v)
+bytes-again (a ∷ b ∷ c ∷ d ∷ f ∷ g) e h = absurd (omega arith)
+
+-- a number is read the same in a part of the slice
+pub word-drop : (o : Order) (s : List ℕ) (a i : ℕ) → wordAt o (drop a s) i ≡ wordAt o s (a + i)
+unfolding wordAt
+word-drop Little s a i =
+    let e : a + (i + 1) ≡ a + i + 1 = omega arith in
+    let f : a + (i + 2) ≡ a + i + 2 = omega arith in
+    let g : a + (i + 3) ≡ a + i + 3 = omega arith in
+    simp (getD-drop, e, f, g)
+word-drop Big s a i =
+    let e : a + (i + 1) ≡ a + i + 1 = omega arith in
+    let f : a + (i + 2) ≡ a + i + 2 = omega arith in
+    let g : a + (i + 3) ≡ a + i + 3 = omega arith in
+    simp (getD-drop, e, f, g)
+
+-- four stores one after the other
+pub stored : (s : List ℕ) (at x : ℕ) → at + 4 ≤ length s
+    → set (set (set (set s at (x % 256)) (at + 1) (x / 256 % 256)) (at + 2) (x / 256 / 256 % 256)) (at + 3) (x / 256 / 256 / 256 % 256)
+    ≡ take at s ++ (wordBytes x ++ drop (at + 4) s)
+unfolding wordBytes
+stored s at x h =
+    let e : at + 1 ≡ suc at = omega arith in
+    let f : at + 2 ≡ suc (suc at) = omega arith in
+    let g : at + 3 ≡ suc (suc (suc at)) = omega arith in
+    rw (e, f, g) (sets-eq (wordBytes x) s at h ∙ append-assoc (take at s) (wordBytes x) (drop (at + 4) s))
+
+-- ---- parts of a slice, as the code cuts them
+
+-- a part of k elements that starts at a
+pub cut-at : (a k : ℕ) (m : List ℕ) → take (a + k - a) (drop a m) ≡ take k (drop a m)
+cut-at a k m = ap (λ (n : ℕ). take n (drop a m)) (add-sub-cancel-left a k)
+
+-- the part from a on
+pub rest-at : (a : ℕ) (m : List ℕ) → take (length m - a) (drop a m) ≡ drop a m
+rest-at a m = take-all (length m - a) (drop a m) (rw (length-drop a m) (omega arith))
+
+-- a part of k elements put back at a, as a lent part comes back
+pub put-at : (a k : ℕ) (xs ys : List ℕ) → take a xs ++ (ys ++ drop (a + k - a) (drop a xs)) ≡ take a xs ++ (ys ++ drop (a + k) xs)
+put-at a k xs ys = rw (add-sub-cancel-left a k, drop-drop k a xs)

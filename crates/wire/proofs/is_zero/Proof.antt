@@ -1,0 +1,26 @@
+-- `wire::is_zero` meets its contract. Assumes nothing.
+use Prim.Native.Nat.{_-_}
+use lib.ListN.{length}
+use Rattle.wire.proofs.Runs.{Zeros, zeros}
+use Rattle.wire.proofs.is_zero.Statement.{statement}
+use Rattle.wire.proofs.is_zero.Tie as tie
+
+abbrev Inv-loop : tie.InvT-loop
+Inv-loop s from to i₀ i = Zeros s from to i
+
+abbrev μ-loop : tie.MeasureT-loop
+μ-loop s from to i₀ i = to - i
+
+pub is-zero-spec : {M : Type 1} → statement M
+is-zero-spec =
+    tie.close
+    (tie.spec
+    Inv-loop
+    μ-loop
+    (λ c. search zeros)
+    (λ c. search zeros)
+    (λ c. search zeros)
+    (λ c. search zeros)
+    (λ c. search zeros)
+    (λ c. search zeros)
+    (λ c. search zeros))
