@@ -1,4 +1,6 @@
 mod Namespace
 mod Forms
 mod Scan
+mod Near
+mod Blocks
 pub mod Table

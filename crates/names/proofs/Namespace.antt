@@ -1,45 +1,52 @@
--- How far a name and a prefix agree, from an index on. No lemma is by induction: each computes. Assumes nothing.
-use mathlib.Core.Path.{_≡_, refl, sym, _∙_}
-use mathlib.Core.Bool.{true, false, and-true}
-use mathlib.Core.List.{List}
-use Prim.Native.Nat.{ℕ, _+_, _≤_, _<_}
+-- A name and a prefix: the same length, or a dot after the prefix. Assumes nothing.
+use mathlib.Core.Path.{_≡_, refl, sym, ap, _∙_}
+use mathlib.Core.Bool.{Bool, true, false, _&&_, _||_, and-true, and-false, and-assoc, or-false}
+use mathlib.Core.List.{List, [], _∷_, _++_}
+use Prim.Native.Nat.{ℕ, suc, _-_, _≤_, _<_}
+use native.Mathlib.Omega.{arith}
+use native.Mathlib.Nat.{sub-zero}
 use lib.Dec.{eqb}
-use lib.ListN.{length, drop, getD}
+use lib.ListN.{length, take, drop, getD}
 use borrow.Author.Needs.{needs}
 use borrow.Author.Tests.{eq-eqb, ne-eqb}
-use Rattle.wire.specs.Bytes.{byte}
-use Rattle.wire.proofs.From.{next, past}
+use Rattle.wire.specs.Bytes.{bytes, same}
+use Rattle.wire.proofs.Texts.{same-length}
 use Rattle.names.specs.Namespace.{starts, inNamespace}
-use Rattle.wire.specs.Bytes.{same}
 
--- what is left of the two from i on is what they are tested by
-pub record Left (p n : List ℕ) (i : ℕ) : Type 0 where
-  pub same : inNamespace p n ≡ inNamespace (drop i p) (drop i n)
+-- a name that is no longer than the prefix has no dot after it
+starts-short : (p n : List ℕ) → length n ≤ length p → starts (p ++ bytes ".") n ≡ false
+starts-short [] [] h = refl
+starts-short [] (y ∷ n) h = absurd (omega arith)
+starts-short (x ∷ p) [] h = refl
+starts-short (x ∷ p) (y ∷ n) h = rw (starts-short p n (omega arith), and-false)
 
-module _ {p n : List ℕ} where
-  pub begin : Left p n 0
-  begin = record { same = refl }
+-- a longer name: its first bytes are the prefix, and the next is the dot
+starts-dot : (p n : List ℕ) → length p < length n → starts (p ++ bytes ".") n ≡ same p (take (length p) n) && eqb 46 (getD n (length p) 0)
+unfolding same
+starts-dot [] [] h = absurd (omega arith)
+starts-dot [] (y ∷ n) h = and-true (eqb 46 y)
+starts-dot (x ∷ p) [] h = absurd (omega arith)
+starts-dot (x ∷ p) (y ∷ n) h = rw (starts-dot p n (omega arith), and-assoc (eqb x y) (same p (take (length p) n)) (eqb 46 (getD n (length p) 0)))
 
-  module _ {i : ℕ} (l : Left p n i) where
-    pub agree : i < length p → i < length n → getD p i 0 ≡ getD n i 0 → Left p n (i + 1)
-    unfolding inNamespace same
-    agree h k e = record { same = l .same ∙ simp (next p i h, next n i k, eq-eqb (getD p i 0) (getD n i 0) e) }
+module _ (p n : List ℕ) where
+  pub shorter : length n < length p → false ≡ inNamespace p n
+  unfolding inNamespace
+  shorter h = rw (same-length p n (λ e. omega arith), starts-short p n (omega arith))
 
-    pub differ : i < length p → i < length n → (getD p i 0 ≡ getD n i 0 → ⊥) → false ≡ inNamespace p n
-    unfolding inNamespace same
-    differ h k e = sym (l .same ∙ simp (next p i h, next n i k, ne-eqb (getD p i 0) (getD n i 0) e))
+  pub as-long : length n ≡ length p → {r : Bool} → r ≡ same p n → r ≡ inNamespace p n
+  unfolding inNamespace
+  as-long h e = e ∙ rw (starts-short p n (omega arith), or-false)
 
-    pub short : i < length p → length n ≤ i → false ≡ inNamespace p n
-    unfolding inNamespace same
-    short h k = sym (l .same ∙ simp (next p i h, past n i k))
+  module _ (h : length p ≤ length n) (k : length n ≡ length p → ⊥) where
+    pub no-dot : (getD n (length p) 0 ≡ 46 → ⊥) → false ≡ inNamespace p n
+    unfolding inNamespace
+    no-dot e =
+        rw (same-length p n (λ e. k (sym e)), starts-dot p n (omega arith), ne-eqb 46 (getD n (length p) 0) (λ q. e (sym q)), and-false)
 
-    pub equal : length p ≤ i → length n ≤ i → true ≡ inNamespace p n
-    unfolding inNamespace same
-    equal h k = sym (l .same ∙ simp (past p i h, past n i k))
-
-    pub longer : length p ≤ i → i < length n → eqb (byte ".") (getD n i 0) ≡ inNamespace p n
-    unfolding inNamespace same
-    longer h k = sym (l .same ∙ simp (past p i h, next n i k, and-true))
+    pub dotted : getD n (length p) 0 ≡ 46 → {r : Bool} → r ≡ same p (take (length p - 0) (drop 0 n)) → r ≡ inNamespace p n
+    unfolding inNamespace
+    dotted e f =
+        f ∙ rw (sub-zero (length p), same-length p n (λ e. k (sym e)), starts-dot p n (omega arith), eq-eqb 46 (getD n (length p) 0) (sym e), and-true)
 
 -- what answers each need of `in_namespace`
-pub ruleset steps = (begin, agree, differ, short, equal, longer, needs)
+pub ruleset under = (shorter, as-long, no-dot, dotted, needs)

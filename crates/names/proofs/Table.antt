@@ -2,8 +2,10 @@
 use mathlib.Core.Path.{_≡_, refl}
 use mathlib.Core.Bool.{true}
 use Rattle.names.specs.Names.{startsWith, wellKnown, unique, validName}
+use Rattle.wire.specs.Bytes.{same}
+use Rattle.names.specs.Namespace.{inNamespace}
 use Rattle.names.specs.Table.{table, agrees}
 
 pub table-agrees : agrees table ≡ true
-unfolding startsWith wellKnown unique validName
+unfolding startsWith wellKnown unique validName same inNamespace
 table-agrees = refl

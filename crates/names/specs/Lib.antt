@@ -1,3 +1,4 @@
 pub mod Names
+pub mod Near
 pub mod Namespace
 pub mod Table

@@ -1,40 +1,53 @@
--- Worked examples of the name rules, as a table. Assumes nothing: these are definitions.
+-- Worked examples of the name rules, as a table, with T9 of the paper. Assumes nothing: these are definitions.
 use mathlib.Core.Bool.{Bool, true, false, _&&_, Bool·beq}
 use mathlib.Core.List.{List, [], _∷_, _++_}
 use Prim.Native.Nat.{ℕ}
 use lib.ListN.{replicate}
 use Rattle.wire.specs.Bytes.{byte, bytes}
 use Rattle.names.specs.Names.{validName}
+use Rattle.names.specs.Namespace.{inNamespace}
 use Rattle.names.specs.declared.Form.{Form}
 use Rattle.names.specs.declared.Form.the-variants.{Interface, WellKnown, Unique, BusName, Member, Path}
 
--- a form, a text, and whether it is such a name
+-- is the text a name of the form; is the second text under the first, a prefix
+pub data Question : Type 0 where
+  named : Form → List ℕ → Question
+  under : List ℕ → List ℕ → Question
+
+abbrev pub answer : Question → Bool
+answer (named f s) = validName f s
+answer (under p s) = inNamespace p s
+
+-- a question, and its answer by the paper
 abbrev pub Line : Type 0
-Line = Form × List ℕ × Bool
+Line = Question × Bool
 
 abbrev pub table : List Line
 table =
-    (Interface, bytes "org.freedesktop.DBus", true)
-    ∷ (Interface, bytes "org", false)
-    ∷ (Interface, bytes "org.7zip", false)
-    ∷ (Interface, bytes "org.a-b", false)
-    ∷ (WellKnown, bytes "org.a-b", true)
-    ∷ (WellKnown, bytes "org..b", false)
-    ∷ (WellKnown, bytes "a." ++ replicate 253 (byte "b"), true)
-    ∷ (WellKnown, bytes "a." ++ replicate 254 (byte "b"), false)
-    ∷ (Unique, bytes ":1.7", true)
-    ∷ (Unique, bytes "1.7", false)
-    ∷ (Unique, bytes ":1", false)
-    ∷ (Member, bytes "Get", true)
-    ∷ (Member, bytes "Get.All", false)
-    ∷ (Member, bytes "", false)
-    ∷ (Path, bytes "/", true)
-    ∷ (Path, bytes "/a/7", true)
-    ∷ (Path, bytes "/a/", false)
-    ∷ (Path, bytes "", false)
+    (named Interface (bytes "org.freedesktop.DBus"), true)
+    ∷ (named Interface (bytes "org"), false)
+    ∷ (named Interface (bytes "org.7zip"), false)
+    ∷ (named Interface (bytes "org.a-b"), false)
+    ∷ (named WellKnown (bytes "org.a-b"), true)
+    ∷ (named WellKnown (bytes "org..b"), false)
+    ∷ (named WellKnown (bytes "a." ++ replicate 253 (byte "b")), true)
+    ∷ (named WellKnown (bytes "a." ++ replicate 254 (byte "b")), false)
+    ∷ (named Unique (bytes ":1.7"), true)
+    ∷ (named Unique (bytes "1.7"), false)
+    ∷ (named Unique (bytes ":1"), false)
+    ∷ (named Member (bytes "Get"), true)
+    ∷ (named Member (bytes "Get.All"), false)
+    ∷ (named Member (bytes ""), false)
+    ∷ (named Path (bytes "/"), true)
+    ∷ (named Path (bytes "/a/7"), true)
+    ∷ (named Path (bytes "/a/"), false)
+    ∷ (named Path (bytes ""), false)
+    ∷ (under (bytes "org.foo") (bytes "org.foo"), true)
+    ∷ (under (bytes "org.foo") (bytes "org.foo.bar"), true)
+    ∷ (under (bytes "org.foo") (bytes "org.foobar"), false)
     ∷ []
 
 -- each line of a table says what the rules say
 abbrev pub agrees : List Line → Bool
 agrees [] = true
-agrees (l ∷ ls) = Bool·beq (validName (l .0) (l .1)) (l .2) && agrees ls
+agrees (l ∷ ls) = Bool·beq (answer (l .0)) (l .1) && agrees ls

@@ -2,17 +2,19 @@
 -- through the code, whose premises are what the code knows on that way.
 -- Assumes nothing.
 use mathlib.Core.Path.{_≡_, refl, subst}
-use mathlib.Core.Bool.{Bool, true, false, _&&_, _||_}
+use mathlib.Core.Bool.{Bool, true, false, _&&_, _||_, false≢true}
 use mathlib.Core.List.{List, [], _∷_}
 use mathlib.Core.Option.{Option, none, some}
 use Prim.Native.Nat.{ℕ, zero, suc, _+_, _-_, _*_, _≤_, _<_}
 use native.Mathlib.Omega.{arith}
+use native.Mathlib.Nat.{add-zero, zero-add}
 use lib.Dec.{leb, eqb}
 use lib.ListN.{length, drop, getD}
 use borrow.Author.Needs.{needs}
+use borrow.Author.Tests.{ne-eqb}
 use Rattle.wire.specs.Bytes.{byte}
 use Rattle.wire.proofs.From.{next, past, skip}
-use Rattle.signature.specs.Signature.{headOf, closed, one, row}
+use Rattle.signature.specs.Signature.{basic, headOf, closed, one, row}
 use Rattle.signature.specs.Reader.{leftOf, rowOf, StepFits, RunFits, HeadAt, OneAt, RowAt}
 use Rattle.signature.specs.declared.Head.{Head}
 use Rattle.signature.specs.declared.Head.the-variants as head
@@ -163,5 +165,59 @@ module _ {s : List ℕ} {at arrays parens : ℕ} where
           go (suc fuel) l =
               rw (row, next s at h, t, ← front-is fuel (omega arith), e, ← w .is fuel (omega (arith, type-in o e)), q)
 
+-- ---- a row that is being read: n types from `at` on have been passed, and what is left starts at i
+
+-- n types more, in front
+abbrev shifted : ℕ → Run → Run
+shifted n (run.Types m e) = run.Types (m + n) e
+shifted n run.Bad = run.Bad
+
+pub record Going (s : List ℕ) (at arrays parens i n : ℕ) : Type 0 where
+  pub low : at ≤ i
+  pub few : n + (length s - i) ≤ length s - at
+  pub rest : (r : Run) → RowAt s i arrays parens r → RowAt s at arrays parens (shifted n r)
+
+pub going-begin : {s : List ℕ} {at arrays parens : ℕ} → Going s at arrays parens at 0
+going-begin {s} {at} {arrays} {parens} = record { low = omega arith; few = omega arith; rest = same }
+  where
+    same : (r : Run) → RowAt s at arrays parens r → RowAt s at arrays parens (shifted 0 r)
+    same (run.Types m e) w = rw (add-zero m) w
+    same run.Bad w = w
+
+-- the byte at i is a letter that is a type
+letter-head : {s : List ℕ} {i arrays parens : ℕ} → i < length s → basic (getD s i 0) || eqb (getD s i 0) 118 ≡ true → HeadAt s i arrays parens head.Plain
+unfolding headOf
+letter-head {s} {i} h t = record { is = rw (next s i h, t); fits = h }
+
+-- such a letter closes nothing
+letter-open : (b : ℕ) → basic b || eqb b 118 ≡ true → eqb b (byte ")") || eqb b (byte "}") ≡ false
+letter-open b t = rw (ne-eqb b 41 (λ e. false≢true (rw e at t)), ne-eqb b 125 (λ e. false≢true (rw e at t)))
+
+module _ {s : List ℕ} {at arrays parens i n : ℕ} (g : Going s at arrays parens i n) where
+  pub going-end : length s ≤ i → RowAt s at arrays parens (run.Types n i)
+  going-end h = rw (zero-add n) at (g .rest (run.Types 0 i) (at-end h))
+
+  module _ (h : i < length s) where
+    pub going-close : eqb (getD s i 0) (byte ")") || eqb (getD s i 0) (byte "}") ≡ true → RowAt s at arrays parens (run.Types n i)
+    going-close t = rw (zero-add n) at (g .rest (run.Types 0 i) (at-close h t))
+
+    module _ (t : eqb (getD s i 0) (byte ")") || eqb (getD s i 0) (byte "}") ≡ false) {x : Step} (o : OneAt s i arrays parens x) where
+      pub going-bad : x ≡ step.Bad → RowAt s at arrays parens run.Bad
+      going-bad e = g .rest run.Bad (at-bad h t o e)
+
+      pub going-on : {k : ℕ} → x ≡ step.Rest k → Going s at arrays parens k (n + 1)
+      going-on {k} e = record { low = omega (arith, type-in o e); few = omega (arith, type-in o e); rest = one-more }
+        where
+          one-more : (r : Run) → RowAt s k arrays parens r → RowAt s at arrays parens (shifted (n + 1) r)
+          one-more (run.Types m end) w =
+              let q : m + 1 + n ≡ m + (n + 1) = omega arith in
+              rw q at (g .rest (run.Types (m + 1) end) (more h t o e w refl))
+          one-more run.Bad w = g .rest run.Bad (more-bad h t o e w refl)
+
+    pub going-letter : {k : Bool} → k ≡ basic (getD s i 0) → k || eqb (getD s i 0) 118 ≡ true → Going s at arrays parens (i + 1) (n + 1)
+    going-letter e p =
+        let t : basic (getD s i 0) || eqb (getD s i 0) 118 ≡ true = rw e at p in
+        going-on (letter-open (getD s i 0) t) (plain (letter-head h t) refl) refl
+
 -- what answers each need of `list` and `one` that is not of numbers alone
-pub ruleset ways = (plain, array, other, dict, dict-bad, paren, paren-bad, at-end, at-close, at-bad, more, more-bad, needs)
+pub ruleset ways = (plain, array, other, dict, dict-bad, paren, paren-bad, going-begin, going-end, going-close, going-bad, going-on, going-letter, needs)

@@ -58,7 +58,10 @@ fn head_at(s: &[u8], at: usize, arrays: usize, parens: usize) -> Head
     }
     if (b == b'a') & (arrays < 32) {
         if wire::peek(s, at + 1) == b'{' {
-            return Head::Dict(is_basic(wire::peek(s, at + 2)));
+            if is_basic(wire::peek(s, at + 2)) {
+                return Head::Dict(true);
+            }
+            return Head::Dict(false);
         }
         return Head::Array;
     }
@@ -99,24 +102,33 @@ fn one(s: &[u8], at: usize, arrays: usize, parens: usize) -> Step
     }
 }
 
-// The types in a row from `at` on, up to a closing byte or the end.
+// The types in a row from `at` on, up to a closing byte or the end. A plain letter is a type at sight; any other is asked of `one`.
 fn list(s: &[u8], at: usize, arrays: usize, parens: usize) -> Run
     ensures { λ r. ⌜ RowAt (now (s .entry)) at arrays parens r ⌝ }
 {
-    if s.len() <= at {
-        return Run::Types(0, at);
+    let mut i = at;
+    let mut n: usize = 0;
+    while i < s.len() {
+        let b = s[i];
+        if is_basic(b) | (b == b'v') {
+            i += 1;
+            n += 1;
+        } else {
+            if (b == b')') | (b == b'}') {
+                return Run::Types(n, i);
+            }
+            match one(s, i, arrays, parens) {
+                Step::Rest(next) => {
+                    i = next;
+                    n += 1;
+                }
+                Step::Bad => {
+                    return Run::Bad;
+                }
+            }
+        }
     }
-    let b = s[at];
-    if (b == b')') | (b == b'}') {
-        return Run::Types(0, at);
-    }
-    match one(s, at, arrays, parens) {
-        Step::Rest(next) => match list(s, next, arrays, parens) {
-            Run::Types(n, end) => Run::Types(n + 1, end),
-            Run::Bad => Run::Bad,
-        },
-        Step::Bad => Run::Bad,
-    }
+    Run::Types(n, i)
 }
 
 pub fn is_valid(s: &[u8]) -> bool

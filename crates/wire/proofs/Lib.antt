@@ -2,3 +2,6 @@ pub mod From
 pub mod Texts
 pub mod Words
 mod Runs
+pub mod Ranges
+mod Blocks
+mod Loads

@@ -8,47 +8,13 @@ use native.Mathlib.Nat.{le-antisymm}
 use native.Mathlib.Numerals.{add-one}
 use lib.ListN.{length, take, drop, getD, set, replicate, length-set, drop-of-length-le}
 use lib.Seq.{drop-cons, take-length, set-at, take-suc, length-take-le, append-snoc}
-use borrow.Author.Fill.{fill-none, fill-more}
+use borrow.Author.Fill.{fill-more}
 use borrow.Author.Needs.{needs}
 use borrow.Author.Tests.{eq-eqb, ne-eqb}
-use Rattle.wire.specs.Bytes.{allZero, same}
+use Rattle.wire.specs.Bytes.{same}
 use Rattle.wire.proofs.From.{next, past}
-use Rattle.wire.proofs.Texts as texts
 
--- ---- a run of zeros
-
-pub record Zeros (s : List ℕ) (from to i : ℕ) : Type 0 where
-  pub low : from ≤ i
-  pub high : i ≤ to
-  pub inside : to ≤ length s
-  pub same : allZero (take (to - from) (drop from s)) ≡ allZero (take (to - i) (drop i s))
-
-pub zeros-begin : {s : List ℕ} {from to : ℕ} → from ≤ to → to ≤ length s → Zeros s from to from
-zeros-begin h k = record { low = omega arith; high = h; inside = k; same = refl }
-
-module _ {s : List ℕ} {from to i : ℕ} (z : Zeros s from to i) where
-  -- the byte at i and those after it
-  part : i < to → take (to - i) (drop i s) ≡ getD s i 0 ∷ take (to - (i + 1)) (drop (i + 1) s)
-  part h =
-      let e : to - i ≡ suc (to - (i + 1)) = omega arith in
-      rw (e, next s i (omega arith))
-
-  pub zeros-more : i < to → getD s i 0 ≡ 0 → Zeros s from to (i + 1)
-  unfolding allZero
-  zeros-more h e =
-      record { low = omega arith; high = omega arith; inside = z .inside; same = z .same ∙ rw (part h, eq-eqb (getD s i 0) 0 e) }
-
-  pub zeros-stop : i < to → (getD s i 0 ≡ 0 → ⊥) → false ≡ allZero (take (to - from) (drop from s))
-  unfolding allZero
-  zeros-stop h e = sym (z .same ∙ rw (part h, ne-eqb (getD s i 0) 0 e))
-
-  pub zeros-end : to ≤ i → true ≡ allZero (take (to - from) (drop from s))
-  unfolding allZero
-  zeros-end h = let e : to - i ≡ 0 = omega arith in sym (z .same ∙ rw e)
-
-pub ruleset zeros = (zeros-begin, zeros-more, zeros-stop, zeros-end, needs)
-
--- ---- equal ranges
+-- ---- texts that are compared byte by byte
 
 pub record Alike (a b : List ℕ) (i : ℕ) : Type 0 where
   pub long : length a ≡ length b
@@ -56,9 +22,6 @@ pub record Alike (a b : List ℕ) (i : ℕ) : Type 0 where
 
 pub alike-begin : {a b : List ℕ} → length a ≡ length b → Alike a b 0
 alike-begin h = record { long = h; left = refl }
-
-pub alike-length : (a b : List ℕ) → (length a ≡ length b → ⊥) → false ≡ same a b
-alike-length a b h = sym (texts.same-length a b h)
 
 module _ {a b : List ℕ} {i : ℕ} (z : Alike a b i) where
   pub alike-more : i < length a → getD a i 0 ≡ getD b i 0 → Alike a b (i + 1)
@@ -79,7 +42,7 @@ module _ {a b : List ℕ} {i : ℕ} (z : Alike a b i) where
       let l : length a ≡ length b = z .long in
       sym (z .left ∙ rw (past a i h, past b i (omega arith)))
 
-pub ruleset alike = (alike-begin, alike-length, alike-more, alike-stop, alike-end, needs)
+pub ruleset alike = (alike-begin, alike-more, alike-stop, alike-end, needs)
 
 -- ---- a copy: what stands already, and what is still the old
 

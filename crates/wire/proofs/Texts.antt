@@ -1,6 +1,6 @@
 -- What the tests of runs of bytes say. Assumes nothing.
 use mathlib.Core.Path.{_≡_, refl, sym, ap, ap₂, _∙_}
-use mathlib.Core.Bool.{Bool, true, false, _&&_, false≢true}
+use mathlib.Core.Bool.{Bool, true, false, _&&_, and-assoc, false≢true}
 use mathlib.Core.List.{List, [], _∷_, _++_}
 use Prim.Native.Nat.{ℕ, zero, suc, _+_, _≤_, _<_}
 use native.Mathlib.Omega.{arith}
@@ -21,6 +21,12 @@ both-second false b h = absurd (false≢true h)
 
 pub both-true : (a b : Bool) → a ≡ true → b ≡ true → a && b ≡ true
 both-true a b p q = rw (p, q)
+
+-- two tests that hold in the same cases
+pub agree : (a b : Bool) → (a ≡ true → b ≡ true) → (b ≡ true → a ≡ true) → a ≡ b
+agree true b h k = sym (h refl)
+agree false true h k = k refl
+agree false false h k = refl
 
 -- ---- equal texts
 
@@ -50,7 +56,19 @@ ne-same xs ys h = go (same xs ys) refl
 pub same-length : (xs ys : List ℕ) → (length xs ≡ length ys → ⊥) → same xs ys ≡ false
 same-length xs ys h = ne-same xs ys (λ e. h (ap length e))
 
+pub same-append : (xs us ys vs : List ℕ) → length xs ≡ length us → same (xs ++ ys) (us ++ vs) ≡ same xs us && same ys vs
+unfolding same
+same-append [] [] ys vs e = refl
+same-append [] (u ∷ us) ys vs e = absurd (omega arith)
+same-append (x ∷ xs) [] ys vs e = absurd (omega arith)
+same-append (x ∷ xs) (u ∷ us) ys vs e = rw (same-append xs us ys vs (omega arith), and-assoc (eqb x u) (same xs us) (same ys vs))
+
 -- ---- zeros
+
+pub zero-append : (xs ys : List ℕ) → allZero (xs ++ ys) ≡ allZero xs && allZero ys
+unfolding allZero
+zero-append [] ys = refl
+zero-append (x ∷ xs) ys = rw (zero-append xs ys, and-assoc (eqb x 0) (allZero xs) (allZero ys))
 
 pub zeros-zero : (n : ℕ) → allZero (replicate n 0) ≡ true
 unfolding allZero

@@ -6,6 +6,7 @@ use native.Mathlib.Omega.{arith}
 use native.Mathlib.Nat.{add-zero, add-sub-cancel-left}
 use lib.ListN.{length, take, drop, set, getD, length-drop}
 use lib.Seq.{sets, sets-eq, drop-drop, getD-drop, take-all}
+use Rattle.wire.proofs.From.{next}
 use Rattle.wire.specs.Words.{joined, wordAt, wordBytes}
 use Rattle.wire.specs.declared.Order.{Order}
 use Rattle.wire.specs.declared.Order.the-variants.{Little, Big}
@@ -55,6 +56,14 @@ word-drop Big s a i =
     let f : a + (i + 2) ≡ a + i + 2 = omega arith in
     let g : a + (i + 3) ≡ a + i + 3 = omega arith in
     simp (getD-drop, e, f, g)
+
+-- the four bytes that a number is read from
+pub four-at : (s : List ℕ) (at : ℕ) → at + 4 ≤ length s
+    → take 4 (drop at s) ≡ getD s at 0 ∷ getD s (at + 1) 0 ∷ getD s (at + 2) 0 ∷ getD s (at + 3) 0 ∷ []
+four-at s at h =
+    let e : at + 1 + 1 ≡ at + 2 = omega arith in
+    let f : at + 2 + 1 ≡ at + 3 = omega arith in
+    rw (next s at (omega arith), next s (at + 1) (omega arith), e, next s (at + 2) (omega arith), f, next s (at + 3) (omega arith))
 
 -- four stores one after the other
 pub stored : (s : List ℕ) (at x : ℕ) → at + 4 ≤ length s

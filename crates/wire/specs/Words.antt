@@ -14,6 +14,10 @@ unfoldable pub wordAt : Order → List ℕ → ℕ → ℕ
 wordAt Little s at = joined (getD s at 0) (getD s (at + 1) 0) (getD s (at + 2) 0) (getD s (at + 3) 0)
 wordAt Big s at = joined (getD s (at + 3) 0) (getD s (at + 2) 0) (getD s (at + 1) 0) (getD s at 0)
 
+-- the number in the eight bytes at `at`, the lowest first
+abbrev pub longAt : List ℕ → ℕ → ℕ
+longAt s at = wordAt Little s at + 4294967296 * wordAt Little s (at + 4)
+
 -- the little-endian bytes of a number below 2 ^ 32
 unfoldable pub wordBytes : ℕ → List ℕ
 wordBytes n = n % 256 ∷ n / 256 % 256 ∷ n / 256 / 256 % 256 ∷ n / 256 / 256 / 256 % 256 ∷ []

@@ -4,7 +4,7 @@ ghost use mathlib.Core.List.{_++_};
 ghost use Prim.Native.Nat.{_+_, _-_, _*_, _≤_, _<_, min};
 ghost use lib.ListN.{length, take, drop, replicate};
 ghost use Rattle.wire.specs.Bytes.{front, allZero, same};
-ghost use Rattle.wire.specs.Words.{joined, wordAt, wordBytes, roundUp8};
+ghost use Rattle.wire.specs.Words.{joined, wordAt, longAt, wordBytes, roundUp8};
 
 // The byte order of a message: its first byte says which.
 pub enum Order {
@@ -70,28 +70,114 @@ pub fn round_up_8(n: usize) -> usize
     (n + 7) / 8 * 8
 }
 
-// Each byte from `from` up to `to` is zero.
+// A number as a wider one, with its bound.
+fn wide_32(x: u32) -> u64
+    ensures { λ r. ⌜ (r ≡ x) × (r < 4294967296) ⌝ }
+{
+    x as u64
+}
+
+// The number in the eight bytes at `at`, the lowest first: the compiler makes one load of it.
+fn u64_at(s: &[u8], at: usize) -> u64
+    requires { ⌜ at + 8 ≤ length (now s) ⌝ }
+    ensures { λ r. ⌜ r ≡ longAt (now (s .entry)) at ⌝ }
+{
+    wide_32(u32_at(Order::Little, s, at)) + 4294967296 * wide_32(u32_at(Order::Little, s, at + 4))
+}
+
+fn zero_4(s: &[u8], at: usize) -> bool
+    requires { ⌜ at + 4 ≤ length (now s) ⌝ }
+    ensures { λ r. ⌜ r ≡ allZero (take 4 (drop at (now (s .entry)))) ⌝ }
+{
+    u32_at(Order::Little, s, at) == 0
+}
+
+fn zero_8(s: &[u8], at: usize) -> bool
+    requires { ⌜ at + 8 ≤ length (now s) ⌝ }
+    ensures { λ r. ⌜ r ≡ allZero (take 8 (drop at (now (s .entry)))) ⌝ }
+{
+    u64_at(s, at) == 0
+}
+
+// The n bytes at `at` are zero. Each is looked at, with no exit between them, so that the compiler takes many at a time.
+fn zero_run(s: &[u8], at: usize, n: usize) -> bool
+    requires { ⌜ at + n ≤ length (now s) ⌝ }
+    ensures { λ r. ⌜ r ≡ allZero (take n (drop at (now (s .entry)))) ⌝ }
+{
+    let mut clear = true;
+    let mut i = 0;
+    while i < n {
+        clear = clear & (s[at + i] == 0);
+        i += 1;
+    }
+    clear
+}
+
+// Fewer than 8 bytes: the last four may overlap the first four.
+fn zero_short(s: &[u8], from: usize, to: usize) -> bool
+    requires { ⌜ (from ≤ to) × (to ≤ length (now s)) × (to - from < 8) ⌝ }
+    ensures { λ r. ⌜ r ≡ allZero (take (to - from) (drop from (now (s .entry)))) ⌝ }
+{
+    if to - from < 4 {
+        return zero_run(s, from, to - from);
+    }
+    let last = to - 4;
+    zero_4(s, from) & zero_4(s, last)
+}
+
+// Words of 8 bytes, the last of which may overlap the one before it.
+fn zero_words(s: &[u8], from: usize, to: usize) -> bool
+    requires { ⌜ (from ≤ to) × (to ≤ length (now s)) ⌝ }
+    ensures { λ r. ⌜ r ≡ allZero (take (to - from) (drop from (now (s .entry)))) ⌝ }
+{
+    if to - from < 8 {
+        return zero_short(s, from, to);
+    }
+    let last = to - 8;
+    let mut i = from;
+    while i < last {
+        if !zero_8(s, i) {
+            return false;
+        }
+        i += 8;
+    }
+    zero_8(s, last)
+}
+
+// Each byte from `from` up to `to` is zero: blocks of 256 bytes with an exit between them, then words.
 pub fn is_zero(s: &[u8], from: usize, to: usize) -> bool
     requires { ⌜ (from ≤ to) × (to ≤ length (now s)) ⌝ }
     ensures { λ r. ⌜ r ≡ allZero (take (to - from) (drop from (now (s .entry)))) ⌝ }
 {
     let mut i = from;
-    while i < to {
-        if s[i] != 0 {
+    while 256 <= to - i {
+        if !zero_run(s, i, 256) {
             return false;
         }
-        i += 1;
+        i += 256;
     }
-    true
+    zero_words(s, i, to)
 }
 
-// The two ranges are equal, byte by byte.
-pub fn equal(a: &[u8], b: &[u8]) -> bool
+fn same_4(a: &[u8], b: &[u8], at: usize) -> bool
+    requires { ⌜ (at + 4 ≤ length (now a)) × (at + 4 ≤ length (now b)) ⌝ }
+    ensures { λ r. ⌜ r ≡ same (take 4 (drop at (now (a .entry)))) (take 4 (drop at (now (b .entry)))) ⌝ }
+{
+    u32_at(Order::Little, a, at) == u32_at(Order::Little, b, at)
+}
+
+fn same_8(a: &[u8], b: &[u8], at: usize) -> bool
+    requires { ⌜ (at + 8 ≤ length (now a)) × (at + 8 ≤ length (now b)) ⌝ }
+    ensures { λ r. ⌜ r ≡ same (take 8 (drop at (now (a .entry)))) (take 8 (drop at (now (b .entry)))) ⌝ }
+{
+    u64_at(a, at) == u64_at(b, at)
+}
+
+// Fewer than 4 bytes, one by one.
+fn equal_few(a: &[u8], b: &[u8]) -> bool
+    requires { ⌜ length (now a) ≡ length (now b) ⌝ }
     ensures { λ r. ⌜ r ≡ same (now (a .entry)) (now (b .entry)) ⌝ }
 {
-    if a.len() != b.len() {
-        return false;
-    }
     let mut i = 0;
     while i < a.len() {
         if a[i] != b[i] {
@@ -100,6 +186,48 @@ pub fn equal(a: &[u8], b: &[u8]) -> bool
         i += 1;
     }
     true
+}
+
+// Fewer than 8 bytes: the last four may overlap the first four.
+fn equal_short(a: &[u8], b: &[u8]) -> bool
+    requires { ⌜ (length (now a) ≡ length (now b)) × (length (now a) < 8) ⌝ }
+    ensures { λ r. ⌜ r ≡ same (now (a .entry)) (now (b .entry)) ⌝ }
+{
+    let n = a.len();
+    if n < 4 {
+        return equal_few(a, b);
+    }
+    let last = n - 4;
+    same_4(a, b, 0) & same_4(a, b, last)
+}
+
+// Words of 8 bytes, the last of which may overlap the one before it.
+fn equal_words(a: &[u8], b: &[u8]) -> bool
+    requires { ⌜ (length (now a) ≡ length (now b)) × (8 ≤ length (now a)) ⌝ }
+    ensures { λ r. ⌜ r ≡ same (now (a .entry)) (now (b .entry)) ⌝ }
+{
+    let last = a.len() - 8;
+    let mut i = 0;
+    while i < last {
+        if !same_8(a, b, i) {
+            return false;
+        }
+        i += 8;
+    }
+    same_8(a, b, last)
+}
+
+// The two texts are equal.
+pub fn equal(a: &[u8], b: &[u8]) -> bool
+    ensures { λ r. ⌜ r ≡ same (now (a .entry)) (now (b .entry)) ⌝ }
+{
+    if a.len() != b.len() {
+        return false;
+    }
+    if a.len() < 8 {
+        return equal_short(a, b);
+    }
+    equal_words(a, b)
 }
 
 // Copies src over dst, which is as long.

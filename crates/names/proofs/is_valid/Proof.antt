@@ -1,5 +1,6 @@
--- `names::is_valid` meets its contract: form by form. Assumes nothing.
+-- `names::is_valid` meets its contract. Assumes nothing.
 use Rattle.names.proofs.Forms.{forms}
+use borrow.Author.Needs.{needs}
 use Rattle.names.proofs.is_valid.Statement.{statement}
 use Rattle.names.proofs.is_valid.Tie as tie
 
@@ -7,20 +8,19 @@ pub is-valid-spec : {M : Type 1} → statement M
 is-valid-spec =
     tie.close
     (tie.spec
-    (λ c. search forms)
-    (λ c κs. search forms)
-    (λ c. search forms)
-    (λ c κs. search forms)
-    (λ c. search forms)
-    (λ c κs. search forms)
-    (λ c. search forms)
-    (λ c κs. search forms)
-    (λ c κs. search forms)
-    (λ c. search forms)
-    (λ c κs. search forms)
-    (λ c. search forms)
-    (λ c κs. search forms)
-    (λ c κs. search forms)
+    (λ c. search needs)
+    (λ c κs. search needs)
+    (λ c. search needs)
+    (λ c κs. search needs)
+    (λ c. search needs)
+    (λ c κs. search needs)
+    (λ c. search needs)
+    (λ c κs. search needs)
+    (λ c κs. search needs)
+    (λ c. search needs)
+    (λ c κs. search needs)
+    (λ c. search needs)
+    (λ c κs. search needs)
     (λ c. search forms)
     (λ c. search forms)
     (λ c. search forms)

@@ -46,15 +46,15 @@ module _ {s : List ℕ} {at arrays parens : ℕ} (h : at < length s) {k : Bool} 
         unfolding headOf
         array n = record { is = rw (next s at h, ← e, t, p, a, ← f, ne-eqb q 123 n); fits = (h, ltb-true arrays 32 (second (eqb (getD s at 0) 97) (ltb arrays 32) a)) }
 
-        dict : q ≡ 123 → {r : ℕ} → r ≡ front (drop (at + 2) s) → {key : Bool} → key ≡ basic r → HeadAt s at arrays parens (Dict key)
+        dict : q ≡ 123 → {r : ℕ} → r ≡ front (drop (at + 2) s) → {key : Bool} → key ≡ basic r → (v : Bool) → key ≡ v → HeadAt s at arrays parens (Dict v)
         unfolding headOf
-        dict n {r} g {key} b =
+        dict n {r} g {key} b v w =
             record {
-              is = rw (next s at h, ← e, t, p, a, ← f, eq-eqb q 123 n, skip s (at + 1) 1 (at + 2) (omega arith), b, g);
+              is = rw (next s at h, ← e, t, p, a, ← f, eq-eqb q 123 n, skip s (at + 1) 1 (at + 2) (omega arith), ← w, b, g);
               fits = (h, ltb-true arrays 32 (second (eqb (getD s at 0) 97) (ltb arrays 32) a));
             }
 
 ruleset heads = (none-left, plain, paren, other, array, dict, needs)
 
 pub head-at-spec : {M : Type 1} → statement M
-head-at-spec = tie.close (tie.spec (λ c. search heads) (λ c. search heads) (λ c κs. search heads) (λ c. search heads) (λ c. search heads) (λ c. search heads) (λ c κs. search heads) (λ c. search heads) (λ c κs. search heads) (λ c κs. search heads) (λ c. search heads) (λ c. search heads) (λ c. search heads))
+head-at-spec = tie.close (tie.spec (λ c. search heads) (λ c. search heads) (λ c κs. search heads) (λ c. search heads) (λ c. search heads) (λ c. search heads) (λ c κs. search heads) (λ c. search heads) (λ c κs. search heads) (λ c κs. search heads) (λ c. search heads) (λ c. search heads) (λ c. search heads) (λ c. search heads))

@@ -1,28 +1,9 @@
 -- `wire::equal` meets its contract. Assumes nothing.
-use Prim.Native.Nat.{_-_}
-use lib.ListN.{length}
-use Rattle.wire.proofs.Runs.{Alike, alike}
+use Rattle.wire.proofs.Blocks.{equal}
+use borrow.Author.Needs.{needs}
 use Rattle.wire.proofs.equal.Statement.{statement}
 use Rattle.wire.proofs.equal.Tie as tie
 
-abbrev Inv-loop : tie.InvT-loop
-Inv-loop a b i₀ i = Alike a b i
-
-abbrev μ-loop : tie.MeasureT-loop
-μ-loop a b i₀ i = length a - i
-
 pub equal-spec : {M : Type 1} → statement M
 equal-spec =
-    tie.close
-    (tie.spec
-    Inv-loop
-    μ-loop
-    (λ c. search alike)
-    (λ c. search alike)
-    (λ c. search alike)
-    (λ c. search alike)
-    (λ c. search alike)
-    (λ c. search alike)
-    (λ c. search alike)
-    (λ c. search alike)
-    (λ c. search alike))
+    tie.close (tie.spec (λ c. search equal) (λ c κs. search needs) (λ c. search needs) (λ c κs. search needs) (λ c. search needs))

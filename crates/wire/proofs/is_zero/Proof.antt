@@ -1,7 +1,6 @@
 -- `wire::is_zero` meets its contract. Assumes nothing.
 use Prim.Native.Nat.{_-_}
-use lib.ListN.{length}
-use Rattle.wire.proofs.Runs.{Zeros, zeros}
+use Rattle.wire.proofs.Blocks.{Zeros, zeros}
 use Rattle.wire.proofs.is_zero.Statement.{statement}
 use Rattle.wire.proofs.is_zero.Tie as tie
 
@@ -19,8 +18,10 @@ is-zero-spec =
     μ-loop
     (λ c. search zeros)
     (λ c. search zeros)
+    (λ c κs. search zeros)
     (λ c. search zeros)
     (λ c. search zeros)
     (λ c. search zeros)
     (λ c. search zeros)
+    (λ c κs. search zeros)
     (λ c. search zeros))

@@ -1,0 +1,249 @@
+-- The walk over the array: where an element stands, and what is left of the walk. Assumes nothing.
+use mathlib.Core.Path.{_≡_, refl, sym, ap, subst, _∙_}
+use mathlib.Core.Bool.{Bool, true, false, cond, not, _&&_}
+use mathlib.Core.List.{List, [], _∷_}
+use mathlib.Core.Option.{Option, none, some}
+use Prim.Native.Nat.{ℕ, zero, suc, _+_, _-_, _*_, _≤_, _<_}
+use native.Mathlib.Decide.{decLe}
+use native.Mathlib.Omega.{arith}
+use lib.Dec.{leb, ltb, eqb}
+use lib.ListN.{length, take, drop, getD, set, replicate, length-set, getD-replicate, List·getD-eq-default}
+use lib.Seq.{getD-set-same, getD-set-other}
+use mir.Syntax.{w64}
+use mir.Val
+use borrow.Author.Needs.{needs}
+use borrow.Author.Tests.{eq-eqb, ne-eqb, eqb-true, eqb-false, ltb-true, leb-true, not-true}
+use Rattle.wire.specs.Bytes.{allZero}
+use Rattle.wire.specs.Words.{wordAt, roundUp8}
+use Rattle.wire.specs.declared.Order.{Order}
+use Rattle.wire.proofs.Texts.{both-first, both-second}
+use Rattle.header.specs.declared.Place.{Place}
+use Rattle.header.specs.declared.Element.{Element}
+use Rattle.header.specs.declared.Element.the-variants.{At, Bad}
+use Rattle.header.specs.Codes.{letterOf}
+use Rattle.header.specs.Fields.{Fields, absent, placeOf, noFields, textIn, valueAt, framed, elementAt, walk}
+use Rattle.header.specs.Reader.{Inside, Fits}
+use Rattle.header.proofs.Elements.{no-letter}
+
+-- ---- where an element stands
+
+-- a value of the code, from `low` on: it starts at a, is l long, and stops at s, before `end`
+pub record Valued (end low code c a l s : ℕ) : Type 0 where
+  pub same : code ≡ c
+  pub above : low ≤ a
+  pub inside : a + l ≤ s
+  pub ends : s ≤ end
+
+module _ {end code c a l s : ℕ} where
+  no-value : {low : ℕ} → Bad ≡ At c a l s → Valued end low code c a l s
+  no-value e = let z : _≡_ {A = ℕ} 0 1 = cc in absurd (omega arith)
+
+  a-value : (at len stop : ℕ) → at + len ≤ stop → stop ≤ end → At code at len stop ≡ At c a l s → Valued end at code c a l s
+  a-value at len stop h k e =
+      let p : code ≡ c = cc in
+      let q : at ≡ a = cc in
+      let r : len ≡ l = cc in
+      let t : stop ≡ s = cc in
+      record { same = p; above = omega arith; inside = omega arith; ends = omega arith }
+
+  lower : {low low′ : ℕ} → low′ ≤ low → Valued end low code c a l s → Valued end low′ code c a l s
+  lower h v = record { same = v .same; above = omega arith; inside = v .inside; ends = v .ends }
+
+text-valued : (h : List ℕ) (end code at len : ℕ) {c a l s : ℕ} → textIn h end code at len ≡ At c a l s → Valued end at code c a l s
+unfolding textIn
+text-valued h end code at len {c} {a} {l} {s} e = go (ltb (at + len) end && eqb (getD h (at + len) 0) 0) refl e
+  where
+    go : (b : Bool) → ltb (at + len) end && eqb (getD h (at + len) 0) 0 ≡ b → cond b (At code at len (at + len + 1)) Bad ≡ At c a l s
+        → Valued end at code c a l s
+    go true t k =
+        let u : at + len < end = ltb-true (at + len) end (both-first (ltb (at + len) end) (eqb (getD h (at + len) 0) 0) t) in
+        a-value at len (at + len + 1) (omega arith) (omega arith) k
+    go false t k = no-value k
+
+value-valued : (o : Order) (h : List ℕ) (end code letter at : ℕ) {c a l s : ℕ} → valueAt o h end code letter at ≡ At c a l s
+    → Valued end at code c a l s
+unfolding valueAt
+value-valued o h end code letter at {c} {a} {l} {s} e = go (eqb letter 103) (eqb letter 117) (leb (at + 4) end) refl e
+  where
+    go : (g u n : Bool) → leb (at + 4) end ≡ n
+        → cond g (textIn h end code (at + 1) (getD h at 0)) (cond u (cond n (At code at 4 (at + 4)) Bad) (textIn h end code (at + 4) (wordAt o h at))) ≡ At c a l s
+        → Valued end at code c a l s
+    go true u n t k = lower (omega arith) (text-valued h end code (at + 1) (getD h at 0) k)
+    go false true true t k = let m : at + 4 ≤ end = leb-true (at + 4) end t in a-value at 4 (at + 4) (omega arith) m k
+    go false true false t k = no-value k
+    go false false n t k = lower (omega arith) (text-valued h end code (at + 4) (wordAt o h at) k)
+
+first-of-four : (a b c d : Bool) → a && b && c && d ≡ true → a ≡ true
+first-of-four true b c d h = refl
+first-of-four false b c d h = h
+
+-- a code with a letter is one of the table
+framed-code : (h : List ℕ) (at : ℕ) → framed h at ≡ true → getD h at 0 ≤ 9
+unfolding framed
+framed-code h at t = go (letterOf (getD h at 0)) refl t
+  where
+    go : (l : ℕ) → l ≡ letterOf (getD h at 0) → not (eqb l 0) && eqb (getD h (at + 1) 0) 1 && eqb (getD h (at + 2) 0) l && eqb (getD h (at + 3) 0) 0 ≡ true
+        → getD h at 0 ≤ 9
+    go l e u = known (decLe (getD h at 0) 9)
+      where
+        known : Dec (getD h at 0 ≤ 9) → getD h at 0 ≤ 9
+        known (yes k) = k
+        known (no k) =
+            let f : not (eqb l 0) ≡ true = first-of-four (not (eqb l 0)) (eqb (getD h (at + 1) 0) 1) (eqb (getD h (at + 2) 0) l) (eqb (getD h (at + 3) 0) 0) u in
+            absurd (eqb-false l 0 (not-true (eqb l 0) f) (e ∙ sym (no-letter (getD h at 0) (omega arith))))
+
+pub record Stands (end from code at len stop : ℕ) : Type 0 where
+  pub known : code < 10
+  pub above : from < at
+  pub inside : at + len ≤ stop
+  pub ends : stop ≤ end
+
+pub element-stands : (o : Order) (h : List ℕ) (end from : ℕ) {c a l s : ℕ} → elementAt o h end from ≡ At c a l s → Stands end from c a l s
+unfolding elementAt
+element-stands o h end from {c} {a} {l} {s} e = go (allZero (take (roundUp8 from - from) (drop from h)) && framed h (roundUp8 from)) refl e
+  where
+    go : (b : Bool) → allZero (take (roundUp8 from - from) (drop from h)) && framed h (roundUp8 from) ≡ b
+        → cond b (valueAt o h end (getD h (roundUp8 from) 0) (letterOf (getD h (roundUp8 from) 0)) (roundUp8 from + 4)) Bad ≡ At c a l s → Stands end from c a l s
+    go true t k =
+        let v : Valued end (roundUp8 from + 4) (getD h (roundUp8 from) 0) c a l s = value-valued o h end (getD h (roundUp8 from) 0) (letterOf (getD h (roundUp8 from) 0)) (roundUp8 from + 4) k in
+        let f : getD h (roundUp8 from) 0 ≤ 9 = framed-code h (roundUp8 from) (both-second (allZero (take (roundUp8 from - from) (drop from h))) (framed h (roundUp8 from)) t) in
+        record { known = omega arith; above = omega arith; inside = v .inside; ends = v .ends }
+    go false t k = let z : _≡_ {A = ℕ} 0 1 = cc in absurd (omega arith)
+
+-- ---- a step of the walk
+
+module _ (fuel : ℕ) (o : Order) (h : List ℕ) (end from : ℕ) (fs : Fields) where
+  walk-end : from ≡ end → walk (suc fuel) o h end from fs ≡ some fs
+  unfolding walk
+  walk-end e = rw (walk, eq-eqb from end e)
+
+  module _ (n : from ≡ end → ⊥) where
+    walk-bad : elementAt o h end from ≡ Bad → walk (suc fuel) o h end from fs ≡ none
+    unfolding walk
+    walk-bad e = rw (walk, ne-eqb from end n, e)
+
+    module _ {c a l s : ℕ} (e : elementAt o h end from ≡ At c a l s) where
+      walk-again : (placeOf fs c .at ≡ 0 → ⊥) → walk (suc fuel) o h end from fs ≡ none
+      unfolding walk
+      walk-again z = rw (walk, ne-eqb from end n, e, ne-eqb (placeOf fs c .at) 0 z)
+
+      walk-more : placeOf fs c .at ≡ 0 → walk (suc fuel) o h end from fs ≡ walk fuel o h end s (set fs c (record { at = a; len = l }))
+      unfolding walk
+      walk-more z = rw (walk, ne-eqb from end n, e, eq-eqb (placeOf fs c .at) 0 z)
+
+-- ---- the walk's loop: what is to be found is what the rest gives
+
+pub record Walking (o : Order) (h : List ℕ) (end : ℕ) (fs : Fields) (from : ℕ) : Type 0 where
+  pub fuel : ℕ
+  pub enough : end - from < fuel
+  pub inside : Inside h end from
+  pub sized : length fs ≡ 10
+  pub left : walk (end - 16 + 1) o h end 16 noFields ≡ walk fuel o h end from fs
+
+pub walking-begins : {o : Order} {h : List ℕ} {end : ℕ} → Inside h end 16 → Walking o h end noFields 16
+walking-begins {o} {h} {end} i = record { fuel = end - 16 + 1; enough = omega arith; inside = i; sized = refl; left = refl }
+
+module _ {o : Order} {h : List ℕ} {end : ℕ} {fs : Fields} {from : ℕ} (w : Walking o h end fs from) where
+  -- whatever the fuel, a step of the walk says what the whole finds
+  by-step : {x : Option Fields} → ((fuel : ℕ) → walk (suc fuel) o h end from fs ≡ x) → x ≡ walk (end - 16 + 1) o h end 16 noFields
+  by-step {x} step = go (w .fuel) (w .enough) (w .left)
+    where
+      go : (fuel : ℕ) → end - from < fuel → walk (end - 16 + 1) o h end 16 noFields ≡ walk fuel o h end from fs → x ≡ walk (end - 16 + 1) o h end 16 noFields
+      go zero l k = absurd (omega arith)
+      go (suc fuel) l k = sym (k ∙ step fuel)
+
+  pub walking-ends : from ≡ end → some fs ≡ walk (end - 16 + 1) o h end 16 noFields
+  walking-ends e = by-step (λ fuel. walk-end fuel o h end from fs e)
+
+  module _ (n : from ≡ end → ⊥) {r : Element} (p : r ≡ elementAt o h end from) where
+    pub walking-bad : r ≡ Bad → none ≡ walk (end - 16 + 1) o h end 16 noFields
+    walking-bad q = by-step (λ fuel. walk-bad fuel o h end from fs n (sym p ∙ q))
+
+    module _ {c a l s : ℕ} (q : r ≡ At c a l s) where
+      pub stands : Stands end from c a l s
+      stands = element-stands o h end from (sym p ∙ q)
+
+      pub code-inside : c < 10
+      code-inside = stands .known
+
+      pub code-scaled : mir.Val.Fits w64 (c * 16)
+      code-scaled = record { fits = omega (arith, stands) }
+
+      pub walking-falls : end - s < end - from
+      walking-falls = omega (arith, stands)
+
+      pub walking-again : (placeOf fs c .at ≡ 0 → ⊥) → none ≡ walk (end - 16 + 1) o h end 16 noFields
+      walking-again z = by-step (λ fuel. walk-again fuel o h end from fs n (sym p ∙ q) z)
+
+      pub walking-more : placeOf fs c .at ≡ 0 → Walking o h end (set fs c (record { at = a; len = l })) s
+      walking-more z = go (w .fuel) (w .enough) (w .left)
+        where
+          go : (fuel : ℕ) → end - from < fuel → walk (end - 16 + 1) o h end 16 noFields ≡ walk fuel o h end from fs
+              → Walking o h end (set fs c (record { at = a; len = l })) s
+          go zero m k = absurd (omega arith)
+          go (suc fuel) m k =
+              let i : Inside h end from = w .inside in
+              let t : Stands end from c a l s = stands in
+              record {
+                fuel = fuel;
+                enough = omega arith;
+                inside = record { above = omega arith; before = t .ends; padded = i .padded; small = i .small };
+                sized = length-set fs c (record { at = a; len = l }) ∙ w .sized;
+                left = k ∙ walk-more fuel o h end from fs n (sym p ∙ q) z;
+              }
+
+pub ruleset walking = (walking-begins, walking-ends, walking-bad, code-inside, code-scaled, walking-falls, walking-again, walking-more, needs)
+
+-- ---- what a walk has found lies in the head
+
+pub fits-none : (h : List ℕ) → Fits h noFields
+fits-none h = record { sized = refl; inside = λ code. go code (decLe 10 code) }
+  where
+    go : (code : ℕ) → Dec (10 ≤ code) → placeOf noFields code .at + placeOf noFields code .len ≤ length h
+    go code (yes l) = rw (List·getD-eq-default noFields absent l) (omega arith)
+    go code (no l) = rw (getD-replicate 10 code absent absent (omega arith)) (omega arith)
+
+fits-more : {h : List ℕ} {fs : Fields} (c a l : ℕ) → Fits h fs → c < 10 → a + l ≤ length h → Fits h (set fs c (record { at = a; len = l }))
+fits-more {h} {fs} c a l f k m =
+    let z : length fs ≡ 10 = f .sized in
+    record { sized = length-set fs c (record { at = a; len = l }) ∙ z; inside = λ code. go code (eqb code c) refl }
+  where
+    go : (code : ℕ) (b : Bool) → eqb code c ≡ b
+        → placeOf (set fs c (record { at = a; len = l })) code .at + placeOf (set fs c (record { at = a; len = l })) code .len ≤ length h
+    go code true e =
+        let z : length fs ≡ 10 = f .sized in
+        let i : code ≡ c = eqb-true code c e in
+        rw (i, getD-set-same fs c (record { at = a; len = l }) absent (omega arith)) m
+    go code false e = rw (getD-set-other fs c code (record { at = a; len = l }) absent (eqb-false code c e)) (f .inside code)
+
+-- the same of what one more step finds, where it holds of the rest
+module _ (fuel : ℕ) (o : Order) (h : List ℕ) (end from : ℕ) (fs gs : Fields) (k : end ≤ length h) (f : Fits h fs)
+    (e : walk (suc fuel) o h end from fs ≡ some gs)
+    (rest : (s : ℕ) (fs′ : Fields) → Fits h fs′ → walk fuel o h end s fs′ ≡ some gs → Fits h gs) where
+  nothing : none ≡ some gs → Fits h gs
+  nothing y = let x : _≡_ {A = ℕ} 0 1 = cc in absurd (omega arith)
+
+  step-found : {c a l s : ℕ} → (from ≡ end → ⊥) → elementAt o h end from ≡ At c a l s → (b : Bool) → eqb (placeOf fs c .at) 0 ≡ b → Fits h gs
+  step-found {c} {a} {l} {s} n q true z =
+      let t : Stands end from c a l s = element-stands o h end from q in
+      rest s (set fs c (record { at = a; len = l })) (fits-more c a l f (t .known) (omega arith))
+      (sym (walk-more fuel o h end from fs n q (eqb-true (placeOf fs c .at) 0 z)) ∙ e)
+  step-found {c} n q false z = nothing (sym (walk-again fuel o h end from fs n q (eqb-false (placeOf fs c .at) 0 z)) ∙ e)
+
+  step-element : (from ≡ end → ⊥) → (r : Element) → elementAt o h end from ≡ r → Fits h gs
+  step-element n Bad q = nothing (sym (walk-bad fuel o h end from fs n q) ∙ e)
+  step-element n (At c a l s) q = step-found n q (eqb (placeOf fs c .at) 0) refl
+
+  step-fits : (b : Bool) → eqb from end ≡ b → Fits h gs
+  step-fits true b =
+      let y : some fs ≡ some gs = sym (walk-end fuel o h end from fs (eqb-true from end b)) ∙ e in
+      let x : fs ≡ gs = cc in
+      subst (Fits h) x f
+  step-fits false b = step-element (eqb-false from end b) (elementAt o h end from) refl
+
+pub walk-fits : (fuel : ℕ) (o : Order) (h : List ℕ) (end from : ℕ) (fs gs : Fields) → end ≤ length h → Fits h fs
+    → walk fuel o h end from fs ≡ some gs → Fits h gs
+unfolding walk
+walk-fits zero o h end from fs gs k f e = let x : _≡_ {A = ℕ} 0 1 = cc in absurd (omega arith)
+walk-fits (suc fuel) o h end from fs gs k f e =
+    step-fits fuel o h end from fs gs k f e (λ s fs′ f′ e′. walk-fits fuel o h end s fs′ gs k f′ e′) (eqb from end) refl

@@ -1,0 +1,22 @@
+-- `header::element_at` meets its contract. Assumes nothing.
+use Rattle.header.proofs.Elements.{elements}
+use Rattle.header.proofs.element_at.Statement.{statement}
+use Rattle.header.proofs.element_at.Tie as tie
+
+pub element-at-spec : {M : Type 1} → statement M
+element-at-spec =
+    tie.close
+    (tie.spec
+    (λ c κs. search elements)
+    (λ c. search elements)
+    (λ c. search elements)
+    (λ c κs. search elements)
+    (λ c κs. search elements)
+    (λ c. search elements)
+    (λ c. search elements)
+    (λ c κs. search elements)
+    (λ c. search elements)
+    (λ c κs. search elements)
+    (λ c. search elements)
+    (λ c κs. search elements)
+    (λ c. search elements))

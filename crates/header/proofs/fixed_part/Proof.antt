@@ -1,0 +1,17 @@
+-- `header::fixed_part` meets its contract. Assumes nothing.
+use Rattle.header.proofs.Numbers.{numbers}
+use Rattle.header.proofs.fixed_part.Statement.{statement}
+use Rattle.header.proofs.fixed_part.Tie as tie
+
+pub fixed-part-spec : {M : Type 1} → statement M
+fixed-part-spec =
+    tie.close
+    (tie.spec
+    (λ c. search numbers)
+    (λ c. search numbers)
+    (λ c. search numbers)
+    (λ c. search numbers)
+    (λ c. search numbers)
+    (λ c. search numbers)
+    (λ c κs. search numbers)
+    (λ c. search numbers))

@@ -1,0 +1,26 @@
+-- `header::header_of` meets its contract. Assumes nothing.
+use Rattle.header.proofs.Whole.{a-header, judging}
+use borrow.Author.Needs.{needs}
+use Rattle.header.proofs.header_of.Statement.{statement}
+use Rattle.header.proofs.header_of.Tie as tie
+
+pub header-of-spec : {M : Type 1} → statement M
+header-of-spec =
+    tie.close
+    (tie.spec
+    (λ c κs. search judging)
+    (λ c κs. search judging)
+    (λ c. search judging)
+    (λ c. search judging)
+    (λ c. search judging)
+    (λ c. search judging)
+    (λ c. search judging)
+    (λ c κs. search judging)
+    (λ c. search judging)
+    (λ c. search judging)
+    (λ c. search judging)
+    (λ c. search judging)
+    (λ c. search judging)
+    (λ c. search judging)
+    (λ c. search judging)
+    (λ c. search a-header))

@@ -1,0 +1,20 @@
+-- `header::is_framed` meets its contract. Assumes nothing.
+use Rattle.header.proofs.Elements.{elements}
+use Rattle.header.proofs.is_framed.Statement.{statement}
+use Rattle.header.proofs.is_framed.Tie as tie
+
+pub is-framed-spec : {M : Type 1} → statement M
+is-framed-spec =
+    tie.close
+    (tie.spec
+    (λ c. search elements)
+    (λ c κs. search elements)
+    (λ c. search elements)
+    (λ c κs. search elements)
+    (λ c. search elements)
+    (λ c. search elements)
+    (λ c. search elements)
+    (λ c. search elements)
+    (λ c. search elements)
+    (λ c. search elements)
+    (λ c. search elements))

@@ -1,0 +1,17 @@
+-- `header::judge` meets its contract. Assumes nothing.
+use Rattle.header.proofs.Whole.{judging}
+use borrow.Author.Needs.{needs}
+use Rattle.header.proofs.judge.Statement.{statement}
+use Rattle.header.proofs.judge.Tie as tie
+
+pub judge-spec : {M : Type 1} → statement M
+judge-spec =
+    tie.close
+    (tie.spec
+    (λ c κs. search judging)
+    (λ c. search judging)
+    (λ c. search judging)
+    (λ c κs. search judging)
+    (λ c. search judging)
+    (λ c κs. search judging)
+    (λ c. search judging))

@@ -1,0 +1,21 @@
+-- `header::read` meets its contract. Assumes nothing.
+use Rattle.header.proofs.Whole.{bytes}
+use borrow.Author.Needs.{needs}
+use Rattle.header.proofs.read.Statement.{statement}
+use Rattle.header.proofs.read.Tie as tie
+
+pub read-spec : {M : Type 1} → statement M
+read-spec =
+    tie.close
+    (tie.spec
+    (λ c. search bytes)
+    (λ c κs. search bytes)
+    (λ c. search bytes)
+    (λ c. search bytes)
+    (λ c. search bytes)
+    (λ c. search bytes)
+    (λ c. search bytes)
+    (λ c. search bytes)
+    (λ c κs. search bytes)
+    (λ c. search bytes)
+    (λ c. search bytes))

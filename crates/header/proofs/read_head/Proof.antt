@@ -1,0 +1,20 @@
+-- `header::read_head` meets its contract. Assumes nothing.
+use Rattle.header.proofs.Whole.{heads}
+use borrow.Author.Needs.{needs}
+use Rattle.header.proofs.read_head.Statement.{statement}
+use Rattle.header.proofs.read_head.Tie as tie
+
+pub read-head-spec : {M : Type 1} → statement M
+read-head-spec =
+    tie.close
+    (tie.spec
+    (λ c κs. search heads)
+    (λ c κs. search heads)
+    (λ c. search heads)
+    (λ c. search heads)
+    (λ c κs. search heads)
+    (λ c. search heads)
+    (λ c κs. search heads)
+    (λ c. search heads)
+    (λ c κs. search heads)
+    (λ c. search heads))

@@ -1,0 +1,22 @@
+-- `header::sizes` meets its contract. Assumes nothing.
+use Rattle.header.proofs.Numbers.{numbers}
+use Rattle.header.proofs.sizes.Statement.{statement}
+use Rattle.header.proofs.sizes.Tie as tie
+
+pub sizes-spec : {M : Type 1} → statement M
+sizes-spec =
+    tie.close
+    (tie.spec
+    (λ c κs. search numbers)
+    (λ c κs. search numbers)
+    (λ c. search numbers)
+    (λ c κs. search numbers)
+    (λ c. search numbers)
+    (λ c. search numbers)
+    (λ c κs. search numbers)
+    (λ c. search numbers)
+    (λ c κs. search numbers)
+    (λ c. search numbers)
+    (λ c. search numbers)
+    (λ c. search numbers)
+    (λ c. search numbers))

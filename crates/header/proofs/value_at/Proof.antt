@@ -1,0 +1,25 @@
+-- `header::value_at` meets its contract. Assumes nothing.
+use Rattle.header.proofs.Elements.{values}
+use Rattle.header.proofs.value_at.Statement.{statement}
+use Rattle.header.proofs.value_at.Tie as tie
+
+pub value-at-spec : {M : Type 1} → statement M
+value-at-spec =
+    tie.close
+    (tie.spec
+    (λ c. search values)
+    (λ c. search values)
+    (λ c. search values)
+    (λ c κs. search values)
+    (λ c. search values)
+    (λ c κs. search values)
+    (λ c. search values)
+    (λ c. search values)
+    (λ c. search values)
+    (λ c. search values)
+    (λ c. search values)
+    (λ c. search values)
+    (λ c κs. search values)
+    (λ c. search values)
+    (λ c κs. search values)
+    (λ c. search values))

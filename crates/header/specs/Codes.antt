@@ -1,0 +1,67 @@
+-- The table of header fields (01, "Message head"). Assumes nothing: these are definitions.
+use mathlib.Core.Bool.{cond}
+use mathlib.Core.List.{List, [], _∷_}
+use Prim.Native.Nat.{ℕ}
+use lib.Dec.{eqb}
+use Rattle.wire.specs.Bytes.{byte}
+use Rattle.names.specs.declared.Form.{Form}
+use Rattle.names.specs.declared.Form.the-variants.{Interface, BusName, Member, Path}
+
+-- what a field's value must be: a name of a form, a serial, a signature, or anything
+pub data Rule : Type 0 where
+  name : Form → Rule
+  serial : Rule
+  signature : Rule
+  free : Rule
+
+-- "Types: 1 call, 2 return, 3 error, 4 signal."
+abbrev pub call : ℕ
+call = 1
+
+abbrev pub return : ℕ
+return = 2
+
+abbrev pub error : ℕ
+error = 3
+
+abbrev pub signal : ℕ
+signal = 4
+
+-- a code, the letter of its type, the rule of its value, and the types of message that require it
+abbrev pub Line : Type 0
+Line = ℕ × ℕ × Rule × List ℕ
+
+abbrev pub codeOf : Line → ℕ
+codeOf l = l .0
+
+abbrev pub requiredIn : Line → List ℕ
+requiredIn l = l .3
+
+-- path, interface, member, error name, reply serial, destination, sender, signature, descriptors
+abbrev pub table : List Line
+table =
+    (1, byte "o", name Path, call ∷ signal ∷ [])
+    ∷ (2, byte "s", name Interface, signal ∷ [])
+    ∷ (3, byte "s", name Member, call ∷ signal ∷ [])
+    ∷ (4, byte "s", name Interface, error ∷ [])
+    ∷ (5, byte "u", serial, return ∷ error ∷ [])
+    ∷ (6, byte "s", name BusName, [])
+    ∷ (7, byte "s", name BusName, [])
+    ∷ (8, byte "g", signature, [])
+    ∷ (9, byte "u", free, [])
+    ∷ []
+
+abbrev pub letterIn : List Line → ℕ → ℕ
+letterIn [] code = 0
+letterIn (l ∷ ls) code = cond (eqb code (codeOf l)) (l .1) (letterIn ls code)
+
+abbrev pub ruleIn : List Line → ℕ → Rule
+ruleIn [] code = free
+ruleIn (l ∷ ls) code = cond (eqb code (codeOf l)) (l .2) (ruleIn ls code)
+
+-- the letter of a code, 0 where no field has the code
+unfoldable pub letterOf : ℕ → ℕ
+letterOf code = letterIn table code
+
+abbrev pub ruleOf : ℕ → Rule
+ruleOf code = ruleIn table code

@@ -1,0 +1,90 @@
+-- The array of header fields and its answer 7 (01, "Message head" and "Answer numbers"). Assumes nothing: these are definitions.
+use mathlib.Core.Bool.{Bool, true, false, cond, not, _&&_}
+use mathlib.Core.List.{List}
+use mathlib.Core.Option.{Option, none, some}
+use Prim.Native.Nat.{ℕ, zero, suc, _+_, _-_}
+use lib.Dec.{leb, ltb, eqb}
+use lib.ListN.{take, drop, getD, set, replicate}
+use Rattle.wire.specs.Bytes.{byte, allZero}
+use Rattle.wire.specs.Words.{wordAt, roundUp8}
+use Rattle.wire.specs.declared.Order.{Order}
+use Rattle.header.specs.declared.Place.{Place}
+use Rattle.header.specs.declared.Element.{Element}
+use Rattle.header.specs.declared.Element.the-variants.{At, Bad}
+use Rattle.header.specs.Fixed.{orderOf, arrayLength}
+use Rattle.header.specs.Codes.{letterOf}
+
+-- ---- places
+
+abbrev pub absent : Place
+absent = record { at = 0; len = 0 }
+
+-- no value can start at byte 0
+abbrev pub present : Place → Bool
+present p = not (eqb (p .at) 0)
+
+-- the bytes of a value
+abbrev pub textAt : List ℕ → Place → List ℕ
+textAt h p = take (p .len) (drop (p .at) h)
+
+-- where the value of each code stands; code 0 is no field's
+abbrev pub Fields : Type 0
+Fields = List Place
+
+abbrev pub placeOf : Fields → ℕ → Place
+placeOf fs code = getD fs code absent
+
+abbrev pub noFields : Fields
+noFields = replicate 10 absent
+
+-- ---- one element, in an array that ends at `end`
+
+-- a text of `len` bytes from `at` on, and the zero behind it
+unfoldable pub textIn : List ℕ → ℕ → ℕ → ℕ → ℕ → Element
+textIn h end code at len = cond (ltb (at + len) end && eqb (getD h (at + len) 0) 0) (At code at len (at + len + 1)) Bad
+
+-- "`o`, `s`: u32 length, bytes, zero. `g`: one length byte, bytes, zero."
+unfoldable pub valueAt : Order → List ℕ → ℕ → ℕ → ℕ → ℕ → Element
+valueAt o h end code letter at =
+    cond (eqb letter (byte "g")) (textIn h end code (at + 1) (getD h at 0))
+    (cond (eqb letter (byte "u")) (cond (leb (at + 4) end) (At code at 4 (at + 4)) Bad) (textIn h end code (at + 4) (wordAt o h at)))
+
+-- "code, 1, one type letter, zero": a code of the table with its letter
+unfoldable pub framed : List ℕ → ℕ → Bool
+framed h at =
+    not (eqb (letterOf (getD h at 0)) 0)
+    && eqb (getD h (at + 1) 0) 1
+    && eqb (getD h (at + 2) 0) (letterOf (getD h at 0))
+    && eqb (getD h (at + 3) 0) 0
+
+-- the element behind the padding that starts at `from`: "each at a multiple of 8: code, 1, one type letter, zero, value"
+unfoldable pub elementAt : Order → List ℕ → ℕ → ℕ → Element
+elementAt o h end from =
+    cond (allZero (take (roundUp8 from - from) (drop from h)) && framed h (roundUp8 from))
+    (valueAt o h end (getD h (roundUp8 from) 0) (letterOf (getD h (roundUp8 from) 0)) (roundUp8 from + 4))
+    Bad
+
+-- ---- all elements
+
+-- the fields of the elements from `from` on, beside those of `fs`: the last one ends at `end`, and no code is repeated. An element has more
+-- than one byte, so a fuel of one more than the array's length is enough
+unfoldable pub walk : ℕ → Order → List ℕ → ℕ → ℕ → Fields → Option Fields
+walk zero o h end from fs = none
+walk (suc fuel) o h end from fs =
+    elim (eqb from end) [
+      | true ↦ some fs
+      | false ↦
+          elim (elementAt o h end from) [
+            | Bad ↦ none
+            | At code at len stop ↦
+                elim (present (placeOf fs code)) [
+                  | true ↦ none
+                  | false ↦ walk fuel o h end stop (set fs code (record { at = at; len = len }))
+                ]
+          ]
+    ]
+
+-- the fields of the head h, or none where the array is malformed: "non-zero padding, also after the array"
+unfoldable pub fieldsOf : List ℕ → Option Fields
+fieldsOf h =
+    cond (allZero (drop (16 + arrayLength h) h)) (walk (arrayLength h + 1) (orderOf h) h (16 + arrayLength h) 16 noFields) none

@@ -1,0 +1,59 @@
+-- A head as a whole (01, "Message head" and "Answer numbers"): for any bytes, what a reader of them answers. Assumes nothing: these are definitions.
+use mathlib.Core.Bool.{Bool, true, false, cond, not}
+use mathlib.Core.List.{List}
+use mathlib.Core.Option.{Option, none, some}
+use Prim.Native.Nat.{ℕ}
+use lib.Dec.{ltb}
+use lib.ListN.{length, take}
+use Rattle.header.specs.declared.Header.{Header}
+use Rattle.header.specs.declared.Fixed.{Fixed}
+use Rattle.header.specs.declared.Fixed.the-variants as fixed
+use Rattle.header.specs.declared.Reading.{Reading}
+use Rattle.header.specs.declared.Reading.the-variants.{Short, Broken, Whole}
+use Rattle.header.specs.Fixed.{orderOf, kindOf, flagsOf, bodyLength, serialOf, headLength, fixedPart}
+use Rattle.header.specs.Fields.{Fields, placeOf, textAt, fieldsOf}
+use Rattle.header.specs.Values.{numberIn, goodValues}
+use Rattle.header.specs.Required.{hasRequired}
+
+-- the header of the head h with the fields fs
+unfoldable pub headerOf : List ℕ → Fields → Header
+headerOf h fs =
+    record {
+      kind = kindOf h;
+      flags = flagsOf h;
+      serial = serialOf h;
+      body = bodyLength h;
+      head = headLength h;
+      «reply_serial» = numberIn (orderOf h) (textAt h (placeOf fs 5));
+      path = placeOf fs 1;
+      interface = placeOf fs 2;
+      member = placeOf fs 3;
+      «error_name» = placeOf fs 4;
+      destination = placeOf fs 6;
+    }
+
+-- 8, then 9
+unfoldable pub judged : List ℕ → Fields → Reading
+judged h fs = cond (not (goodValues (orderOf h) h fs)) (Broken 8) (cond (not (hasRequired (kindOf h) fs)) (Broken 9) (Whole (headerOf h fs)))
+
+abbrev pub orSeven : List ℕ → Option Fields → Reading
+orSeven h none = Broken 7
+orSeven h (some fs) = judged h fs
+
+-- "7, then 8, then 9 once the head is whole", over exactly the bytes of the head
+unfoldable pub readHead : List ℕ → Reading
+readHead h = orSeven h (fieldsOf h)
+
+-- the head in front of s, where s is long enough
+abbrev pub afterFixed : List ℕ → Fixed → Reading
+afterFixed s (fixed.Broken n) = Broken n
+afterFixed s (fixed.Sizes head message) = cond (ltb (length s) head) Short (readHead (take head s))
+
+unfoldable pub readHeader : List ℕ → Reading
+readHeader s = cond (ltb (length s) 16) Short (afterFixed s (fixedPart s))
+
+-- 01's number for each case: 10 is "message unfinished", and 0 a head that has none of the faults
+abbrev pub answerOf : Reading → ℕ
+answerOf Short = 10
+answerOf (Broken n) = n
+answerOf (Whole header) = 0

@@ -1,0 +1,8 @@
+pub mod Fixed
+pub mod Codes
+pub mod Fields
+pub mod Values
+pub mod Required
+pub mod Header
+pub mod Reader
+pub mod Table

@@ -1,0 +1,40 @@
+-- What the reader's functions require and ensure among themselves, in the terms of the definitions. Assumes nothing: these are definitions.
+use mathlib.Core.Bool.{Bool, true, false, cond}
+use mathlib.Core.List.{List}
+use mathlib.Core.Option.{Option, none, some}
+use mathlib.Core.Path.{_≡_}
+use Prim.Native.Nat.{ℕ, _+_, _≤_, _<_}
+use lib.ListN.{length}
+use Rattle.wire.specs.Words.{roundUp8}
+use Rattle.wire.specs.declared.Order.{Order}
+use Rattle.header.specs.declared.Found.{Found}
+use Rattle.header.specs.Fixed.{orderOf, arrayLength}
+use Rattle.header.specs.Fields.{Fields, placeOf}
+
+-- h is a head as long as its array says
+pub record Head (h : List ℕ) : Type 0 where
+  pub sized : length h ≡ 16 + roundUp8 (arrayLength h)
+  pub small : length h ≤ 2048
+
+-- an array that ends at `end` is read from `from` on, and its padding lies in h
+pub record Inside (h : List ℕ) (end from : ℕ) : Type 0 where
+  pub above : 16 ≤ from
+  pub before : from ≤ end
+  pub padded : roundUp8 end ≤ length h
+  pub small : length h ≤ 2048
+
+-- each value lies in h
+pub record Fits (h : List ℕ) (fs : Fields) : Type 0 where
+  pub sized : length fs ≡ 10
+  pub inside : (code : ℕ) → placeOf fs code .at + placeOf fs code .len ≤ length h
+
+-- what the judgement of a whole head reads: its byte order, and fields whose values lie in it
+pub record Reads (h : List ℕ) (o : Order) (fs : Fields) : Type 0 where
+  pub order : o ≡ orderOf h
+  pub head : Head h
+  pub fits : Fits h fs
+  pub reply : placeOf fs 5 .at + placeOf fs 5 .len ≤ length h
+
+-- the fields that a walk has found
+abbrev pub foundIn : Found → Option Fields
+foundIn f = cond (f .good) (some (f .places)) none

@@ -1,0 +1,41 @@
+-- The values of the fields and their answer 8 (01, "Message head" and "Answer numbers"). Assumes nothing: these are definitions.
+use mathlib.Core.Bool.{Bool, true, false, cond, not, _&&_, _||_}
+use mathlib.Core.List.{List}
+use Prim.Native.Nat.{ℕ, zero, suc}
+use lib.Dec.{ltb, eqb}
+use lib.ListN.{length}
+use Rattle.wire.specs.Words.{wordAt}
+use Rattle.wire.specs.declared.Order.{Order}
+use Rattle.names.specs.Names.{validName}
+use Rattle.signature.specs.Signature.{validSignature}
+use Rattle.header.specs.declared.Place.{Place}
+use Rattle.header.specs.Codes.{Rule, name, serial, signature, free, ruleOf}
+use Rattle.header.specs.Fields.{Fields, placeOf, present, textAt}
+
+-- the number in the four bytes of a value; 0 where a value has fewer, as an absent one
+unfoldable pub numberIn : Order → List ℕ → ℕ
+numberIn o t = cond (ltb (length t) 4) 0 (wordAt o t 0)
+
+abbrev pub obeys : Order → Rule → List ℕ → Bool
+obeys o (name form) t = validName form t
+obeys o serial t = not (eqb (numberIn o t) 0)
+obeys o signature t = validSignature t
+obeys o free t = true
+
+unfoldable pub goodValue : Order → ℕ → List ℕ → Bool
+goodValue o code t = obeys o (ruleOf code) t
+
+-- a field that is present obeys the rule of its code
+unfoldable pub goodField : Order → List ℕ → Place → ℕ → Bool
+goodField o h p code = not (present p) || goodValue o code (textAt h p)
+
+-- each number below n passes
+abbrev pub below : (ℕ → Bool) → ℕ → Bool
+below p zero = true
+below p (suc n) = below p n && p n
+
+unfoldable pub goodBelow : Order → List ℕ → Fields → ℕ → Bool
+goodBelow o h fs n = below (λ code. goodField o h (placeOf fs code) code) n
+
+unfoldable pub goodValues : Order → List ℕ → Fields → Bool
+goodValues o h fs = goodBelow o h fs 10

@@ -1,0 +1,5 @@
+mod Below
+mod Ways
+pub mod Holds
+pub mod RuleHolds
+pub mod Table

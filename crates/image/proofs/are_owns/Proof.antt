@@ -1,0 +1,29 @@
+-- `image::are_owns` meets its contract. The loop's invariant: of the rules, those below `i` are left to be tested. Assumes nothing.
+use Rattle.image.specs.Image.{ownCount}
+use Rattle.image.specs.Good.{goodOwn}
+use Rattle.image.proofs.Below.{Testing, testing}
+use Rattle.image.proofs.are_owns.Statement.{statement}
+use Rattle.image.proofs.are_owns.Tie as tie
+
+abbrev Inv-loop : tie.InvT-loop
+Inv-loop image strings from i₀ i = Testing (goodOwn image) (ownCount image) i
+
+abbrev μ-loop : tie.MeasureT-loop
+μ-loop image strings from i₀ i = i
+
+pub are-owns-spec : {M : Type 1} → statement M
+are-owns-spec =
+    tie.close
+    (tie.spec
+    Inv-loop
+    μ-loop
+    (λ c κs. search testing)
+    (λ c κs. search testing)
+    (λ c κs. search testing)
+    (λ c. search testing)
+    (λ c. search testing)
+    (λ c κs. search testing)
+    (λ c. search testing)
+    (λ c. search testing)
+    (λ c. search testing)
+    (λ c. search testing))

@@ -1,0 +1,44 @@
+-- What functions over an image require of it, as plain numbers. Assumes nothing: these are definitions.
+use mathlib.Core.Path.{_≡_}
+use mathlib.Core.Bool.{true}
+use mathlib.Core.List.{List}
+use Prim.Native.Nat.{ℕ, _+_, _*_, _≤_}
+use lib.ListN.{length}
+use Rattle.image.specs.Image.{totalLength, connectCount, connectOffset, ownCount, ownOffset, transactionCount, transactionOffset, stringOffset}
+use Rattle.image.specs.Rules.{Span, spanAt}
+use Rattle.image.specs.Good.{goodImage}
+
+-- the header is good
+pub record Header (image : List ℕ) : Type 0 where
+  pub low : 32 ≤ length image
+  pub high : length image ≤ 65536
+  pub total : totalLength image ≡ length image
+  pub connects : connectCount image ≤ 256
+  pub owns : ownCount image ≤ 256
+  pub transactions : transactionCount image ≤ 512
+  pub connects-at : connectOffset image ≡ 32
+  pub owns-at : ownOffset image ≡ 32 + 8 * connectCount image
+  pub transactions-at : transactionOffset image ≡ 32 + 8 * connectCount image + 16 * ownCount image
+  pub strings-at : stringOffset image ≡ 32 + 8 * connectCount image + 16 * ownCount image + 40 * transactionCount image
+  pub strings-inside : stringOffset image ≤ length image
+
+-- the string area starts at `strings`
+pub record Strings (image : List ℕ) (strings : ℕ) : Type 0 where
+  pub area : strings ≡ stringOffset image
+  pub small : strings ≤ 65536
+
+-- the string whose offset and length stand at `at` lies inside the image
+pub record Cites (image : List ℕ) (strings at : ℕ) : Type 0 where
+  pub area : strings ≡ stringOffset image
+  pub inside : at + 8 ≤ length image
+  pub text : stringOffset image + spanAt image at .offset + spanAt image at .len ≤ length image
+
+-- rule i of a section of rules of a size lies inside the image
+pub record RuleAt (image : List ℕ) (offset size from i : ℕ) : Type 0 where
+  pub start : from ≡ offset
+  pub inside : from + size * i + size ≤ length image
+
+-- the image is good
+pub record GoodImage (image : List ℕ) : Type 0 where
+  pub header : Header image
+  pub is : goodImage image ≡ true

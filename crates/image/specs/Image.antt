@@ -1,0 +1,35 @@
+-- A policy image as bytes (01, "Policy image"): its header, its strings. Assumes nothing: these are definitions.
+use mathlib.Core.List.{List}
+use Prim.Native.Nat.{ℕ, _+_}
+use lib.ListN.{take, drop}
+use Rattle.wire.specs.Words.{wordAt}
+use Rattle.wire.specs.declared.Order.the-variants.{Little}
+
+-- "Header, 32 bytes, eight u32: total length; connect count, offset; own count, offset; transaction count, offset; string area offset."
+abbrev pub totalLength : List ℕ → ℕ
+totalLength image = wordAt Little image 0
+
+abbrev pub connectCount : List ℕ → ℕ
+connectCount image = wordAt Little image 4
+
+abbrev pub connectOffset : List ℕ → ℕ
+connectOffset image = wordAt Little image 8
+
+abbrev pub ownCount : List ℕ → ℕ
+ownCount image = wordAt Little image 12
+
+abbrev pub ownOffset : List ℕ → ℕ
+ownOffset image = wordAt Little image 16
+
+abbrev pub transactionCount : List ℕ → ℕ
+transactionCount image = wordAt Little image 20
+
+abbrev pub transactionOffset : List ℕ → ℕ
+transactionOffset image = wordAt Little image 24
+
+abbrev pub stringOffset : List ℕ → ℕ
+stringOffset image = wordAt Little image 28
+
+-- the string of a length at an offset: "String offsets count from the string area."
+abbrev pub stringAt : List ℕ → ℕ → ℕ → List ℕ
+stringAt image offset len = take len (drop (stringOffset image + offset) image)

@@ -1,0 +1,93 @@
+-- The rules of a policy image, each read at its place (01, "Policy image"). Assumes nothing: these are definitions.
+use mathlib.Core.List.{List}
+use Prim.Native.Nat.{ℕ, _+_, _*_}
+use lib.ListN.{getD}
+use Rattle.wire.specs.Words.{wordAt}
+use Rattle.wire.specs.declared.Order.the-variants.{Little}
+use Rattle.image.specs.Image.{connectOffset, ownOffset, transactionOffset, stringAt}
+
+-- where a rule's string stands: an offset into the string area, and a length
+pub record Span : Type 0 where
+  pub offset : ℕ
+  pub len : ℕ
+
+abbrev pub spanAt : List ℕ → ℕ → Span
+spanAt image at = record { offset = wordAt Little image at; len = wordAt Little image (at + 4) }
+
+-- the bytes that it cites
+abbrev pub textOf : List ℕ → Span → List ℕ
+textOf image s = stringAt image (s .offset) (s .len)
+
+-- "Connect, 8 bytes: context, verdict (0 deny, 1 allow), matcher (0 any, 1 uid, 2 gid), zero; u32 id (0 for any)."
+pub record ConnectRule : Type 0 where
+  pub context : ℕ
+  pub verdict : ℕ
+  pub matcher : ℕ
+  pub reserved : ℕ
+  pub id : ℕ
+
+abbrev pub connectAt : List ℕ → ℕ → ConnectRule
+connectAt image at =
+    record {
+      context = getD image at 0;
+      verdict = getD image (at + 1) 0;
+      matcher = getD image (at + 2) 0;
+      reserved = getD image (at + 3) 0;
+      id = wordAt Little image (at + 4);
+    }
+
+abbrev pub connectRule : List ℕ → ℕ → ConnectRule
+connectRule image i = connectAt image (connectOffset image + 8 * i)
+
+-- "Own, 16 bytes: context, verdict, matcher (0 any, 1 name, 2 prefix), zero; u32 subject; u32 string offset, u32 length (both 0 for any)."
+pub record OwnRule : Type 0 where
+  pub context : ℕ
+  pub verdict : ℕ
+  pub matcher : ℕ
+  pub reserved : ℕ
+  pub subject : ℕ
+  pub name : Span
+
+abbrev pub ownAt : List ℕ → ℕ → OwnRule
+ownAt image at =
+    record {
+      context = getD image at 0;
+      verdict = getD image (at + 1) 0;
+      matcher = getD image (at + 2) 0;
+      reserved = getD image (at + 3) 0;
+      subject = wordAt Little image (at + 4);
+      name = spanAt image (at + 8);
+    }
+
+abbrev pub ownRule : List ℕ → ℕ → OwnRule
+ownRule image i = ownAt image (ownOffset image + 16 * i)
+
+-- "Transaction, 40 bytes: context, verdict, direction (0 send, 1 receive), type (0 any, 1 call, 4 signal); u32 subject; then offset and length for
+-- name, path, interface, member."
+pub record TransactionRule : Type 0 where
+  pub context : ℕ
+  pub verdict : ℕ
+  pub direction : ℕ
+  pub type : ℕ
+  pub subject : ℕ
+  pub name : Span
+  pub path : Span
+  pub interface : Span
+  pub member : Span
+
+abbrev pub transactionAt : List ℕ → ℕ → TransactionRule
+transactionAt image at =
+    record {
+      context = getD image at 0;
+      verdict = getD image (at + 1) 0;
+      direction = getD image (at + 2) 0;
+      type = getD image (at + 3) 0;
+      subject = wordAt Little image (at + 4);
+      name = spanAt image (at + 8);
+      path = spanAt image (at + 16);
+      interface = spanAt image (at + 24);
+      member = spanAt image (at + 32);
+    }
+
+abbrev pub transactionRule : List ℕ → ℕ → TransactionRule
+transactionRule image i = transactionAt image (transactionOffset image + 40 * i)

@@ -1,0 +1,65 @@
+-- Worked examples of policy images, as a table. Assumes nothing: these are definitions.
+use mathlib.Core.Bool.{Bool, true, false, _&&_}
+use mathlib.Core.List.{List, [], _∷_, _++_}
+use Prim.Native.Nat.{ℕ, _+_, _/_}
+use lib.Dec.{eqb}
+use lib.ListN.{length, take, replicate}
+use Rattle.wire.specs.Bytes.{bytes}
+use Rattle.wire.specs.Words.{wordBytes}
+use Rattle.image.specs.Good.{outcomeOf, answerOf}
+
+-- the image of the sections' bytes, behind the header that they take
+abbrev pub imageOf : List ℕ → List ℕ → List ℕ → List ℕ → List ℕ
+imageOf connects owns transactions strings =
+    let own = 32 + length connects in
+    let transaction = own + length owns in
+    let string = transaction + length transactions in
+    wordBytes (string + length strings)
+    ++ wordBytes (length connects / 8)
+    ++ wordBytes 32
+    ++ wordBytes (length owns / 16)
+    ++ wordBytes own
+    ++ wordBytes (length transactions / 40)
+    ++ wordBytes transaction
+    ++ wordBytes string
+    ++ connects
+    ++ owns
+    ++ transactions
+    ++ strings
+
+-- four bytes and a number
+abbrev pub head : ℕ → ℕ → ℕ → ℕ → ℕ → List ℕ
+head a b c d n = a ∷ b ∷ c ∷ d ∷ wordBytes n
+
+-- a string's offset and length
+abbrev pub cites : ℕ → ℕ → List ℕ
+cites offset len = wordBytes offset ++ wordBytes len
+
+-- an image, and 01's number for it
+abbrev pub Line : Type 0
+Line = List ℕ × ℕ
+
+abbrev pub table : List Line
+table =
+    (imageOf [] [] [] [], 0)
+    ∷ (take 31 (imageOf [] [] [] []), 50)
+    ∷ (imageOf [] [] [] (bytes "any bytes"), 0)
+    ∷ (imageOf (head 0 1 1 0 7) [] [] [], 0)
+    ∷ (imageOf (head 1 1 1 0 7) [] [] [], 50)
+    ∷ (imageOf (head 0 1 0 0 7) [] [] [], 50)
+    ∷ (imageOf (head 0 1 1 1 7) [] [] [], 50)
+    ∷ (imageOf [] (head 1 1 2 0 5 ++ cites 0 5) [] (bytes "org.a"), 0)
+    ∷ (imageOf [] (head 0 1 2 0 5 ++ cites 0 5) [] (bytes "org.a"), 50)
+    ∷ (imageOf [] (head 1 1 2 0 5 ++ cites 0 6) [] (bytes "org.a"), 50)
+    ∷ (imageOf [] (head 1 1 2 0 5 ++ cites 0 0) [] [], 50)
+    ∷ (imageOf [] (head 1 1 0 0 5 ++ cites 0 0) [] [], 0)
+    ∷ (imageOf [] [] (head 2 0 1 4 9 ++ cites 2 5 ++ cites 0 2 ++ cites 2 5 ++ cites 1 4) (bytes "/aorg.a"), 0)
+    ∷ (imageOf [] [] (head 2 0 1 2 9 ++ cites 2 5 ++ cites 0 2 ++ cites 2 5 ++ cites 1 4) (bytes "/aorg.a"), 50)
+    ∷ (imageOf [] [] (head 0 0 0 0 0 ++ replicate 32 0) [], 0)
+    ∷ (imageOf [] [] (head 0 0 0 0 0 ++ cites 1 0 ++ replicate 24 0) [], 50)
+    ∷ []
+
+-- each line of a table says what the rules say
+abbrev pub agrees : List Line → Bool
+agrees [] = true
+agrees (l ∷ ls) = eqb (answerOf (outcomeOf (l .0))) (l .1) && agrees ls

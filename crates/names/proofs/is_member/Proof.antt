@@ -1,0 +1,8 @@
+-- `names::is_member` meets its contract. Assumes nothing.
+use Rattle.names.proofs.Forms.{forms}
+use borrow.Author.Needs.{needs}
+use Rattle.names.proofs.is_member.Statement.{statement}
+use Rattle.names.proofs.is_member.Tie as tie
+
+pub is-member-spec : {M : Type 1} → statement M
+is-member-spec = tie.close (tie.spec (λ c κs. search needs) (λ c. search forms) (λ c. search forms) (λ c κs. search needs) (λ c. search forms))

@@ -1,0 +1,19 @@
+-- `names::is_path` meets its contract. Assumes nothing.
+use Rattle.names.proofs.Forms.{forms}
+use borrow.Author.Needs.{needs}
+use Rattle.names.proofs.is_path.Statement.{statement}
+use Rattle.names.proofs.is_path.Tie as tie
+
+pub is-path-spec : {M : Type 1} → statement M
+is-path-spec =
+    tie.close
+    (tie.spec
+    (λ c. search forms)
+    (λ c. search needs)
+    (λ c. search forms)
+    (λ c. search forms)
+    (λ c. search needs)
+    (λ c. search needs)
+    (λ c. search needs)
+    (λ c κs. search needs)
+    (λ c. search forms))

@@ -1,0 +1,9 @@
+pub mod Precedence
+pub mod Asking
+pub mod Cells
+mod Subjects
+mod Fits
+mod Section
+mod Decisions
+mod Transactions
+pub mod Table

@@ -1,0 +1,16 @@
+-- `policy::own_fits` meets its contract. Assumes nothing.
+use Rattle.policy.proofs.Fits.{fits}
+use Rattle.policy.proofs.own_fits.Statement.{statement}
+use Rattle.policy.proofs.own_fits.Tie as tie
+
+pub own-fits-spec : {M : Type 1} → statement M
+own-fits-spec =
+    tie.close
+    (tie.spec
+    (λ c. search fits)
+    (λ c κs. search fits)
+    (λ c. search fits)
+    (λ c κs. search fits)
+    (λ c. search fits)
+    (λ c κs. search fits)
+    (λ c. search fits))

@@ -1,0 +1,7 @@
+pub mod Names
+pub mod Precedence
+pub mod Subjects
+pub mod Matching
+pub mod Decisions
+pub mod Contracts
+pub mod Table

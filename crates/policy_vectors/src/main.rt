@@ -1,0 +1,335 @@
+// Decisions over generated images: every context, matcher and direction, strings that overlap, four owned names. An independent program wrote
+// `stdout` from the same choices.
+use header::Header;
+use header::Place;
+use policy::Uid;
+ghost use Prim.Native.Nat.{_+_, _≤_, _<_};
+ghost use Rattle.image.specs.Contracts.{GoodImage};
+ghost use Rattle.policy_vectors.specs.Short.{Short};
+
+// The strings of every image, and a question's texts behind one byte more: org.foo, org.foo.bar, foo.bar, /p, /p/q, i.f, f, M, org.foobar.
+const TEXTS: [u8; 29] = *b"org.foo.bar/p/qi.fMorg.foobar";
+
+// A number that seed and place determine.
+fn choose(seed: usize, place: usize) -> usize {
+    (seed % 256 * 4096 + place % 4096) * 2654435761 / 65536
+}
+
+fn byte(s: &mut [u8], at: usize, b: usize) {
+    if at < s.len() {
+        s[at] = (b % 256) as u8;
+    }
+}
+
+fn put(s: &mut [u8], at: usize, x: usize) {
+    if at < 4096 {
+        if at + 4 <= s.len() {
+            wire::put_u32(s, at, (x % 65536) as u32);
+        }
+    }
+}
+
+// An offset and a length: any, or one of two strings.
+fn span(
+    s: &mut [u8],
+    at: usize,
+    which: usize,
+    offset: usize,
+    len: usize,
+    other: usize,
+    size: usize,
+) {
+    if at < 4096 {
+        if which == 1 {
+            put(s, at, offset);
+            put(s, at + 4, len);
+        } else if which == 2 {
+            put(s, at, other);
+            put(s, at + 4, size);
+        }
+    }
+}
+
+// The context, the verdict and the subject of a rule.
+fn front(s: &mut [u8], at: usize, seed: usize, context: usize) {
+    if at < 4096 {
+        byte(s, at, context);
+        byte(s, at + 1, choose(seed, at + 1) % 2);
+        if (context == 1) | (context == 2) {
+            put(s, at + 4, 5 + choose(seed, at + 4) % 3);
+        }
+    }
+}
+
+fn connect(s: &mut [u8], at: usize, seed: usize) {
+    if at < 4096 {
+        let matcher = choose(seed, at + 2) % 3;
+        front(s, at, seed, choose(seed, at) % 2 * 3);
+        byte(s, at + 2, matcher);
+        if matcher != 0 {
+            put(s, at + 4, 5 + choose(seed, at + 4) % 4);
+        }
+    }
+}
+
+fn own(s: &mut [u8], at: usize, seed: usize) {
+    if at < 4096 {
+        let matcher = choose(seed, at + 2) % 3;
+        front(s, at, seed, choose(seed, at) % 4);
+        byte(s, at + 2, matcher);
+        if matcher != 0 {
+            span(s, at + 8, 1 + choose(seed, at + 8) % 2, 0, 7, 4, 7);
+        }
+    }
+}
+
+// Direction and type, 0, 1 or 4.
+fn transaction_front(s: &mut [u8], at: usize, seed: usize) {
+    if at < 4096 {
+        let kind = choose(seed, at + 3) % 3;
+        front(s, at, seed, choose(seed, at) % 4);
+        byte(s, at + 2, choose(seed, at + 2) % 2);
+        byte(s, at + 3, if kind == 2 { 4 } else { kind });
+    }
+}
+
+fn transaction_strings(s: &mut [u8], at: usize, seed: usize) {
+    if at < 4096 {
+        span(s, at + 8, choose(seed, at + 8) % 3, 0, 11, 4, 7);
+        span(s, at + 16, choose(seed, at + 16) % 5, 11, 2, 11, 4);
+        span(s, at + 24, choose(seed, at + 24) % 5, 15, 3, 0, 7);
+        span(s, at + 32, choose(seed, at + 32) % 5, 18, 1, 17, 1);
+    }
+}
+
+fn text(at: usize) -> usize {
+    if at < 29 {
+        wire::wide(TEXTS[at]) as usize
+    } else {
+        0
+    }
+}
+
+// Writes `len` bytes of the texts from `from` on.
+fn write_text(s: &mut [u8], at: usize, from: usize, len: usize)
+    requires { ⌜ (at < 4096) × (from < 4096) × (len < 4096) ⌝ }
+{
+    let mut i = 0;
+    while i < len {
+        byte(s, at + i, text(from + i));
+        i += 1;
+    }
+}
+
+fn header(s: &mut [u8]) {
+    put(s, 0, 637);
+    put(s, 4, 4);
+    put(s, 8, 32);
+    put(s, 12, 4);
+    put(s, 16, 64);
+    put(s, 20, 12);
+    put(s, 24, 128);
+    put(s, 28, 608);
+}
+
+fn connects_and_owns(s: &mut [u8], seed: usize) {
+    let mut i = 0;
+    while i < 4 {
+        connect(s, 32 + 8 * i, seed);
+        own(s, 64 + 16 * i, seed);
+        i += 1;
+    }
+}
+
+fn transactions(s: &mut [u8], seed: usize) {
+    let mut i = 0;
+    while i < 12 {
+        transaction_front(s, 128 + 40 * i, seed);
+        transaction_strings(s, 128 + 40 * i, seed);
+        i += 1;
+    }
+}
+
+fn make_image(seed: usize) -> [u8; 637] {
+    let mut s = [0u8; 637];
+    header(&mut s);
+    connects_and_owns(&mut s, seed);
+    transactions(&mut s, seed);
+    write_text(&mut s, 608, 0, 29);
+    s
+}
+
+// A cell of 256 bytes: empty, or org.foo, org.foo.bar or foo.bar.
+fn cell(s: &mut [u8], at: usize, which: usize)
+    requires { ⌜ at < 1024 ⌝ }
+{
+    if which == 1 {
+        byte(s, at, 7);
+        write_text(s, at + 1, 0, 7);
+    } else if which == 2 {
+        byte(s, at, 11);
+        write_text(s, at + 1, 0, 11);
+    } else if which == 3 {
+        byte(s, at, 7);
+        write_text(s, at + 1, 4, 7);
+    }
+}
+
+fn make_names(seed: usize) -> [u8; 1024] {
+    let mut s = [0u8; 1024];
+    cell(&mut s, 0, choose(seed, 3000) % 4);
+    cell(&mut s, 256, choose(seed, 3001) % 4);
+    cell(&mut s, 512, choose(seed, 3002) % 4);
+    cell(&mut s, 768, choose(seed, 3003) % 4);
+    s
+}
+
+// ---- questions
+
+// Absent, or one of two texts: the texts stand in the head from byte 1 on.
+fn place(which: usize, from: usize, len: usize, other: usize, size: usize) -> Place
+    requires { ⌜ (from + len ≤ 29) × (other + size ≤ 29) ⌝ }
+    ensures { λ r. ⌜ r .at + r .len ≤ 30 ⌝ }
+{
+    if which == 0 {
+        return Place { at: 0, len: 0 };
+    }
+    if which == 1 {
+        return Place { at: 1 + from, len };
+    }
+    Place {
+        at: 1 + other,
+        len: size,
+    }
+}
+
+fn bit(b: bool) -> usize {
+    if b { 49 } else { 48 }
+}
+
+fn ask_connect(image: &[u8], out: &mut [u8])
+    requires { ⌜ GoodImage (now image) ⌝ }
+{
+    let gids = [6u32, 8];
+    let mut uid: u32 = 5;
+    while uid < 8 {
+        byte(
+            out,
+            (uid - 5) as usize,
+            bit(policy::may_connect(image, Uid(uid), &gids)),
+        );
+        uid += 1;
+    }
+}
+
+// One name, for three users.
+fn ask_own(image: &[u8], name: &[u8], at: usize, out: &mut [u8])
+    requires { ⌜ (at < 40) × GoodImage (now image) ⌝ }
+{
+    let gids = [6u32, 8];
+    let mut uid: u32 = 5;
+    while uid < 8 {
+        byte(
+            out,
+            at + (uid - 5) as usize,
+            bit(policy::may_own(image, Uid(uid), &gids, name)),
+        );
+        uid += 1;
+    }
+}
+
+fn ask_names(image: &[u8], out: &mut [u8])
+    requires { ⌜ GoodImage (now image) ⌝ }
+{
+    ask_own(image, b"org.foo", 3, out);
+    ask_own(image, b"org.foo.bar", 6, out);
+    ask_own(image, b"foo.bar", 9, out);
+    ask_own(image, b"org.foobar", 12, out);
+}
+
+// A call or a signal, its fields by choice.
+fn message(seed: usize, at: usize) -> Header
+    requires { ⌜ at < 4096 ⌝ }
+    ensures { λ r. ⌜ Short r ⌝ }
+{
+    let none = Place { at: 0, len: 0 };
+    let path = place(1 + choose(seed, at) % 2, 11, 2, 11, 4);
+    let interface = place(choose(seed, at + 1) % 3, 15, 3, 0, 7);
+    let member = place(1 + choose(seed, at + 2) % 2, 18, 1, 17, 1);
+    let kind = if choose(seed, at + 3) % 2 == 0 { 1 } else { 4 };
+    Header {
+        kind,
+        flags: 0,
+        serial: 1,
+        body: 0,
+        head: 30,
+        reply_serial: 0,
+        path,
+        interface,
+        member,
+        error_name: none,
+        destination: none,
+    }
+}
+
+fn may_pass(
+    image: &[u8],
+    seed: usize,
+    at: usize,
+    direction: u8,
+    names: &[u8],
+    head: &[u8; 30],
+) -> bool
+    requires { ⌜ (at < 4096) × GoodImage (now image) ⌝ }
+{
+    let uid = (5 + choose(seed, at + 4) % 3) as u32;
+    let gids = [(5 + choose(seed, at + 5) % 3) as u32, 8];
+    let header = message(seed, at);
+    policy::may_transact(image, direction, Uid(uid), &gids, names, head, header)
+}
+
+fn ask_pass(image: &[u8], seed: usize, names: &[u8], head: &[u8; 30], out: &mut [u8])
+    requires { ⌜ GoodImage (now image) ⌝ }
+{
+    let mut q = 0;
+    while q < 12 {
+        byte(
+            out,
+            15 + q,
+            bit(may_pass(image, seed, 2000 + 16 * q, policy::SEND, names, head)),
+        );
+        byte(
+            out,
+            27 + q,
+            bit(may_pass(image, seed, 2000 + 16 * q, policy::RECEIVE, names, head)),
+        );
+        q += 1;
+    }
+}
+
+fn answers(image: &[u8], seed: usize, names: &[u8], head: &[u8; 30], out: &mut [u8]) {
+    let outcome = image::check(image);
+    match outcome {
+        image::Outcome::Good => {
+            ask_connect(image, out);
+            ask_names(image, out);
+            ask_pass(image, seed, names, head, out);
+        }
+        image::Outcome::Bad => {}
+    }
+}
+
+fn main() {
+    let mut head = [0u8; 30];
+    write_text(&mut head, 1, 0, 29);
+    let mut seed = 0;
+    while seed < 32 {
+        let image = make_image(seed);
+        let names = make_names(seed);
+        let mut out = [b'-'; 40];
+        answers(&image, seed, &names, &head, &mut out);
+        out[39] = 10;
+        io::write_all(1, &out);
+        seed += 1;
+    }
+}
