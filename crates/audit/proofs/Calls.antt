@@ -1,0 +1,80 @@
+-- The pending calls of a slot, one after the other. Assumes nothing.
+use mathlib.Core.Path.{_≡_, refl, sym, ap, _∙_}
+use mathlib.Core.Bool.{Bool, true, false, not, _&&_, and-false}
+use mathlib.Core.List.{List, [], _∷_}
+use Prim.Native.Nat.{ℕ, suc, _+_, _-_, _*_, _≤_, _<_, min}
+use native.Mathlib.Omega.{arith}
+use lib.Dec.{leb}
+use lib.ListN.{length, take, drop, getD, length-drop}
+use borrow.Author.Needs.{needs}
+use borrow.Author.Tests.{le-leb, lt-leb, not-true, not-false}
+use Rattle.wire.specs.Words.{wordAt}
+use Rattle.wire.specs.declared.Order.the-variants.{Little}
+use Rattle.tables.proofs.Table.{table-past}
+use Rattle.rules.specs.State.{isPeer, firstBy}
+use Rattle.rules.specs.Pending.{isCall, awaits}
+use Rattle.memory.specs.Encoding.{pendingOf, stateOf}
+use Rattle.memory.specs.Good.{nobody, goodPending}
+use Rattle.memory.proofs.Search.{Found}
+use Rattle.memory.proofs.Reading.{pending-next, pending-many}
+use Rattle.slots.specs.Slots.{peerAt, CallAt}
+use Rattle.audit.specs.Tests.{calleeAt, serialAt, callTest}
+use Rattle.audit.proofs.Nobody.{nobody-found, awaits-first, same-leb}
+
+-- ---- call j, whose callee is c and whose serial is s
+
+module _ (m : List ℕ) (i j c s : ℕ) (p : c ≡ calleeAt m i j) (q : s ≡ serialAt m i j) (f : ℕ) (g : Found (isPeer c) m 0 f) where
+  pub call-gone : 16 ≤ f → false ≡ callTest m i j
+  unfolding callTest
+  call-gone h = rw (← p, ← nobody-found (isPeer c) m 0 f (omega arith) g, le-leb 16 f h)
+
+  module _ (h : f < 16) where
+    pub call-zero : s ≡ 0 → false ≡ callTest m i j
+    unfolding callTest
+    call-zero z = rw (← p, ← q, ← nobody-found (isPeer c) m 0 f (omega arith) g, lt-leb 16 f h, lt-leb 1 s (omega arith))
+
+    pub call-good : (s ≡ 0 → ⊥) → (n r k : ℕ) → n ≡ wordAt Little m (4 + 3292 * i + 76) → k ≡ min n 16
+        → CallAt m i c s (j + 1) r
+        → leb k r ≡ callTest m i j
+    unfolding callTest
+    call-good z n r k e o a =
+        let l : length (peerAt m i .pending) ≡ min n 16 = pending-many m (4 + 3292 * i) ∙ rw e in
+        let d : length (drop (j + 1) (peerAt m i .pending)) ≡ length (peerAt m i .pending) - (j + 1) = length-drop (j + 1) (peerAt m i .pending) in
+        let w : r ≡ j + 1 + firstBy (isCall c s) (drop (j + 1) (peerAt m i .pending)) = a .is in
+        rw (← p, ← q, ← nobody-found (isPeer c) m 0 f (omega arith) g, lt-leb 16 f h, le-leb 1 s (omega arith), awaits-first c s (drop (j + 1) (peerAt m i .pending)))
+        (same-leb k r (length (drop (j + 1) (peerAt m i .pending))) (firstBy (isCall c s) (drop (j + 1) (peerAt m i .pending))) (λ x. omega arith) (λ x. omega arith))
+
+pub ruleset call-tests = (call-gone, call-zero, call-good, needs)
+
+-- ---- the calls of a slot, of which j are tested
+
+pub record Calling (m : List ℕ) (i count j : ℕ) : Type 0 where
+  pub few : count ≤ 16
+  pub long : length (peerAt m i .pending) ≡ count
+  pub left : goodPending (stateOf m .slots) (peerAt m i .pending) ≡ goodPending (stateOf m .slots) (drop j (peerAt m i .pending))
+
+pub calling-begins : {m : List ℕ} {i count n : ℕ} → n ≡ wordAt Little m (4 + 3292 * i + 76) → count ≡ min n 16 → Calling m i count 0
+calling-begins {m} {i} e c = record { few = omega arith; long = pending-many m (4 + 3292 * i) ∙ rw (← e) (sym c); left = refl }
+
+module _ {m : List ℕ} {i count j : ℕ} (l : Calling m i count j) where
+  module _ (h : j < count) {r : Bool} (e : r ≡ callTest m i j) where
+    -- call j, and those after it
+    step : goodPending (stateOf m .slots) (drop j (peerAt m i .pending))
+        ≡ callTest m i j && goodPending (stateOf m .slots) (drop (j + 1) (peerAt m i .pending))
+    unfolding goodPending callTest
+    step =
+        let k : 4 + 3292 * i + 80 + 8 * j ≡ 4 + 3292 * i + (80 + 8 * j) = omega arith in
+        let o : 4 + 3292 * i + 84 + 8 * j ≡ 4 + 3292 * i + (84 + 8 * j) = omega arith in
+        rw (pending-next m (4 + 3292 * i) j (omega (arith, l .long)), k, o)
+
+    pub calling-more : not r ≡ false → Calling m i count (j + 1)
+    calling-more t = record { few = l .few; long = l .long; left = l .left ∙ step ∙ rw (← e, not-false r t) }
+
+    pub calling-stops : not r ≡ true → false ≡ goodPending (stateOf m .slots) (peerAt m i .pending)
+    calling-stops t = sym (l .left ∙ step ∙ rw (← e, not-true r t))
+
+  pub calling-ends : count ≤ j → true ≡ goodPending (stateOf m .slots) (peerAt m i .pending)
+  unfolding goodPending
+  calling-ends h = sym (l .left ∙ rw (table-past 8 16 pendingOf (drop (4 + 3292 * i + 76) m) j (omega (arith, l .long))))
+
+pub ruleset calling = (calling-begins, calling-more, calling-stops, calling-ends, needs)

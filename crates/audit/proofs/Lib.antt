@@ -1,0 +1,6 @@
+mod Nobody
+mod Names
+mod Calls
+mod Shape
+mod Plain
+mod Slots

@@ -1,0 +1,202 @@
+-- A slot is the bytes of the peer that is read off it exactly where its tables have their shape. Assumes nothing.
+use mathlib.Core.Path.{_≡_, refl, sym, ap, ap₂, _∙_}
+use mathlib.Core.Bool.{Bool, true, false, not, _&&_, and-true}
+use mathlib.Core.List.{List, [], _∷_, _++_, map, append-nil}
+use Prim.Native.Nat.{ℕ, zero, suc, _+_, _-_, _*_, _≤_, _<_, min}
+use native.Mathlib.Omega.{arith}
+use native.Mathlib.Decide.{decLe}
+use native.Mathlib.Nat.{add-zero, mul-le-mul-left}
+use lib.Dec.{leb, eqb}
+use lib.ListN.{length, take, drop, getD, length-take, length-drop, take-append-drop}
+use lib.Seq.{getD-take, getD-drop, drop-drop, length-take-le, take-take}
+use borrow.Author.Tests.{le-leb, lt-leb, ne-eqb}
+use Rattle.wire.specs.Bytes.{allZero, same, front, pad}
+use Rattle.wire.specs.Words.{wordAt, wordBytes}
+use Rattle.wire.specs.declared.Order.the-variants.{Little}
+use Rattle.wire.proofs.Texts.{same-refl}
+use Rattle.wire.proofs.Words.{word-length, bytes-again}
+use Rattle.tables.specs.Tables.{cells, parts, tableBytes, tableOf}
+use Rattle.tables.proofs.Words.{word-take, word-part, word-front, bytes-take, bytes-drop}
+use Rattle.tables.proofs.Table.{table-length, table-take}
+use Rattle.tables.proofs.Same.{same-zeros, same-split, plainCells, table-same, plain-always}
+use Rattle.policy.specs.Names.{cellOf, nameOf}
+use Rattle.stream.specs.Tail.{Tail}
+use Rattle.rules.specs.State.{Pending, Peer, Slot, free, peer}
+use Rattle.memory.specs.Encoding.{pendingBytes, headBytes, peerBytes, slotBytes, wordOf, pendingOf, slotOf}
+use Rattle.memory.proofs.Reading.{peerFrom, slot-take, peer-from}
+use Rattle.memory.proofs.Frame.{pending-length, cell-length, head-length}
+use Rattle.audit.specs.Tests.{tableTest, cellsTest, shapeTest}
+use Rattle.audit.proofs.Shape.{drop-part}
+
+-- a part that starts a part of memory
+same-part : (x q m : List ℕ) (c n k : ℕ) → length x ≡ n → n ≤ k
+    → same (x ++ q) (take k (drop c m)) ≡ same x (take n (drop c m)) && same q (take (k - n) (drop (c + n) m))
+same-part x q m c n k l h =
+    same-split x q (take k (drop c m)) n l
+    ∙ rw (take-take n k (drop c m) h, drop-part n k (k - n) (drop c m) (omega arith), drop-drop n c m)
+
+module _ (m : List ℕ) (f : (i : ℕ) → getD m i 0 < 256) where
+  -- any word is plain
+  word-plain : (c : ℕ) → c + 4 ≤ length m → same (wordBytes (wordAt Little m c)) (take 4 (drop c m)) ≡ true
+  word-plain c h =
+      let l : length (take 4 (drop c m)) ≡ 4 = length-take-le 4 (drop c m) (omega (arith, length-drop c m)) in
+      let w : wordAt Little (take 4 (drop c m)) 0 ≡ wordAt Little m c = word-part m c 4 0 (omega arith) ∙ rw add-zero in
+      ap (λ (z : List ℕ). same z (take 4 (drop c m))) (rw (← w) (bytes-again (take 4 (drop c m)) l (bytes-take 4 (drop c m) (bytes-drop c m f))))
+      ∙ same-refl (take 4 (drop c m))
+
+  word-same : (q : List ℕ) (c k : ℕ) → 4 ≤ k → c + 4 ≤ length m
+      → same (wordBytes (wordAt Little m c) ++ q) (take k (drop c m)) ≡ same q (take (k - 4) (drop (c + 4) m))
+  word-same q c k h l =
+      same-part (wordBytes (wordAt Little m c)) q m c 4 k (word-length (wordAt Little m c)) h ∙ rw (word-plain c l)
+
+  module _ {A : Type 0} (w k : ℕ) (enc : A → List ℕ) (sized : (x : A) → length (enc x) ≡ w) (dec : List ℕ → A) where
+    -- a table is plain where its cells are
+    table-cells : (c : ℕ) → k < 4294967296 → c + (4 + w * k) ≤ length m
+        → same (tableBytes w k enc (tableOf w k dec (drop c m))) (take (4 + w * k) (drop c m))
+        ≡ leb (wordAt Little m c) k && plainCells enc dec w (wordAt Little m c) (take (w * k) (drop (c + 4) m))
+    table-cells c s h =
+        let l : length (take (4 + w * k) (drop c m)) ≡ 4 + w * k = length-take-le (4 + w * k) (drop c m) (omega (arith, length-drop c m)) in
+        let e : wordAt Little m c ≡ wordAt Little (take (4 + w * k) (drop c m)) 0 = sym (word-part m c (4 + w * k) 0 (omega arith) ∙ rw add-zero) in
+        let d : drop 4 (take (4 + w * k) (drop c m)) ≡ take (w * k) (drop (c + 4) m)
+        = drop-part 4 (4 + w * k) (w * k) (drop c m) (omega arith) ∙ rw (drop-drop 4 c m) in
+        ap (λ (xs : List A). same (tableBytes w k enc xs) (take (4 + w * k) (drop c m))) (sym (table-take w k dec (drop c m) (4 + w * k) (omega arith)))
+        ∙ table-same w enc sized dec k (take (4 + w * k) (drop c m)) (wordAt Little m c) s l (bytes-take (4 + w * k) (drop c m) (bytes-drop c m f)) e
+        ∙ rw d
+
+    -- where any cell is plain, the zeros alone are left to test
+    table-plain : ((b : List ℕ) → length b ≡ w → ((i : ℕ) → getD b i 0 < 256) → enc (dec b) ≡ b) → (c : ℕ) → k < 4294967296 → c + (4 + w * k) ≤ length m
+        → same (tableBytes w k enc (tableOf w k dec (drop c m))) (take (4 + w * k) (drop c m)) ≡ tableTest m c w k
+    unfolding tableTest
+    table-plain always c s h = table-cells c s h ∙ go (decLe (wordAt Little m c) k)
+      where
+        go : Dec (wordAt Little m c ≤ k)
+            → leb (wordAt Little m c) k && plainCells enc dec w (wordAt Little m c) (take (w * k) (drop (c + 4) m))
+            ≡ leb (wordAt Little m c) k && allZero (take (w * k - w * wordAt Little m c) (drop (c + 4 + w * wordAt Little m c) m))
+        go (yes b) =
+            let n = wordAt Little m c in
+            let o : w * n ≤ w * k = mul-le-mul-left w b in
+            let l : length (take (w * k) (drop (c + 4) m)) ≡ w * k = length-take-le (w * k) (drop (c + 4) m) (omega (arith, length-drop (c + 4) m)) in
+            rw (
+              le-leb n k b,
+              plain-always w enc sized dec always n (take (w * k) (drop (c + 4) m)) (omega arith) (bytes-take (w * k) (drop (c + 4) m) (bytes-drop (c + 4) m f)),
+              drop-part (w * n) (w * k) (w * k - w * n) (drop (c + 4) m) (omega arith),
+              drop-drop (w * n) (c + 4) m,
+            )
+        go (no b) = rw (lt-leb (wordAt Little m c) k (omega arith))
+
+-- ---- the head, as a table of bytes
+
+single : ℕ → List ℕ
+single b = b ∷ []
+
+head-cells : (h : List ℕ) → cells single h ≡ h
+unfolding cells single
+head-cells [] = refl
+head-cells (b ∷ h) = ap (λ (r : List ℕ). b ∷ r) (head-cells h)
+
+head-parts : (n : ℕ) (d : List ℕ) → n ≤ length d → map front (parts 1 n d) ≡ take n d
+unfolding parts
+head-parts zero d h = refl
+head-parts (suc n) [] h = absurd (omega arith)
+head-parts (suc n) (x ∷ d) h = ap (λ (r : List ℕ). x ∷ r) (head-parts n d (omega arith))
+
+head-table : (h : List ℕ) → headBytes h ≡ tableBytes 1 2048 single h
+unfolding headBytes tableBytes
+head-table h = rw (head-cells h)
+
+single-length : (b : ℕ) → length (single b) ≡ 1
+unfolding single
+single-length b = refl
+
+single-again : (b : List ℕ) → length b ≡ 1 → ((i : ℕ) → getD b i 0 < 256) → single (front b) ≡ b
+unfolding single
+single-again [] l f = absurd (omega arith)
+single-again (x ∷ []) l f = refl
+single-again (x ∷ y ∷ b) l f = absurd (omega arith)
+
+pending-again : (b : List ℕ) → length b ≡ 8 → ((i : ℕ) → getD b i 0 < 256) → pendingBytes (pendingOf b) ≡ b
+pending-again b l f =
+    let p : length (take 4 b) ≡ 4 = length-take-le 4 b (omega arith) in
+    let q : length (drop 4 b) ≡ 4 = length-drop 4 b ∙ omega arith in
+    let u : wordAt Little (take 4 b) 0 ≡ wordAt Little b 0 = word-take b 4 0 (omega arith) in
+    let x : wordBytes (wordAt Little b 0) ≡ take 4 b = rw (← u) (bytes-again (take 4 b) p (bytes-take 4 b f)) in
+    let y : wordBytes (wordAt Little b 4) ≡ drop 4 b = rw (← word-front b 4) (bytes-again (drop 4 b) q (bytes-drop 4 b f)) in
+    ap₂ _++_ x y ∙ take-append-drop 4 b
+
+word-again : (b : List ℕ) → length b ≡ 4 → ((i : ℕ) → getD b i 0 < 256) → wordBytes (wordOf b) ≡ b
+word-again b l f = bytes-again b l f
+
+-- ---- a whole slot
+
+module _ (m : List ℕ) (f : (i : ℕ) → getD m i 0 < 256) (a : ℕ) (h : a + 3292 ≤ length m) where
+  head-of : tableOf 1 2048 front (drop (a + 1240) m) ≡ take (min (wordAt Little m (a + 1240)) 2048) (drop (a + 1244) m)
+  unfolding tableOf
+  head-of =
+      let e : a + 1240 + 4 ≡ a + 1244 = omega arith in
+      rw (word-front m (a + 1240), drop-drop 4 (a + 1240) m, e)
+      (head-parts (min (wordAt Little m (a + 1240)) 2048) (drop (a + 1244) m) (omega (arith, length-drop (a + 1244) m)))
+
+  head-plain : same (headBytes (take (min (wordAt Little m (a + 1240)) 2048) (drop (a + 1244) m))) (take 2052 (drop (a + 1240) m)) ≡ tableTest m (a + 1240) 1 2048
+  head-plain =
+      ap (λ (z : List ℕ). same z (take 2052 (drop (a + 1240) m))) (ap headBytes (sym head-of) ∙ head-table (tableOf 1 2048 front (drop (a + 1240) m)))
+      ∙ table-plain m f 1 2048 single single-length front single-again (a + 1240) (omega arith) (omega arith)
+
+  pub peer-plain : same (peerBytes (peerFrom m a)) (take 3292 (drop a m))
+      ≡ tableTest m (a + 8) 4 16
+      && (tableTest m (a + 76) 8 16
+      && ((leb (wordAt Little m (a + 208)) 4 && plainCells cellOf nameOf 256 (wordAt Little m (a + 208)) (take 1024 (drop (a + 212) m)))
+      && tableTest m (a + 1240) 1 2048))
+  unfolding peerBytes
+  peer-plain =
+      let g = tableBytes 4 16 wordBytes (tableOf 4 16 wordOf (drop (a + 8) m)) in
+      let p = tableBytes 8 16 pendingBytes (tableOf 8 16 pendingOf (drop (a + 76) m)) in
+      let n = tableBytes 256 4 cellOf (tableOf 256 4 nameOf (drop (a + 208) m)) in
+      let t = headBytes (take (min (wordAt Little m (a + 1240)) 2048) (drop (a + 1244) m)) in
+      let u : a + 4 + 4 ≡ a + 8 = omega arith in
+      let v : a + 8 + 68 ≡ a + 76 = omega arith in
+      let w : a + 76 + 132 ≡ a + 208 = omega arith in
+      let x : a + 208 + 1028 ≡ a + 1236 = omega arith in
+      let y : a + 1236 + 4 ≡ a + 1240 = omega arith in
+      let z : a + 208 + 4 ≡ a + 212 = omega arith in
+      word-same m f (wordBytes (wordAt Little m (a + 4)) ++ (g ++ (p ++ (n ++ (wordBytes (wordAt Little m (a + 1236)) ++ t))))) a 3292 (omega arith) (omega arith)
+      ∙ word-same m f (g ++ (p ++ (n ++ (wordBytes (wordAt Little m (a + 1236)) ++ t)))) (a + 4) 3288 (omega arith) (omega arith)
+      ∙ rw u
+      (same-part g (p ++ (n ++ (wordBytes (wordAt Little m (a + 1236)) ++ t))) m (a + 8) 68 3284 (table-length 4 16 wordBytes (tableOf 4 16 wordOf (drop (a + 8) m))) (omega arith)
+      ∙ rw (v, table-plain m f 4 16 wordBytes word-length wordOf word-again (a + 8) (omega arith) (omega arith))
+      (ap (λ (b : Bool). tableTest m (a + 8) 4 16 && b)
+      (same-part p (n ++ (wordBytes (wordAt Little m (a + 1236)) ++ t)) m (a + 76) 132 3216 (table-length 8 16 pendingBytes (tableOf 8 16 pendingOf (drop (a + 76) m))) (omega arith)
+      ∙ rw (w, table-plain m f 8 16 pendingBytes pending-length pendingOf pending-again (a + 76) (omega arith) (omega arith))
+      (ap (λ (b : Bool). tableTest m (a + 76) 8 16 && b)
+      (same-part n (wordBytes (wordAt Little m (a + 1236)) ++ t) m (a + 208) 1028 3084 (table-length 256 4 cellOf (tableOf 256 4 nameOf (drop (a + 208) m))) (omega arith)
+      ∙ rw (x, table-cells m f 256 4 cellOf cell-length nameOf (a + 208) (omega arith) (omega arith), z)
+      (ap (λ (b : Bool). (leb (wordAt Little m (a + 208)) 4 && plainCells cellOf nameOf 256 (wordAt Little m (a + 208)) (take 1024 (drop (a + 212) m))) && b)
+      (word-same m f t (a + 1236) 2056 (omega arith) (omega arith) ∙ rw y head-plain)))))))
+
+and-assoc : (a b c d : Bool) → a && (b && (c && d)) ≡ a && b && c && d
+and-assoc true true c d = refl
+and-assoc true false c d = refl
+and-assoc false b c d = refl
+
+-- slot i has a peer, and is the bytes of what is read off it where it has its shape
+pub slot-plain : (m : List ℕ) → ((i : ℕ) → getD m i 0 < 256) → length m ≡ 52676 → (i : ℕ) → i < 16 → (wordAt Little m (4 + 3292 * i) ≡ 0 → ⊥)
+    → same (slotBytes (slotOf (take 3292 (drop (4 + 3292 * i) m)))) (take 3292 (drop (4 + 3292 * i) m)) ≡ shapeTest m i
+unfolding slotOf slotBytes shapeTest cellsTest
+slot-plain m f l i h e =
+    let a = 4 + 3292 * i in
+    let q : slotOf (take 3292 (drop a m)) ≡ peer (peerFrom m a)
+    = slot-take (drop a m) ∙ rw (word-front m a, ne-eqb (wordAt Little m a) 0 e) (ap peer (peer-from m a)) in
+    ap (λ (x : Slot Tail). same (slotBytes x) (take 3292 (drop a m))) q
+    ∙ peer-plain m f a (omega arith)
+    ∙ and-assoc (tableTest m (a + 8) 4 16) (tableTest m (a + 76) 8 16)
+    (leb (wordAt Little m (a + 208)) 4 && plainCells cellOf nameOf 256 (wordAt Little m (a + 208)) (take 1024 (drop (a + 212) m)))
+    (tableTest m (a + 1240) 1 2048)
+
+-- a free slot is all zero
+pub free-plain : (m : List ℕ) → length m ≡ 52676 → (i : ℕ) → i < 16 → wordAt Little m (4 + 3292 * i) ≡ 0
+    → same (slotBytes (slotOf (take 3292 (drop (4 + 3292 * i) m)))) (take 3292 (drop (4 + 3292 * i) m)) ≡ allZero (take 3292 (drop (4 + 3292 * i) m))
+unfolding slotOf slotBytes
+free-plain m l i h e =
+    let a = 4 + 3292 * i in
+    let q : slotOf (take 3292 (drop a m)) ≡ free = slot-take (drop a m) ∙ rw (word-front m a, e) in
+    let k : length (take 3292 (drop a m)) ≡ 3292 = length-take-le 3292 (drop a m) (omega (arith, length-drop a m)) in
+    ap (λ (x : Slot Tail). same (slotBytes x) (take 3292 (drop a m))) q ∙ rw k at (same-zeros (take 3292 (drop a m)))

@@ -1,0 +1,143 @@
+-- The shape of a slot, table by table: what the loops find. Assumes nothing.
+use mathlib.Core.Path.{_≡_, refl, sym, ap, _∙_}
+use mathlib.Core.Bool.{Bool, true, false, not, _&&_}
+use mathlib.Core.List.{List, [], _∷_}
+use Prim.Native.Nat.{ℕ, suc, _+_, _-_, _*_, _≤_, _<_, min}
+use native.Mathlib.Omega.{arith}
+use native.Mathlib.Nat.{mul-le-mul-left, add-zero}
+use lib.Dec.{leb, eqb}
+use lib.ListN.{length, take, drop, getD, length-take, length-drop}
+use lib.Seq.{getD-take, getD-drop, drop-drop, length-take-le, take-take}
+use mir.Syntax.{w64}
+use mir.Val.{Fits}
+use borrow.Author.Needs.{needs}
+use borrow.Author.Tests.{le-leb, lt-leb, eq-eqb, not-true, not-false}
+use Rattle.wire.specs.Bytes.{allZero, same, front, pad}
+use Rattle.wire.specs.Words.{wordAt}
+use Rattle.wire.specs.declared.Order.the-variants.{Little}
+use Rattle.tables.proofs.Parts.{drop-take}
+use Rattle.tables.proofs.Same.{same-pad, plainCells, plain-next, plain-end}
+use Rattle.policy.specs.Names.{cellOf, nameOf}
+use Rattle.memory.proofs.Frame.{cell-length}
+use Rattle.audit.specs.Tests.{plainCell, tableTest, cellsTest}
+
+-- ---- a product in bounds
+
+pub scale-low : (w n k : ℕ) → n ≤ k → w * n ≤ w * k
+scale-low w n k h = mul-le-mul-left w h
+
+pub scale-fits : (w n k : ℕ) → n ≤ k → w * k ≤ 2048 → Fits w64 (w * n)
+scale-fits w n k h l = record { fits = omega (arith, mul-le-mul-left w h) }
+
+pub ruleset scaling = (scale-low, scale-fits, needs)
+
+-- ---- a table
+
+module _ (m : List ℕ) (at w k n : ℕ) (e : n ≡ wordAt Little m at) where
+  pub table-many : k < n → false ≡ tableTest m at w k
+  unfolding tableTest
+  table-many h = rw (← e, lt-leb n k h)
+
+  pub table-zero : n ≤ k → (s t : ℕ) (r : Bool) → s ≡ w * n → t ≡ w * k → r ≡ allZero (take (at + 4 + t - (at + 4 + s)) (drop (at + 4 + s) m)) → r ≡ tableTest m at w k
+  unfolding tableTest
+  table-zero h s t r p q z =
+      let d : at + 4 + t - (at + 4 + s) ≡ t - s = omega arith in
+      z ∙ rw (← e, le-leb n k h, d, p, q)
+
+pub ruleset tables = (table-many, table-zero, needs)
+
+-- ---- a name's cell
+
+pub drop-part : (n k c : ℕ) (l : List ℕ) → c + n ≡ k → drop n (take k l) ≡ take c (drop n l)
+drop-part n k c l e = let f : k ≡ n + c = omega arith in rw f (drop-take n c l)
+
+module _ (m : List ℕ) (a b : ℕ) (e : b ≡ getD m a 0) (s : b < 256) (l : a + 256 ≤ length m) where
+  cell : List ℕ
+  cell = take 256 (drop a m)
+
+  front-is : front (take 256 (drop a m)) ≡ b
+  front-is = getD-take 256 (drop a m) 0 0 (omega arith) ∙ getD-drop a m 0 0 ∙ rw (add-zero, e)
+
+  rest : drop 1 (take 256 (drop a m)) ≡ take 255 (drop (a + 1) m)
+  rest = drop-part 1 256 255 (drop a m) (omega arith) ∙ rw (drop-drop 1 a m)
+
+  rest-length : length (take 255 (drop (a + 1) m)) ≡ 255
+  rest-length = length-take-le 255 (drop (a + 1) m) (omega (arith, length-drop (a + 1) m))
+
+  name-length : length (take b (take 255 (drop (a + 1) m))) ≡ b
+  name-length = length-take-le b (take 255 (drop (a + 1) m)) (omega (arith, rest-length))
+
+  cell-split : (c : List ℕ) → 1 ≤ length c → same (cellOf (nameOf c)) c ≡ eqb (length (nameOf c)) (front c) && same (pad 255 (nameOf c)) (drop 1 c)
+  unfolding cellOf same
+  cell-split [] h = absurd (omega arith)
+  cell-split (x ∷ c) h = refl
+
+  pub cell-plain : same (cellOf (nameOf (take 256 (drop a m)))) (take 256 (drop a m)) ≡ allZero (take (a + 256 - (a + 1 + b)) (drop (a + 1 + b) m))
+  cell-plain =
+      let k : a + 256 - (a + 1 + b) ≡ 255 - b = omega arith in
+      cell-split (take 256 (drop a m)) (rw (length-take 256 (drop a m)) (omega (arith, length-drop a m)))
+      ∙ rw (front-is, rest, name-length, eq-eqb b b refl, same-pad b 255 (take 255 (drop (a + 1) m)) rest-length, k, drop-part b 255 (255 - b) (drop (a + 1) m) (omega arith), drop-drop b (a + 1) m)
+
+pub cell-is : (m : List ℕ) (i j b : ℕ) (r : Bool) → length m ≡ 52676 → i < 16 → j < 4 → b ≡ getD m (4 + 3292 * i + 212 + 256 * j) 0 → b < 256
+    → r ≡ allZero (take (4 + 3292 * i + 212 + 256 * j + 256 - (4 + 3292 * i + 212 + 256 * j + 1 + b)) (drop (4 + 3292 * i + 212 + 256 * j + 1 + b) m))
+    → r ≡ plainCell m i j
+unfolding plainCell
+cell-is m i j b r l h k e s z = z ∙ sym (cell-plain m (4 + 3292 * i + 212 + 256 * j) b e s (omega arith))
+
+pub ruleset cell-tests = (cell-is, needs)
+
+-- ---- the cells of a slot, of which j are tested
+
+abbrev region : List ℕ → ℕ → List ℕ
+region m i = take 1024 (drop (4 + 3292 * i + 212) m)
+
+pub record Celling (m : List ℕ) (i n j : ℕ) : Type 0 where
+  pub few : n ≤ 4
+  pub inside : j ≤ n
+  pub counted : n ≡ wordAt Little m (4 + 3292 * i + 208)
+  pub left : cellsTest m i ≡ plainCells cellOf nameOf 256 (n - j) (drop (256 * j) (region m i))
+
+pub celling-many : (m : List ℕ) (i n : ℕ) → n ≡ wordAt Little m (4 + 3292 * i + 208) → 4 < n → false ≡ cellsTest m i
+unfolding cellsTest
+celling-many m i n e h = rw (← e, lt-leb n 4 h)
+
+pub celling-begins : {m : List ℕ} {i n : ℕ} → n ≡ wordAt Little m (4 + 3292 * i + 208) → n ≤ 4 → Celling m i n 0
+unfolding cellsTest
+celling-begins {m} {i} {n} e h =
+    let k : n - 0 ≡ n = omega arith in
+    record { few = h; inside = omega arith; counted = e; left = rw (← e, le-leb n 4 h, k) }
+
+module _ {m : List ℕ} {i n j : ℕ} (l : Celling m i n j) where
+  module _ (h : j < n) {r : Bool} (e : r ≡ plainCell m i j) where
+    cell-at : take 256 (drop (256 * j) (region m i)) ≡ take 256 (drop (4 + 3292 * i + 212 + 256 * j) m)
+    cell-at =
+        let f : n ≤ 4 = l .few in
+        rw (drop-part (256 * j) 1024 (1024 - 256 * j) (drop (4 + 3292 * i + 212) m) (omega arith), drop-drop (256 * j) (4 + 3292 * i + 212) m)
+        (take-take 256 (1024 - 256 * j) (drop (4 + 3292 * i + 212 + 256 * j) m) (omega arith))
+
+    step : plainCells cellOf nameOf 256 (n - j) (drop (256 * j) (region m i)) ≡ plainCell m i j && plainCells cellOf nameOf 256 (n - (j + 1)) (drop (256 * (j + 1)) (region m i))
+    unfolding plainCell
+    step =
+        let k : 256 * j + 256 ≡ 256 * (j + 1) = omega arith in
+        plain-next 256 cellOf cell-length nameOf n j (region m i) h ∙ rw (cell-at, k)
+
+    pub celling-more : not r ≡ false → Celling m i n (j + 1)
+    celling-more t =
+        record { few = l .few; inside = omega arith; counted = l .counted; left = l .left ∙ step ∙ rw (← e, not-false r t) }
+
+    pub celling-stops : not r ≡ true → false ≡ cellsTest m i
+    celling-stops t = sym (l .left ∙ step ∙ rw (← e, not-true r t))
+
+  pub celling-ends : n ≤ j → (r : Bool)
+      → r ≡ allZero (take (4 + 3292 * i + 1236 - (4 + 3292 * i + 212 + 256 * j)) (drop (4 + 3292 * i + 212 + 256 * j) m))
+      → r ≡ cellsTest m i
+  celling-ends h r z =
+      let f : n ≤ 4 = l .few in
+      let g : j ≤ n = l .inside in
+      let k : 4 + 3292 * i + 1236 - (4 + 3292 * i + 212 + 256 * j) ≡ 1024 - 256 * j = omega arith in
+      z
+      ∙ sym (l .left
+      ∙ plain-end 256 cellOf cell-length nameOf n j (region m i) h
+      ∙ rw (drop-part (256 * j) 1024 (1024 - 256 * j) (drop (4 + 3292 * i + 212) m) (omega arith), drop-drop (256 * j) (4 + 3292 * i + 212) m, k))
+
+pub ruleset celling = (celling-many, celling-begins, celling-more, celling-stops, celling-ends, needs)

@@ -1,0 +1,182 @@
+-- A slot, and the slots one after the other. Assumes nothing.
+use mathlib.Core.Path.{_≡_, refl, sym, ap, ap₂, _∙_}
+use mathlib.Core.Bool.{Bool, true, false, not, _&&_, and-true, and-false}
+use mathlib.Core.List.{List, [], _∷_}
+use Prim.Native.Nat.{ℕ, suc, _+_, _-_, _*_, _≤_, _<_, min}
+use native.Mathlib.Omega.{arith}
+use native.Mathlib.Numerals.{add-one}
+use lib.Dec.{leb, eqb}
+use lib.ListN.{length, take, drop, getD, drop-of-length-le, length-drop, length-take}
+use lib.Seq.{drop-cons, take-take, length-take-le}
+use mir.Syntax.{w8}
+use mir.Val.{Fits}
+use borrow.Author.Needs.{needs}
+use borrow.Author.Tests.{le-leb, lt-leb, eq-eqb, ne-eqb, not-true, not-false}
+use Rattle.wire.specs.Bytes.{allZero, same}
+use Rattle.wire.specs.Words.{wordAt}
+use Rattle.wire.specs.declared.Order.the-variants.{Little}
+use Rattle.wire.proofs.Words.{cut-at}
+use Rattle.tables.specs.Tables.{parts}
+use Rattle.tables.proofs.Cells.{parts-length, parts-at}
+use Rattle.stream.specs.Tail.{Tail, goodTail}
+use Rattle.rules.specs.State.{Slot, free, peer, isPeer}
+use Rattle.memory.specs.Encoding.{slotOf, slotBytes, stateOf}
+use Rattle.memory.specs.Good.{nobody, goodNames, goodPending, goodPeer, goodSlot, goodSlots, plain, good}
+use Rattle.memory.proofs.Reading.{numberAt, peerFrom, sixteen, slot-at, slot-part, slot-free, slot-peer, gids-many, pending-many, names-many}
+use Rattle.memory.proofs.Search.{Found}
+use Rattle.slots.specs.Slots.{peerAt}
+use Rattle.audit.specs.Tests.{tableTest, cellsTest, shapeTest, slotTest}
+use Rattle.audit.proofs.Nobody.{nobody-found}
+use Rattle.audit.proofs.Plain.{slot-plain, free-plain}
+
+-- ---- its shape
+
+pub shape-is : (m : List ℕ) (i : ℕ) (a b c d : Bool) → a ≡ tableTest m (4 + 3292 * i + 8) 4 16 → b ≡ tableTest m (4 + 3292 * i + 76) 8 16
+    → c ≡ cellsTest m i
+    → d ≡ tableTest m (4 + 3292 * i + 1240) 1 2048
+    → a && b && c && d ≡ shapeTest m i
+unfolding shapeTest
+shape-is m i a b c d p q r s = rw (p, q, r, s)
+
+pub ruleset shapes = (shape-is, needs)
+
+-- ---- its stream
+
+pub stream-is : (m : List ℕ) (i t n s : ℕ) (r : Bool) → t ≡ wordAt Little m (4 + 3292 * i + 1236) → n ≡ wordAt Little m (4 + 3292 * i + 1240) → s ≡ min n 2048
+    → r ≡ goodTail (record { taken = t; head = take s (take (4 + 3292 * i + 1244 + 2048 - (4 + 3292 * i + 1244)) (drop (4 + 3292 * i + 1244) m)) })
+    → r ≡ goodTail (peerAt m i .stream)
+stream-is m i t n s r p q e z =
+    let k : s ≤ 2048 = omega arith in
+    z ∙ rw (cut-at (4 + 3292 * i + 1244) 2048 m, take-take s 2048 (drop (4 + 3292 * i + 1244) m) k, p, e, q)
+
+pub stream-small : (m : List ℕ) (i n s : ℕ) → length m ≡ 52676 → i < 16 → s ≡ min n 2048
+    → s ≤ length (take (4 + 3292 * i + 1244 + 2048 - (4 + 3292 * i + 1244)) (drop (4 + 3292 * i + 1244) m))
+stream-small m i n s l h e =
+    rw (cut-at (4 + 3292 * i + 1244) 2048 m, length-take-le 2048 (drop (4 + 3292 * i + 1244) m) (omega (arith, length-drop (4 + 3292 * i + 1244) m)))
+    (omega arith)
+
+pub ruleset streams = (stream-is, stream-small, needs)
+
+-- ---- its peer
+
+module _ (m : List ℕ) (i n last : ℕ) (e : n ≡ numberAt m i) where
+  pub peer-high : last < n → false ≡ goodPeer (stateOf m .slots) last (peerAt m i) (drop (i + 1) (stateOf m .slots))
+  unfolding goodPeer
+  peer-high h = rw (← e, lt-leb n last h, and-false)
+
+  module _ (h : i < 16) (f : ℕ) (g : Found (isPeer n) m (i + 1) f) where
+    pub peer-twice : f < 16 → false ≡ goodPeer (stateOf m .slots) last (peerAt m i) (drop (i + 1) (stateOf m .slots))
+    unfolding goodPeer
+    peer-twice k = rw (← e, ← nobody-found (isPeer n) m (i + 1) f (omega arith) g, lt-leb 16 f k, and-false)
+
+    pub peer-good : 1 ≤ n → n ≤ last → 16 ≤ f → (p q r : Bool) → p ≡ goodPending (stateOf m .slots) (peerAt m i .pending)
+        → q ≡ goodNames (peerAt m i .names) (drop (i + 1) (stateOf m .slots))
+        → r ≡ goodTail (peerAt m i .stream)
+        → p && q && r ≡ goodPeer (stateOf m .slots) last (peerAt m i) (drop (i + 1) (stateOf m .slots))
+    unfolding goodPeer
+    peer-good a b c p q r x y z =
+        rw (
+          ← e,
+          le-leb 1 n a,
+          le-leb n last b,
+          ← nobody-found (isPeer n) m (i + 1) f (omega arith) g,
+          le-leb 16 f c,
+          le-leb (length (peerAt m i .gids)) 16 (omega (arith, gids-many m (4 + 3292 * i))),
+          le-leb (length (peerAt m i .pending)) 16 (omega (arith, pending-many m (4 + 3292 * i))),
+          le-leb (length (peerAt m i .names)) 4 (omega (arith, names-many m (4 + 3292 * i))),
+          x,
+          y,
+          z,
+        )
+
+pub ruleset peers = (peer-high, peer-twice, peer-good, needs)
+
+-- ---- the slot
+
+module _ (m : List ℕ) (f : (i : ℕ) → Fits w8 (getD m i 0)) (l : length m ≡ 52676) (i : ℕ) (h : i < 16) (n last : ℕ) (e : n ≡ numberAt m i) where
+  slot-is : slotOf (take 3292 (drop (4 + 3292 * i) m)) ≡ getD (stateOf m .slots) i free
+  slot-is = sym (slot-at m i h)
+
+  pub slot-unused : n ≡ 0 → (r : Bool) → r ≡ allZero (take (4 + 3292 * i + 3292 - (4 + 3292 * i)) (drop (4 + 3292 * i) m)) → r ≡ slotTest m i last
+  unfolding slotTest
+  slot-unused z r q =
+      let s : slotOf (take 3292 (drop (4 + 3292 * i) m)) ≡ free = slot-is ∙ slot-free m i h (sym e ∙ z) in
+      q ∙ rw (cut-at (4 + 3292 * i) 3292 m, ← free-plain m l i h (sym e ∙ z), s)
+
+  module _ (z : n ≡ 0 → ⊥) where
+    slot-used : slotOf (take 3292 (drop (4 + 3292 * i) m)) ≡ peer (peerAt m i)
+    slot-used = slot-is ∙ slot-peer m i h (λ y. z (e ∙ y))
+
+    shaped : same (slotBytes (slotOf (take 3292 (drop (4 + 3292 * i) m)))) (take 3292 (drop (4 + 3292 * i) m)) ≡ shapeTest m i
+    shaped = slot-plain m (λ j. f j .fits) l i h (λ y. z (e ∙ y))
+
+    pub slot-shapeless : (s : Bool) → s ≡ shapeTest m i → not s ≡ true → false ≡ slotTest m i last
+    unfolding slotTest
+    slot-shapeless s q t = rw (shaped, ← q, not-true s t, and-false)
+
+    pub slot-good : (s : Bool) → s ≡ shapeTest m i → not s ≡ false → (r : Bool)
+        → r ≡ goodPeer (stateOf m .slots) last (peerAt m i) (drop (i + 1) (stateOf m .slots))
+        → r ≡ slotTest m i last
+    unfolding slotTest
+    slot-good s q t r p = p ∙ sym (rw (shaped, ← q, not-false s t, and-true, slot-used))
+
+pub one-or-more : (n : ℕ) → (n ≡ 0 → ⊥) → 1 ≤ n
+one-or-more n h = omega arith
+
+pub ruleset slot-tests = (slot-unused, slot-shapeless, slot-good, one-or-more, needs)
+
+-- ---- the slots, of which i are tested
+
+-- what the slots from i on come to
+unfoldable pub leftGood : List ℕ → ℕ → ℕ → Bool
+leftGood m last i = goodSlots (stateOf m .slots) last (drop i (stateOf m .slots)) && plain (drop i (parts 3292 16 (drop 4 m)))
+
+mix : (a b c d : Bool) → (a && b) && (c && d) ≡ (a && c) && (b && d)
+mix true true c d = refl
+mix true false true d = refl
+mix true false false d = refl
+mix false b c d = refl
+
+left-step : (m : List ℕ) (last i : ℕ) → i < 16 → leftGood m last i ≡ slotTest m i last && leftGood m last (i + 1)
+unfolding leftGood goodSlots plain slotTest
+left-step m last i h =
+    let p = parts 3292 16 (drop 4 m) in
+    let b = take 3292 (drop (4 + 3292 * i) m) in
+    let s : drop i (stateOf m .slots) ≡ slotOf b ∷ drop (i + 1) (stateOf m .slots)
+    = drop-cons (stateOf m .slots) i free (rw (sixteen m) h) ∙ rw (slot-at m i h, add-one) in
+    let q : drop i p ≡ b ∷ drop (i + 1) p = drop-cons p i [] (rw (parts-length 3292 16 (drop 4 m)) h) ∙ rw (slot-part m i h, add-one) in
+    rw (s, q)
+    (mix (goodSlot (stateOf m .slots) last (slotOf b) (drop (i + 1) (stateOf m .slots))) (goodSlots (stateOf m .slots) last (drop (i + 1) (stateOf m .slots)))
+    (same (slotBytes (slotOf b)) b) (plain (drop (i + 1) p)))
+
+pub record Auditing (m : List ℕ) (last i : ℕ) : Type 0 where
+  pub sized : length m ≡ 52676
+  pub inside : i ≤ 16
+  pub left : good m ≡ leftGood m last i
+
+pub wrong-length : (m : List ℕ) → (length m ≡ 52676 → ⊥) → false ≡ good m
+unfolding good
+wrong-length m h = rw (ne-eqb (length m) 52676 h)
+
+pub auditing-begins : {m : List ℕ} {last : ℕ} → length m ≡ 52676 → last ≡ stateOf m .last → Auditing m last 0
+unfolding good leftGood
+auditing-begins {m} {last} l e = record { sized = l; inside = omega arith; left = rw (eq-eqb (length m) 52676 l, e) }
+
+module _ {m : List ℕ} {last i : ℕ} (a : Auditing m last i) where
+  module _ (h : i < 16) {r : Bool} (e : r ≡ slotTest m i last) where
+    pub auditing-more : not r ≡ false → Auditing m last (i + 1)
+    auditing-more t = record { sized = a .sized; inside = omega arith; left = a .left ∙ left-step m last i h ∙ rw (← e, not-false r t) }
+
+    pub auditing-stops : not r ≡ true → false ≡ good m
+    auditing-stops t = sym (a .left ∙ left-step m last i h ∙ rw (← e, not-true r t))
+
+  pub auditing-ends : 16 ≤ i → true ≡ good m
+  unfolding leftGood goodSlots plain
+  auditing-ends h =
+      sym (a .left
+      ∙ rw (
+        drop-of-length-le (stateOf m .slots) {i = i} (rw (sixteen m) h),
+        drop-of-length-le (parts 3292 16 (drop 4 m)) {i = i} (rw (parts-length 3292 16 (drop 4 m)) h),
+      ))
+
+pub ruleset auditing = (wrong-length, auditing-begins, auditing-more, auditing-stops, auditing-ends, needs)

@@ -1,0 +1,28 @@
+-- `audit::are_calls_good` meets its contract. Assumes nothing.
+use Prim.Native.Nat.{_-_}
+use Rattle.audit.proofs.Calls.{Calling, calling}
+use Rattle.audit.proofs.are_calls_good.Statement.{statement}
+use Rattle.audit.proofs.are_calls_good.Tie as tie
+
+abbrev Inv-loop : tie.InvT-loop
+Inv-loop memory i count j₀ j = Calling memory i count j
+
+abbrev μ-loop : tie.MeasureT-loop
+μ-loop memory i count j₀ j = count - j
+
+pub are-calls-good-spec : {M : Type 1} → statement M
+are-calls-good-spec =
+    tie.close
+    (tie.spec
+    Inv-loop
+    μ-loop
+    (λ c κs. search calling)
+    (λ c. search calling)
+    (λ c κs. search calling)
+    (λ c. search calling)
+    (λ c κs. search calling)
+    (λ c. search calling)
+    (λ c. search calling)
+    (λ c. search calling)
+    (λ c. search calling)
+    (λ c. search calling))

@@ -1,0 +1,37 @@
+-- `audit::are_cells_plain` meets its contract. Assumes nothing.
+use Prim.Native.Nat.{_-_}
+use Rattle.audit.proofs.Shape.{Celling, celling}
+use Rattle.audit.proofs.are_cells_plain.Statement.{statement}
+use Rattle.audit.proofs.are_cells_plain.Tie as tie
+
+abbrev Inv-loop : tie.InvT-loop
+Inv-loop memory i n j₀ j = Celling memory i n j
+
+abbrev μ-loop : tie.MeasureT-loop
+μ-loop memory i n j₀ j = n - j
+
+pub are-cells-plain-spec : {M : Type 1} → statement M
+are-cells-plain-spec =
+    tie.close
+    (tie.spec
+    Inv-loop
+    μ-loop
+    (λ c κs. search celling)
+    (λ c. search celling)
+    (λ c. search celling)
+    (λ c. search celling)
+    (λ c κs. search celling)
+    (λ c. search celling)
+    (λ c. search celling)
+    (λ c. search celling)
+    (λ c. search celling)
+    (λ c. search celling)
+    (λ c. search celling)
+    (λ c. search celling)
+    (λ c. search celling)
+    (λ c. search celling)
+    (λ c. search celling)
+    (λ c. search celling)
+    (λ c. search celling)
+    (λ c κs. search celling)
+    (λ c. search celling))

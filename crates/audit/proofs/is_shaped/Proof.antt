@@ -1,0 +1,19 @@
+-- `audit::is_shaped` meets its contract. Assumes nothing.
+use Rattle.audit.proofs.Slots.{shapes}
+use Rattle.audit.proofs.is_shaped.Statement.{statement}
+use Rattle.audit.proofs.is_shaped.Tie as tie
+
+pub is-shaped-spec : {M : Type 1} → statement M
+is-shaped-spec =
+    tie.close
+    (tie.spec
+    (λ c. search shapes)
+    (λ c. search shapes)
+    (λ c. search shapes)
+    (λ c κs. search shapes)
+    (λ c. search shapes)
+    (λ c κs. search shapes)
+    (λ c κs. search shapes)
+    (λ c. search shapes)
+    (λ c κs. search shapes)
+    (λ c. search shapes))

@@ -1,0 +1,216 @@
+// Is a lent memory good? Each slot is tested by itself, beside the slots after it.
+use names::Form;
+use wire::Order;
+ghost use mathlib.Core.Path.{_≡_};
+ghost use mathlib.Core.Bool.{_&&_};
+ghost use mathlib.Core.List.{List};
+ghost use Prim.Native.Nat.{_+_, _-_, _*_, _≤_, _<_};
+ghost use lib.Dec.{leb};
+ghost use lib.ListN.{length, take, drop, getD};
+ghost use Rattle.wire.specs.Bytes.{allZero};
+ghost use Rattle.wire.specs.Words.{wordAt};
+ghost use Rattle.wire.specs.declared.Order.the-variants.{Little};
+ghost use Rattle.rules.specs.Addresses.{ownable};
+ghost use Rattle.memory.specs.Encoding.{stateOf};
+ghost use Rattle.memory.specs.Good.{goodNames, goodPending, goodPeer, good};
+ghost use Rattle.memory.proofs.Reading.{numberAt};
+ghost use Rattle.stream.specs.Tail.{goodTail};
+ghost use Rattle.slots.specs.Slots.{peerAt, At};
+ghost use Rattle.audit.specs.Tests.{nameTest, callTest, plainCell, tableTest, cellsTest, shapeTest, slotTest};
+
+// A name that a peer may own: well-known, and not the bus's.
+pub fn is_ownable(name: &[u8]) -> bool
+    ensures { λ r. ⌜ r ≡ ownable (now (name .entry)) ⌝ }
+{
+    names::is_valid(Form::WellKnown, name) & !wire::equal(name, b"org.freedesktop.DBus")
+}
+
+// Name j of slot i is ownable, and stands nowhere else from there on.
+fn is_name_good(memory: &[u8], i: usize, j: usize) -> bool
+    requires { ⌜ (length (now memory) ≡ 52676) × (i < 16) × (j < 4) ⌝ }
+    ensures { λ r. ⌜ (r ≡ nameTest (now (memory .entry)) i j) × (getD (now (memory .entry)) (4 + 3292 * i + 212 + 256 * j) 0 < 256) ⌝ }
+{
+    let at = 4 + 3292 * i + 212 + 256 * j;
+    let from = at + 1;
+    let to = from + wire::wide(memory[at]) as usize;
+    let name = &memory[from..to];
+    if !is_ownable(name) {
+        return false;
+    }
+    if slots::owns_name(memory, i, name, j + 1) {
+        return false;
+    }
+    16 <= slots::find_owner(memory, name, i + 1)
+}
+
+// Every name of slot i is ownable, and stands once from there on.
+fn are_names_good(memory: &[u8], i: usize) -> bool
+    requires { ⌜ At (now memory) i ⌝ }
+    ensures { λ r. ⌜ r ≡ goodNames (peerAt (now (memory .entry)) i .names) (drop (i + 1) (stateOf (now (memory .entry)) .slots)) ⌝ }
+{
+    let count = wire::least(slots::word_at(memory, i, 208) as usize, 4);
+    let mut j = 0;
+    while j < count {
+        if !is_name_good(memory, i, j) {
+            return false;
+        }
+        j += 1;
+    }
+    true
+}
+
+// Pending call j of slot i has a connected callee and a serial, and stands once from there on.
+fn is_call_good(memory: &[u8], i: usize, j: usize) -> bool
+    requires { ⌜ (length (now memory) ≡ 52676) × (i < 16) × (j < length (peerAt (now memory) i .pending)) × (length (peerAt (now memory) i .pending) ≤ 16) ⌝ }
+    ensures { λ r. ⌜ r ≡ callTest (now (memory .entry)) i j ⌝ }
+{
+    let callee = slots::word_at(memory, i, 80 + 8 * j);
+    let serial = slots::word_at(memory, i, 84 + 8 * j);
+    if 16 <= slots::find(memory, callee, 0) {
+        return false;
+    }
+    if serial == 0 {
+        return false;
+    }
+    let count = wire::least(slots::word_at(memory, i, 76) as usize, 16);
+    count <= slots::find_pending(memory, i, callee, serial, j + 1)
+}
+
+// Every pending call of slot i has a connected callee and a serial, and stands once.
+fn are_calls_good(memory: &[u8], i: usize) -> bool
+    requires { ⌜ At (now memory) i ⌝ }
+    ensures { λ r. ⌜ r ≡ goodPending (stateOf (now (memory .entry)) .slots) (peerAt (now (memory .entry)) i .pending) ⌝ }
+{
+    let count = wire::least(slots::word_at(memory, i, 76) as usize, 16);
+    let mut j = 0;
+    while j < count {
+        if !is_call_good(memory, i, j) {
+            return false;
+        }
+        j += 1;
+    }
+    true
+}
+
+// w times n, where w times k is small.
+fn scaled(w: usize, n: usize, k: usize) -> usize
+    requires { ⌜ (n ≤ k) × (w * k ≤ 2048) ⌝ }
+    ensures { λ r. ⌜ (r ≡ w * n) × (w * n ≤ w * k) ⌝ }
+{
+    w * n
+}
+
+// The table at a place has at most k things of w bytes, and zeros behind them.
+fn is_table(memory: &[u8], at: usize, w: usize, k: usize) -> bool
+    requires { ⌜ (length (now memory) ≡ 52676) × (w * k ≤ 2048) × (at + 4 + w * k ≤ 52676) ⌝ }
+    ensures { λ r. ⌜ r ≡ tableTest (now (memory .entry)) at w k ⌝ }
+{
+    let n = wire::u32_at(Order::Little, memory, at) as usize;
+    if k < n {
+        return false;
+    }
+    let from = at + 4 + scaled(w, n, k);
+    let to = at + 4 + scaled(w, k, k);
+    wire::is_zero(memory, from, to)
+}
+
+// Behind name j of slot i its cell is zero.
+fn is_cell_plain(memory: &[u8], i: usize, j: usize) -> bool
+    requires { ⌜ (length (now memory) ≡ 52676) × (i < 16) × (j < 4) ⌝ }
+    ensures { λ r. ⌜ r ≡ plainCell (now (memory .entry)) i j ⌝ }
+{
+    let at = 4 + 3292 * i + 212 + 256 * j;
+    let from = at + 1 + wire::wide(memory[at]) as usize;
+    wire::is_zero(memory, from, at + 256)
+}
+
+// The names of slot i are at most 4, with zeros behind each and behind the last.
+fn are_cells_plain(memory: &[u8], i: usize) -> bool
+    requires { ⌜ At (now memory) i ⌝ }
+    ensures { λ r. ⌜ r ≡ cellsTest (now (memory .entry)) i ⌝ }
+{
+    let n = slots::word_at(memory, i, 208) as usize;
+    if 4 < n {
+        return false;
+    }
+    let mut j = 0;
+    while j < n {
+        if !is_cell_plain(memory, i, j) {
+            return false;
+        }
+        j += 1;
+    }
+    wire::is_zero(memory, 4 + 3292 * i + 212 + 256 * j, 4 + 3292 * i + 1236)
+}
+
+// Every place of slot i that is not in use is zero.
+fn is_shaped(memory: &[u8], i: usize) -> bool
+    requires { ⌜ At (now memory) i ⌝ }
+    ensures { λ r. ⌜ r ≡ shapeTest (now (memory .entry)) i ⌝ }
+{
+    let at = 4 + 3292 * i;
+    is_table(memory, at + 8, 4, 16)
+        & is_table(memory, at + 76, 8, 16)
+        & are_cells_plain(memory, i)
+        & is_table(memory, at + 1240, 1, 2048)
+}
+
+// The stream of slot i is good.
+fn is_stream_good(memory: &[u8], i: usize) -> bool
+    requires { ⌜ At (now memory) i ⌝ }
+    ensures { λ r. ⌜ r ≡ goodTail (peerAt (now (memory .entry)) i .stream) ⌝ }
+{
+    let taken = slots::word_at(memory, i, 1236) as usize;
+    let stored = wire::least(slots::word_at(memory, i, 1240) as usize, 2048);
+    let from = 4 + 3292 * i + 1244;
+    let to = from + 2048;
+    stream::is_good(taken, &memory[from..to], stored)
+}
+
+// The peer of slot i keeps the rules, beside the slots after it.
+fn is_peer_good(memory: &[u8], i: usize, number: u32, last: u32) -> bool
+    requires { ⌜ (length (now memory) ≡ 52676) × (i < 16) × (number ≡ numberAt (now memory) i) × (1 ≤ number) ⌝ }
+    ensures { λ r. ⌜ r ≡ goodPeer (stateOf (now (memory .entry)) .slots) last (peerAt (now (memory .entry)) i) (drop (i + 1) (stateOf (now (memory .entry)) .slots)) ⌝ }
+{
+    if last < number {
+        return false;
+    }
+    if slots::find(memory, number, i + 1) < 16 {
+        return false;
+    }
+    are_calls_good(memory, i) & are_names_good(memory, i) & is_stream_good(memory, i)
+}
+
+// Slot i is good, beside the slots after it.
+fn is_slot_good(memory: &[u8], i: usize, last: u32) -> bool
+    requires { ⌜ At (now memory) i ⌝ }
+    ensures { λ r. ⌜ r ≡ slotTest (now (memory .entry)) i last ⌝ }
+{
+    let number = slots::number_at(memory, i);
+    if number == 0 {
+        let from = 4 + 3292 * i;
+        return wire::is_zero(memory, from, from + 3292);
+    }
+    if !is_shaped(memory, i) {
+        return false;
+    }
+    is_peer_good(memory, i, number, last)
+}
+
+// The memory is good: 01's test for answer 51.
+pub fn is_good(memory: &[u8]) -> bool
+    ensures { λ r. ⌜ r ≡ good (now (memory .entry)) ⌝ }
+{
+    if memory.len() != 52676 {
+        return false;
+    }
+    let last = slots::last_of(memory);
+    let mut i = 0;
+    while i < 16 {
+        if !is_slot_good(memory, i, last) {
+            return false;
+        }
+        i += 1;
+    }
+    true
+}

@@ -1,0 +1,133 @@
+-- A piece offered whole comes to its bytes offered one by one: over any step that a piece makes, of which four laws are asked. Assumes nothing: the laws
+-- are named by the sections.
+use mathlib.Core.Path.{_≡_, refl, sym, ap, _∙_}
+use mathlib.Core.Bool.{Bool, true, false, not, _&&_, false≢true}
+use mathlib.Core.List.{List, [], _∷_, _++_, append-assoc, append-nil}
+use Prim.Native.Nat.{ℕ, suc}
+use lib.Dec.{ltb}
+use lib.ListN.{length, drop, drop-of-length-le}
+use borrow.Author.Tests.{ltb-false}
+use Rattle.rules.specs.State.{State}
+use Rattle.rules.specs.Judge.{refusal}
+use Rattle.rules.specs.Calls.{Step, stays, noPiece}
+use Rattle.rules.specs.declared.Judgement.{Judgement}
+use Rattle.rules.specs.declared.Taken.{Taken}
+use Rattle.book.specs.Split.{isStop, goesOn, said}
+
+-- the verdicts of an offering, and the state that it leaves
+pub record Heard (S : Type 0) : Type 0 where
+  pub said : List Judgement
+  pub state : State S
+
+abbrev pub hears : {S : Type 0} → List Judgement → Heard S → Heard S
+hears vs a = record { said = vs ++ a .said; state = a .state }
+
+-- the same step with one byte more taken
+abbrev pub bumped : {S : Type 0} → Step S Taken → Step S Taken
+bumped z = record { state = z .state; result = record { judgement = z .result .judgement; taken = suc (z .result .taken) } }
+
+module _ {S : Type 0} (step : State S → List ℕ → Step S Taken) where
+  -- every piece is refused, with an answer that is no verdict
+  pub record Refuses (s : State S) : Type 0 where
+    pub answer : ℕ
+    pub silent : said (noPiece answer) ≡ []
+    pub refused : (p : List ℕ) → step s p ≡ stays s (noPiece answer)
+
+  -- an empty piece is refused, or is 10 with nothing taken
+  pub data Idle (s : State S) : Type 0 where
+    idle-refuses : Refuses s → Idle s
+    idles : step s [] ≡ stays s (record { judgement = refusal 10; taken = 0 }) → Idle s
+
+  -- a piece's first byte: refused, or joined without a verdict, or decided there and then
+  pub data Way (s : State S) (b : ℕ) (p : List ℕ) : Type 0 where
+    refuses : Refuses s → Way s b p
+    joins : said (step s (b ∷ []) .result) ≡ [] → step s (b ∷ p) ≡ bumped (step (step s (b ∷ []) .state) p) → Way s b p
+    decides : step s (b ∷ p) ≡ step s (b ∷ []) → step s (b ∷ []) .result .taken ≡ 1
+        → (isStop (step s (b ∷ []) .result .judgement .answer) ≡ true → Refuses (step s (b ∷ []) .state))
+        → Way s b p
+
+  pub record Laws : Type 0 where
+    pub idle : (s : State S) → Idle s
+    pub way : (s : State S) (b : ℕ) (p : List ℕ) → Way s b p
+
+  -- the bytes one by one
+  unfoldable pub bytewise : State S → List ℕ → Heard S
+  bytewise s [] = record { said = []; state = s }
+  bytewise s (b ∷ p) = hears (said (step s (b ∷ []) .result)) (bytewise (step s (b ∷ []) .state) p)
+
+  pub bytewise-none : (s : State S) → bytewise s [] ≡ record { said = []; state = s }
+  unfolding bytewise
+  bytewise-none s = refl
+
+  -- in parts or whole
+  pub bytewise-append : (s : State S) (p q : List ℕ) → bytewise s (p ++ q) ≡ hears (bytewise s p .said) (bytewise (bytewise s p .state) q)
+  unfolding bytewise
+  bytewise-append s [] q = refl
+  bytewise-append s (b ∷ p) q =
+      let vs = said (step s (b ∷ []) .result) in
+      let t = step s (b ∷ []) .state in
+      ap (hears vs) (bytewise-append t p q)
+      ∙ ap (λ (l : List Judgement). record { said = l; state = bytewise (bytewise t p .state) q .state }) (sym (append-assoc vs (bytewise t p .said) (bytewise (bytewise t p .state) q .said)))
+
+  -- what refuses is silent
+  pub refused-silent : (s : State S) (p : List ℕ) → Refuses s → bytewise s p ≡ record { said = []; state = s }
+  unfolding bytewise
+  refused-silent s [] r = refl
+  refused-silent s (b ∷ p) r =
+      ap (λ (z : Step S Taken). hears (said (z .result)) (bytewise (z .state) p)) (r .refused (b ∷ []))
+      ∙ ap (λ (l : List Judgement). hears l (bytewise s p)) (r .silent)
+      ∙ refused-silent s p r
+
+  -- what a call with the piece p gives, and then the bytes that it left
+  abbrev pub call-then : List ℕ → Step S Taken → Heard S
+  call-then p z = hears (said (z .result)) (bytewise (z .state) (drop (z .result .taken) p))
+
+  module _ (laws : Laws) where
+    pub call-first : (s : State S) (p : List ℕ) → bytewise s p ≡ call-then p (step s p)
+    unfolding bytewise
+    call-first s [] = go (laws .idle s)
+      where
+        go : Idle s → bytewise s [] ≡ call-then [] (step s [])
+        go (idle-refuses r) = sym (ap (call-then []) (r .refused []) ∙ ap (λ (l : List Judgement). hears l (bytewise s [])) (r .silent))
+        go (idles e) = sym (ap (call-then []) e)
+    call-first s (b ∷ p) = go (laws .way s b p) (call-first (step s (b ∷ []) .state) p)
+      where
+        t : State S
+        t = step s (b ∷ []) .state
+
+        go : Way s b p → bytewise t p ≡ call-then p (step t p) → bytewise s (b ∷ p) ≡ call-then (b ∷ p) (step s (b ∷ p))
+        go (refuses r) ih = sym (ap (call-then (b ∷ p)) (r .refused (b ∷ p)) ∙ ap (λ (l : List Judgement). hears l (bytewise s (b ∷ p))) (r .silent))
+        go (joins q e) ih = ap (λ (l : List Judgement). hears l (bytewise t p)) q ∙ ih ∙ sym (ap (call-then (b ∷ p)) e)
+        go (decides e k f) ih = sym (ap (call-then (b ∷ p)) e ∙ ap (λ (n : ℕ). hears (said (step s (b ∷ []) .result)) (bytewise t (drop n (b ∷ p)))) k)
+
+    -- an answer that ends an offering leaves a state that refuses
+    stopped : (s : State S) (p : List ℕ) → isStop (step s p .result .judgement .answer) ≡ true → Refuses (step s p .state)
+    stopped s [] h = go (laws .idle s)
+      where
+        go : Idle s → Refuses (step s [] .state)
+        go (idle-refuses r) = rw (r .refused []) r
+        go (idles e) = absurd (false≢true (rw e at h))
+    stopped s (b ∷ p) h = go (laws .way s b p) (stopped (step s (b ∷ []) .state) p)
+      where
+        t : State S
+        t = step s (b ∷ []) .state
+
+        go : Way s b p → (isStop (step t p .result .judgement .answer) ≡ true → Refuses (step t p .state)) → Refuses (step s (b ∷ p) .state)
+        go (refuses r) ih = rw (r .refused (b ∷ p)) r
+        go (joins q e) ih = rw e (ih (rw e at h))
+        go (decides e k f) ih = rw e (f (rw e at h))
+
+    -- where the offering ends, the bytes left say nothing
+    pub call-last : (s : State S) (p : List ℕ) → goesOn (step s p .result) p ≡ false
+        → bytewise s p ≡ record { said = said (step s p .result); state = step s p .state }
+    call-last s p h =
+        let z = step s p in
+        call-first s p ∙ ap (hears (said (z .result))) (go (isStop (z .result .judgement .answer)) refl h) ∙ ap (λ (l : List Judgement). record { said = l; state = z .state }) (append-nil (said (z .result)))
+      where
+        z : Step S Taken
+        z = step s p
+
+        go : (b : Bool) → isStop (z .result .judgement .answer) ≡ b → not b && ltb (z .result .taken) (length p) ≡ false
+            → bytewise (z .state) (drop (z .result .taken) p) ≡ record { said = []; state = z .state }
+        go true e l = refused-silent (z .state) (drop (z .result .taken) p) (stopped s p e)
+        go false e l = ap (bytewise (z .state)) (drop-of-length-le p (ltb-false (z .result .taken) (length p) l)) ∙ bytewise-none (z .state)

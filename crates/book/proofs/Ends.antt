@@ -1,0 +1,91 @@
+-- An offering ends, whatever the memory, the image and the piece: a call that does not end it takes at least one byte. Assumes nothing.
+use mathlib.Core.Path.{_≡_, refl, sym}
+use mathlib.Core.Bool.{Bool, true, false, cond, not, false≢true}
+use mathlib.Core.List.{List, _++_}
+use Prim.Native.Nat.{ℕ, zero, suc, _<_}
+use native.Mathlib.Omega.{arith}
+use lib.Dec.{ltb}
+use lib.ListN.{length, drop, length-drop}
+use borrow.Author.Tests.{ltb-true, not-true}
+use Rattle.wire.proofs.Texts.{both-first, both-second}
+use Rattle.image.specs.Good.{goodImage}
+use Rattle.stream.specs.Stream.{Verdict, more, broken, whole, Streams, offer, settled}
+use Rattle.stream.specs.Tail.{tails}
+use Rattle.stream.proofs.Offers.{taken-some}
+use Rattle.rules.specs.State.{Slot, free, peer, Peer, State, isPeer, firstBy, putSlot, withStream}
+use Rattle.rules.specs.Calls.{Step, stays, slotAt, noPiece, offered, offeredTo, pieceAt, piece}
+use Rattle.rules.specs.declared.Judgement.{Judgement}
+use Rattle.rules.specs.declared.Taken.{Taken}
+use Rattle.rules.proofs.Tests.{choice}
+use Rattle.memory.specs.Encoding.{stateOf}
+use Rattle.memory.specs.Good.{good}
+use Rattle.memory.specs.Calls.{Left, Did, stored, kept, pieceOn}
+use Rattle.book.specs.Split.{isStop, goesOn, said, Offers, ends, again}
+
+-- the answer ends an offering, or bytes were taken
+abbrev Takes : Taken → Type 0
+Takes r = isStop (r .judgement .answer) ≡ false → 0 < r .taken
+
+module _ {S : Type 0} (O : Streams S) (image : List ℕ) (s : State S) (p : List ℕ) (l : 0 < length p) where
+  offered-takes : (z : State S) (i : ℕ) (q : Peer S) (n : ℕ) (v : Verdict) → 0 < n → Takes (offered image z i q n v .result)
+  offered-takes z i q n more k e = k
+  offered-takes z i q n (broken a) k e = k
+  offered-takes z i q n (whole h x) k e = k
+
+  at-takes : (i : ℕ) (y : Slot S) → Takes (pieceAt O image s i y p .result)
+  at-takes i free = λ e. absurd (false≢true (sym e))
+  at-takes i (peer q) =
+      let o = offer O (q .stream) p in
+      let r = withStream q (settled O (o .verdict) (o .stream)) in
+      choice (λ (z : Step S Taken). Takes (z .result)) (O .closed (q .stream)) (stays s (noPiece 40)) (offeredTo O image s i q o)
+      (λ c e. absurd (false≢true (sym e)))
+      (λ c. offered-takes (putSlot s i (peer r)) i r (o .taken) (o .verdict) (taken-some O (q .stream) p l))
+
+  -- "On an open stream a non-empty piece always loses at least one byte"
+  pub piece-takes : (n : ℕ) → Takes (piece O image s n p .result)
+  unfolding piece
+  piece-takes n = let i = firstBy (isPeer n) (s .slots) in at-takes i (slotAt s i)
+
+module _ (image : List ℕ) (n : ℕ) where
+  call-takes : (m p : List ℕ) → 0 < length p → Takes (pieceOn image m n p .result)
+  unfolding pieceOn
+  call-takes m p l =
+      let step = piece tails image (stateOf m) n p in
+      let over = cond (good m) (stored step) (kept m (noPiece 51)) in
+      let P : Left Taken → Type 0 = λ z. Takes (z .result) in
+      choice P (goodImage image) over (kept m (noPiece 50))
+      (λ a. choice P (good m) (stored step) (kept m (noPiece 51)) (λ b. piece-takes tails image (stateOf m) p l n) (λ b e. absurd (false≢true (sym e))))
+      (λ a e. absurd (false≢true (sym e)))
+
+  pub record Ended (m p : List ℕ) : Type 0 where
+    pub memory : List ℕ
+    pub verdicts : List Judgement
+    pub offered : Offers image n memory m p verdicts
+
+  ending : (k : ℕ) (m p : List ℕ) → length p < k → Ended m p
+  ending zero m p l = absurd (omega arith)
+  ending (suc k) m p l = go (goesOn r p) refl (ending k d (drop (r .taken) p))
+    where
+      r : Taken
+      r = pieceOn image m n p .result
+
+      d : List ℕ
+      d = pieceOn image m n p .memory
+
+      did : Did (pieceOn image m n p) r d
+      did = record { result = refl; memory = refl }
+
+      less : goesOn r p ≡ true → length (drop (r .taken) p) < k
+      less e =
+          let t = ltb-true (r .taken) (length p) (both-second (not (isStop (r .judgement .answer))) (ltb (r .taken) (length p)) e) in
+          let q = call-takes m p (omega arith) (not-true (isStop (r .judgement .answer)) (both-first (not (isStop (r .judgement .answer))) (ltb (r .taken) (length p)) e)) in
+          omega (arith, length-drop (r .taken) p)
+
+      go : (b : Bool) → goesOn r p ≡ b → (length (drop (r .taken) p) < k → Ended d (drop (r .taken) p)) → Ended m p
+      go false e f = record { memory = d; verdicts = said r; offered = ends did e }
+      go true e f =
+          let i = f (less e) in
+          record { memory = i .memory; verdicts = said r ++ i .verdicts; offered = again did e (i .offered) }
+
+  pub offering-ends : (m p : List ℕ) → Ended m p
+  offering-ends m p = ending (suc (length p)) m p (omega arith)

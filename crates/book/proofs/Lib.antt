@@ -1,0 +1,12 @@
+pub mod Serial
+pub mod Cut
+pub mod Tails
+pub mod Numbers
+pub mod Never
+pub mod List
+pub mod Bytewise
+pub mod Ways
+pub mod Split
+pub mod Bench
+pub mod Consequences
+pub mod Ends

@@ -1,0 +1,174 @@
+-- Every list of calls (01, demand 3): calls made one after the other on a started guard, each as its contract says, answer what the model answers, and
+-- leave the bytes of what the model holds. Assumes nothing.
+use mathlib.Core.Path.{_≡_, refl, ap, ap₂, _∙_, subst}
+use mathlib.Core.Bool.{Bool, true, false, cond}
+use mathlib.Core.List.{List, _∷_}
+use Prim.Native.Nat.{ℕ, _<_}
+use lib.ListN.{length}
+use borrow.Author.Tests.{eq-eqb}
+use Rattle.image.specs.Good.{goodImage}
+use Rattle.stream.specs.Tail.{Tail, tails}
+use Rattle.stream.proofs.Good.{fresh-good}
+use Rattle.rules.specs.State.{State}
+use Rattle.rules.specs.Calls.{Step, stays, empty, connect, own, release, piece, disconnect, noConnect, noPiece, noGone}
+use Rattle.rules.specs.declared.Connected.{Connected}
+use Rattle.rules.specs.declared.Taken.{Taken}
+use Rattle.rules.specs.declared.Gone.{Gone}
+use Rattle.rules.proofs.Tests.{choice}
+use Rattle.rules.proofs.View.{chosen, seen, seenStep}
+use Rattle.rules.proofs.Seen.{connect-seen, own-seen, release-seen, piece-seen, disconnect-seen}
+use Rattle.memory.specs.Layout.{memoryLength}
+use Rattle.memory.specs.Encoding.{memoryOf, stateOf}
+use Rattle.memory.specs.Sound.{Sound}
+use Rattle.memory.specs.Calls.{Left, Did, stored, kept, onMemory, onImage, startOn, connectOn, ownOn, releaseOn, pieceOn, disconnectOn}
+use Rattle.memory.proofs.Sound.{state-again, good-memory}
+use Rattle.memory.proofs.Frame.{memory-length}
+use Rattle.memory.proofs.Octets.{every-below}
+use Rattle.sound.proofs.Keep.{empty-sound, connect-sound, own-sound, release-sound, piece-sound, disconnect-sound}
+use Rattle.book.specs.Book.{books, tailView}
+use Rattle.book.specs.Lists.{Call, starts, Answer, plain, connected, taken, gone, entry, answers, after, Below}
+use Rattle.book.specs.Lists.{Ran, ran-start, ran-connect, ran-own, ran-release, ran-piece, ran-leave, Run, done, then, Agrees}
+use Rattle.book.proofs.Serial.{header-serial, offer-keeps}
+use Rattle.book.proofs.Tails.{sees}
+use Rattle.book.proofs.Never.{nevers}
+
+-- ---- a step over the bytes of a sound state
+
+module _ {R : Type 0} (s : State Tail) (g : Sound s) (refuse : ℕ → R) (step : State Tail → Step Tail R) where
+  pub on-memory : onMemory refuse (memoryOf s) (step (stateOf (memoryOf s))) ≡ stored (step s)
+  on-memory = rw (good-memory s g, state-again s g)
+
+  pub on-image : (image : List ℕ) → onImage refuse image (memoryOf s) (step (stateOf (memoryOf s))) ≡ stored (cond (goodImage image) (step s) (stays s (refuse 50)))
+  on-image image = rw on-memory (go (goodImage image))
+    where
+      go : (b : Bool) → cond b (stored (step s)) (kept (memoryOf s) (refuse 50)) ≡ stored (cond b (step s) (stays s (refuse 50)))
+      go true = refl
+      go false = refl
+
+-- ---- memory that holds the model's state
+
+pub record Holds (m : List ℕ) (b : State (List ℕ)) : Type 0 where
+  pub bytes : m ≡ memoryOf (seen tailView b)
+  pub sound : Sound (seen tailView b)
+
+-- what a call is shown to do: it answers as the model's step does, and memory holds the state after it
+pub record Meets {R : Type 0} (say : R → Answer) (z : Step (List ℕ) R) (r : R) (e : List ℕ) : Type 0 where
+  pub answer : say r ≡ say (z .result)
+  pub holds : Holds e (z .state)
+
+module _ {R : Type 0} (say : R → Answer) {m : List ℕ} {b : State (List ℕ)} (h : Holds m b) (refuse : ℕ → R) (step : State Tail → Step Tail R)
+    (z : Step (List ℕ) R) (seen-is : step (seen tailView b) ≡ seenStep tailView z) (keeps : Sound (step (seen tailView b) .state)) where
+  sound-after : Sound (seen tailView (z .state))
+  sound-after = subst (λ (y : Step Tail R). Sound (y .state)) seen-is keeps
+
+  meets-memory : {r : R} {e : List ℕ} → Did (onMemory refuse m (step (stateOf m))) r e → Meets say z r e
+  meets-memory d =
+      let q = ap (λ (x : List ℕ). onMemory refuse x (step (stateOf x))) (h .bytes) ∙ on-memory (seen tailView b) (h .sound) refuse step ∙ ap stored seen-is in
+      record { answer = ap say (d .result ∙ ap (λ (x : Left R). x .result) q); holds = record { bytes = d .memory ∙ ap (λ (x : Left R). x .memory) q; sound = sound-after } }
+
+  meets-image : (image : List ℕ) {r : R} {e : List ℕ} → Did (onImage refuse image m (step (stateOf m))) r e → Meets say (cond (goodImage image) z (stays b (refuse 50))) r e
+  meets-image image d =
+      let c : cond (goodImage image) (step (seen tailView b)) (stays (seen tailView b) (refuse 50)) ≡ seenStep tailView (cond (goodImage image) z (stays b (refuse 50)))
+      = chosen (seenStep tailView) (goodImage image) z (stays b (refuse 50)) (step (seen tailView b)) (stays (seen tailView b) (refuse 50)) seen-is refl in
+      let q = ap (λ (x : List ℕ). onImage refuse image x (step (stateOf x))) (h .bytes) ∙ on-image (seen tailView b) (h .sound) refuse step image ∙ ap stored c in
+      let k = choice (λ (y : Step (List ℕ) R). Sound (seen tailView (y .state))) (goodImage image) z (stays b (refuse 50)) (λ a. sound-after) (λ a. h .sound) in
+      record { answer = ap say (d .result ∙ ap (λ (x : Left R). x .result) q); holds = record { bytes = d .memory ∙ ap (λ (x : Left R). x .memory) q; sound = k } }
+
+-- ---- start
+
+pub empty-holds : Holds (memoryOf empty) empty
+empty-holds = record { bytes = refl; sound = empty-sound }
+
+start-holds : (m : List ℕ) {e : List ℕ} {r : ℕ} → length m ≡ memoryLength → Did (startOn m) r e → (r ≡ 0) × Holds e empty
+unfolding startOn
+start-holds m l d =
+    let t = eq-eqb (length m) memoryLength l in
+    (rw t at (d .result), record { bytes = rw t at (d .memory); sound = empty-sound })
+
+holds-length : {m : List ℕ} {b : State (List ℕ)} → Holds m b → length m ≡ memoryLength
+holds-length {b = b} h = ap length (h .bytes) ∙ memory-length (seen tailView b) (h .sound .sixteen)
+
+-- ---- one call
+
+record Told (b : State (List ℕ)) (c : Call) (a : Answer) (e : List ℕ) : Type 0 where
+  answer : a ≡ entry b c .answer
+  holds : Holds e (entry b c .state)
+
+module _ {m : List ℕ} (b : State (List ℕ)) (h : Holds m b) where
+  abbrev v : State Tail
+  v = seen tailView b
+
+  connect-meets : (image : List ℕ) (uid : ℕ) (gids : List ℕ) {r : Connected} {e : List ℕ} → uid < 4294967296 → Below 4294967296 gids
+      → Did (connectOn image m uid gids) r e
+      → Meets connected (cond (goodImage image) (connect books image b uid gids) (stays b (noConnect 50))) r e
+  unfolding connectOn
+  connect-meets image uid gids u w d =
+      meets-image connected h noConnect (λ s. connect tails image s uid gids) (connect books image b uid gids) (connect-seen books tails tailView sees image b uid gids)
+      (connect-sound fresh-good v uid gids (h .sound) u (every-below 4294967296 gids w) image) image d
+
+  own-meets : (image : List ℕ) (n : ℕ) (name : List ℕ) {r : ℕ} {e : List ℕ} → Did (ownOn image m n name) r e
+      → Meets plain (cond (goodImage image) (own image b n name) (stays b 50)) r e
+  unfolding ownOn
+  own-meets image n name d =
+      meets-image plain h (λ a. a) (λ s. own image s n name) (own image b n name) (own-seen tailView b image n name) (own-sound v (h .sound) image n name) image d
+
+  release-meets : (n : ℕ) (name : List ℕ) {r : ℕ} {e : List ℕ} → Did (releaseOn m n name) r e → Meets plain (release b n name) r e
+  unfolding releaseOn
+  release-meets n name d =
+      meets-memory plain h (λ a. a) (λ s. release s n name) (release b n name) (release-seen tailView b n name) (release-sound v (h .sound) n name) d
+
+  piece-meets : (image : List ℕ) (n : ℕ) (bytes : List ℕ) {r : Taken} {e : List ℕ} → Below 256 bytes → Did (pieceOn image m n bytes) r e
+      → Meets taken (cond (goodImage image) (piece books image b n bytes) (stays b (noPiece 50))) r e
+  unfolding pieceOn
+  piece-meets image n bytes w d =
+      meets-image taken h noPiece (λ s. piece tails image s n bytes) (piece books image b n bytes) (piece-seen books tails tailView sees image b n bytes)
+      (piece-sound offer-keeps header-serial v (h .sound) bytes (every-below 256 bytes w) image n) image d
+
+  leave-meets : (n : ℕ) {r : Gone} {e : List ℕ} → Did (disconnectOn m n) r e → Meets gone (disconnect books b n) r e
+  unfolding disconnectOn
+  leave-meets n d =
+      meets-memory gone h noGone (λ s. disconnect tails s n) (disconnect books b n) (disconnect-seen books tails tailView sees b n) (disconnect-sound v (h .sound) n) d
+
+  one : {e : List ℕ} {c : Call} {a : Answer} → Ran m e c a → Told b c a e
+  unfolding entry
+  one (ran-start d) = let s = start-holds m (holds-length h) d in record { answer = ap plain (s .0); holds = s .1 }
+  one (ran-connect {image} {uid} {gids} u w d) = let t = connect-meets image uid gids u w d in record { answer = t .answer; holds = t .holds }
+  one (ran-own {image} {n} {name} d) = let t = own-meets image n name d in record { answer = t .answer; holds = t .holds }
+  one (ran-release {n} {name} d) = let t = release-meets n name d in record { answer = t .answer; holds = t .holds }
+  one (ran-piece {image} {n} {bytes} w d) = let t = piece-meets image n bytes w d in record { answer = t .answer; holds = t .holds }
+  one (ran-leave {n} d) = let t = leave-meets n d in record { answer = t .answer; holds = t .holds }
+
+-- ---- the list
+
+pub record All (b : State (List ℕ)) (cs : List Call) (given : List Answer) (e : List ℕ) : Type 0 where
+  pub answered : given ≡ answers b cs
+  pub holds : Holds e (after b cs)
+
+all : {m e : List ℕ} {cs : List Call} {given : List Answer} (b : State (List ℕ)) → Holds m b → Run m cs given e → All b cs given e
+unfolding answers after
+all b h done = record { answered = refl; holds = h }
+all b h (then {c = c} r rs) =
+    let o = one b h r in
+    let a = all (entry b c .state) (o .holds) rs in
+    record { answered = ap₂ _∷_ (o .answer) (a .answered); holds = a .holds }
+
+-- after a start
+pub started : {m e : List ℕ} {cs : List Call} {given : List Answer} (b : State (List ℕ)) → length m ≡ memoryLength → Run m (starts ∷ cs) given e
+    → All b (starts ∷ cs) given e
+unfolding entry answers after
+started {m} b l (then (ran-start d) rs) =
+    let s = start-holds m l d in
+    let a = all empty (s .1) rs in
+    record { answered = ap₂ (λ (x : ℕ) (y : List Answer). plain x ∷ y) (s .0) (a .answered); holds = a .holds }
+
+all-agrees : {b : State (List ℕ)} {cs : List Call} {given : List Answer} {e : List ℕ} → All b cs given e → Agrees b cs given e
+all-agrees {b} {cs} a = record { answered = a .answered; never51 = rw (a .answered) (nevers b cs); memory = a .holds .bytes }
+
+-- THE CLAIM: a list that begins with a start, over any memory of the right length, and whatever the model held before
+pub list-claim : {m e : List ℕ} {cs : List Call} {given : List Answer} (b : State (List ℕ)) → length m ≡ memoryLength → Run m (starts ∷ cs) given e
+    → Agrees b (starts ∷ cs) given e
+list-claim b l r = all-agrees (started b l r)
+
+-- the same of an empty guard
+pub empty-claim : {e : List ℕ} {cs : List Call} {given : List Answer} → Run (memoryOf empty) cs given e → Agrees empty cs given e
+empty-claim r = all-agrees (all empty empty-holds r)

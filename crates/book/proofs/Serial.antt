@@ -1,0 +1,40 @@
+-- What the rules keep of messages: the serial of a whole head of bytes is a number of 32 bits and not 0, and an offer leaves an open stream good.
+-- Assumes nothing.
+use mathlib.Core.Bool.{true, false}
+use mathlib.Core.List.{List}
+use mathlib.Core.Path.{_≡_}
+use Prim.Native.Nat.{ℕ, _+_, _≤_, _<_}
+use native.Mathlib.Omega.{arith}
+use lib.ListN.{getD}
+use borrow.Author.Tests.{eqb-false}
+use Rattle.wire.specs.Words.{wordAt}
+use Rattle.wire.specs.declared.Order.{Order}
+use Rattle.wire.specs.declared.Order.the-variants.{Little, Big}
+use Rattle.header.specs.declared.Header.{Header}
+use Rattle.header.specs.declared.Reading.the-variants.{Whole}
+use Rattle.header.specs.Fixed.{orderOf, serialOf}
+use Rattle.header.specs.Header.{readHeader}
+use Rattle.stream.specs.Stream.{offer, settled}
+use Rattle.stream.specs.Tail.{Tail, tails, closed, goodTail}
+use Rattle.stream.proofs.Good.{open-more}
+use Rattle.stream.proofs.Pushes.{offer-good}
+use Rattle.header.proofs.Front.{fixed-good}
+use Rattle.header.proofs.Readings.{whole-fits}
+
+word-below : (o : Order) (s : List ℕ) (at : ℕ) → ((i : ℕ) → getD s i 0 < 256) → wordAt o s at < 4294967296
+unfolding wordAt
+word-below Little s at b = omega (arith, b at, b (at + 1), b (at + 2), b (at + 3))
+word-below Big s at b = omega (arith, b at, b (at + 1), b (at + 2), b (at + 3))
+
+pub header-serial : (h : List ℕ) (x : Header) → ((i : ℕ) → getD h i 0 < 256) → readHeader h ≡ Whole x → (1 ≤ x .serial) × (x .serial < 4294967296)
+header-serial h x b e =
+    let f = whole-fits h x e in
+    let g = fixed-good h (f .sizes) in
+    let n = eqb-false (serialOf h) 0 (g .serial) in
+    let w = word-below (orderOf h) h 8 b in
+    let s = f .serial-is in
+    (omega arith, omega arith)
+
+pub offer-keeps : (t : Tail) (p : List ℕ) → goodTail t ≡ true → closed t ≡ false
+    → goodTail (settled tails (offer tails t p .verdict) (offer tails t p .stream)) ≡ true
+offer-keeps t p g c = offer-good t p g (open-more t g c)

@@ -1,0 +1,58 @@
+-- The model, 01's book: its streams keep every byte taken since connect, and are cut again from the first byte at every question (01, "Demand 3's
+-- book"). The rules are the same as the guard's. Assumes nothing: these are definitions.
+use mathlib.Core.Bool.{Bool, true, false, cond, _&&_}
+use mathlib.Core.List.{List, [], _∷_, _++_}
+use Prim.Native.Nat.{ℕ, zero, suc, _+_}
+use lib.Dec.{ltb}
+use lib.ListN.{length, take, drop}
+use Rattle.stream.specs.Stream.{Verdict, more, broken, whole, Streams}
+use Rattle.stream.specs.Tail.{Tail, verdict, isBroken, headEnd, fresh}
+
+-- the verdict on the first message of xs, of which xs may have all bytes and more
+abbrev pub front : List ℕ → Verdict
+front xs = verdict (length xs) xs
+
+abbrev pub isWhole : Verdict → Bool
+isWhole more = false
+isWhole (broken a) = false
+isWhole (whole h x) = true
+
+-- a whole message's length: its head and its body
+abbrev pub size : Verdict → ℕ
+size more = 0
+size (broken a) = 0
+size (whole h x) = x .head + x .body
+
+-- xs goes on past its first message
+abbrev pub past : List ℕ → Bool
+past xs = isWhole (front xs) && ltb (size (front xs)) (length xs)
+
+-- the bytes of the message that the last byte of xs is in: whole messages are cut off from the front, at most n of them
+unfoldable pub cut : ℕ → List ℕ → List ℕ
+cut zero xs = xs
+cut (suc n) xs = elim (past xs) [ true ↦ cut n (drop (size (front xs)) xs) | false ↦ xs ]
+
+-- "The book cuts each stream from its first byte."
+abbrev pub current : List ℕ → List ℕ
+current xs = cut (length xs) xs
+
+abbrev pub books : Streams (List ℕ)
+books =
+    record {
+      fresh = [];
+      push = λ xs b. xs ++ (b ∷ []);
+      judge = λ xs. front (current xs);
+      next = λ xs. xs;
+      closed = λ xs. isBroken (front (current xs));
+      count = λ xs. cond (isWhole (front (current xs))) 0 (length (current xs));
+    }
+
+-- ---- the model's streams, as the guard keeps them
+
+-- the unfinished or broken message: how many of its bytes have come, and those of its head
+abbrev pub kept : List ℕ → Tail
+kept c = record { taken = length c; head = take (headEnd c) c }
+
+-- nothing is kept of a message that is whole
+abbrev pub tailView : List ℕ → Tail
+tailView xs = cond (isWhole (front (current xs))) fresh (kept (current xs))

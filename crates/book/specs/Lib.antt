@@ -1,0 +1,4 @@
+pub mod Book
+pub mod Lists
+pub mod Split
+pub mod Bench

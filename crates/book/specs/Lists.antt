@@ -1,0 +1,108 @@
+-- A list of calls; what the model answers to it; and what a run of the guard's calls is: each call is what its contract says, and no more is asked.
+-- Assumes nothing: these are definitions.
+use mathlib.Core.Bool.{cond}
+use mathlib.Core.List.{List, [], _∷_}
+use mathlib.Core.Path.{_≡_}
+use Prim.Native.Nat.{ℕ, _<_}
+use lib.ListN.{getD}
+use Rattle.image.specs.Good.{goodImage}
+use Rattle.rules.specs.State.{State}
+use Rattle.rules.specs.Calls.{Step, stays, empty, connect, own, release, piece, disconnect, noConnect, noPiece}
+use Rattle.rules.specs.declared.Connected.{Connected}
+use Rattle.rules.specs.declared.Taken.{Taken}
+use Rattle.rules.specs.declared.Gone.{Gone}
+use Rattle.memory.specs.Calls.{Did, startOn, connectOn, ownOn, releaseOn, pieceOn, disconnectOn}
+use Rattle.memory.specs.Encoding.{memoryOf}
+use Rattle.rules.proofs.View.{seen}
+use Rattle.book.specs.Book.{books, tailView}
+
+-- each with its arguments, and nothing of the guard's memory
+pub data Call : Type 0 where
+  starts : Call
+  connects : List ℕ → ℕ → List ℕ → Call
+  claims : List ℕ → ℕ → List ℕ → Call
+  releases : ℕ → List ℕ → Call
+  offers : List ℕ → ℕ → List ℕ → Call
+  leaves : ℕ → Call
+
+-- all that a call reports
+pub data Answer : Type 0 where
+  plain : ℕ → Answer
+  connected : Connected → Answer
+  taken : Taken → Answer
+  gone : Gone → Answer
+
+-- ---- the model
+
+pub record Entry : Type 0 where
+  pub answer : Answer
+  pub state : State (List ℕ)
+
+abbrev pub told : {R : Type 0} → (R → Answer) → Step (List ℕ) R → Entry
+told say s = record { answer = say (s .result); state = s .state }
+
+-- "Each call, refused or not, answers and changes it by the rules above, read over the book; 51 never comes." A bad image is 50.
+unfoldable pub entry : State (List ℕ) → Call → Entry
+entry b starts = record { answer = plain 0; state = empty }
+entry b (connects image uid gids) = told connected (cond (goodImage image) (connect books image b uid gids) (stays b (noConnect 50)))
+entry b (claims image n name) = told plain (cond (goodImage image) (own image b n name) (stays b 50))
+entry b (releases n name) = told plain (release b n name)
+entry b (offers image n bytes) = told taken (cond (goodImage image) (piece books image b n bytes) (stays b (noPiece 50)))
+entry b (leaves n) = told gone (disconnect books b n)
+
+unfoldable pub answers : State (List ℕ) → List Call → List Answer
+answers b [] = []
+answers b (c ∷ cs) = entry b c .answer ∷ answers (entry b c .state) cs
+
+-- the state of the model after a list of calls
+unfoldable pub after : State (List ℕ) → List Call → State (List ℕ)
+after b [] = b
+after b (c ∷ cs) = after (entry b c .state) cs
+
+-- ---- a run of the guard
+
+-- numbers that fit in so many bits, as a slice of them holds
+abbrev pub Below : ℕ → List ℕ → Type 0
+Below k p = (i : ℕ) → getD p i 0 < k
+
+-- one call from memory m to memory e, as its `ensures` says it
+pub data Ran (m e : List ℕ) : Call → Answer → Type 0 where
+  ran-start : {r : ℕ} → Did (startOn m) r e → Ran m e starts (plain r)
+  ran-connect : {image : List ℕ} {uid : ℕ} {gids : List ℕ} {r : Connected} → uid < 4294967296 → Below 4294967296 gids
+      → Did (connectOn image m uid gids) r e
+      → Ran m e (connects image uid gids) (connected r)
+  ran-own : {image : List ℕ} {n : ℕ} {name : List ℕ} {r : ℕ} → Did (ownOn image m n name) r e → Ran m e (claims image n name) (plain r)
+  ran-release : {n : ℕ} {name : List ℕ} {r : ℕ} → Did (releaseOn m n name) r e → Ran m e (releases n name) (plain r)
+  ran-piece : {image : List ℕ} {n : ℕ} {bytes : List ℕ} {r : Taken} → Below 256 bytes
+      → Did (pieceOn image m n bytes) r e
+      → Ran m e (offers image n bytes) (taken r)
+  ran-leave : {n : ℕ} {r : Gone} → Did (disconnectOn m n) r e → Ran m e (leaves n) (gone r)
+
+-- calls one after the other, each with the memory as the last left it
+pub data Run : List ℕ → List Call → List Answer → List ℕ → Type 0 where
+  done : {m : List ℕ} → Run m [] [] m
+  then : {m d e : List ℕ} {c : Call} {a : Answer} {cs : List Call} {rest : List Answer}
+      → Ran m d c a
+      → Run d cs rest e
+      → Run m (c ∷ cs) (a ∷ rest) e
+
+-- ---- answers
+
+-- 01's number of an answer
+abbrev pub numberOf : Answer → ℕ
+numberOf (plain a) = a
+numberOf (connected r) = r .answer
+numberOf (taken r) = r .judgement .answer
+numberOf (gone r) = r .answer
+
+abbrev pub Never51 : List Answer → Type 0
+Never51 [] = Unit {0}
+Never51 (a ∷ l) = (numberOf a ≡ 51 → ⊥) × Never51 l
+
+-- ---- the claim
+
+-- what calls answered and what they left is what the model says of them from state b on
+pub record Agrees (b : State (List ℕ)) (cs : List Call) (given : List Answer) (e : List ℕ) : Type 0 where
+  pub answered : given ≡ answers b cs
+  pub never51 : Never51 given
+  pub memory : e ≡ memoryOf (seen tailView (after b cs))

@@ -1,0 +1,1 @@
+// The model of every list of calls. There is no code here.

@@ -1,0 +1,17 @@
+-- `guard::connect` meets its contract. Assumes nothing.
+use Rattle.guard.proofs.Tested.{passed-image, passed-memory, calls}
+use Rattle.guard.proofs.connect.Statement.{statement}
+use Rattle.guard.proofs.connect.Tie as tie
+
+pub connect-spec : {M : Type 1} → statement M
+connect-spec =
+    tie.close
+    (tie.spec
+    (λ c κs. search calls)
+    (λ c. search calls)
+    (λ c κs. search calls)
+    (λ c. search calls)
+    (λ c. search calls)
+    (λ c κs. (search passed-image, passed-memory _ _ (c .before .before .is-good .ensures) (c .before .if2 .left)))
+    (λ c. search calls)
+    (λ c. search calls))

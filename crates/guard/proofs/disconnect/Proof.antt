@@ -1,0 +1,9 @@
+-- `guard::disconnect` meets its contract. Assumes nothing.
+use Rattle.guard.proofs.Tested.{calls}
+use Rattle.guard.proofs.disconnect.Statement.{statement}
+use Rattle.guard.proofs.disconnect.Tie as tie
+
+pub disconnect-spec : {M : Type 1} → statement M
+disconnect-spec =
+    tie.close
+    (tie.spec (λ c κs. search calls) (λ c. search calls) (λ c. search calls) (λ c κs. search calls) (λ c. search calls) (λ c. search calls))

@@ -1,0 +1,17 @@
+-- `guard::piece` meets its contract. Assumes nothing.
+use Rattle.guard.proofs.Tested.{passed-image, passed-memory, calls}
+use Rattle.guard.proofs.piece.Statement.{statement}
+use Rattle.guard.proofs.piece.Tie as tie
+
+pub piece-spec : {M : Type 1} → statement M
+piece-spec =
+    tie.close
+    (tie.spec
+    (λ c κs. search calls)
+    (λ c. search calls)
+    (λ c κs. search calls)
+    (λ c. search calls)
+    (λ c. search calls)
+    (λ c κs. (search passed-image, passed-memory _ _ (c .before .before .is-good .ensures) (c .before .if2 .left)))
+    (λ c. search calls)
+    (λ c. search calls))

@@ -1,0 +1,9 @@
+-- `guard::release` meets its contract. Assumes nothing.
+use Rattle.guard.proofs.Tested.{calls}
+use Rattle.guard.proofs.release.Statement.{statement}
+use Rattle.guard.proofs.release.Tie as tie
+
+pub release-spec : {M : Type 1} → statement M
+release-spec =
+    tie.close
+    (tie.spec (λ c κs. search calls) (λ c. search calls) (λ c. search calls) (λ c κs. search calls) (λ c. search calls) (λ c. search calls))

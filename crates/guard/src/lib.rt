@@ -1,0 +1,112 @@
+// The guard: six calls on lent memory. No call asks anything of its caller: images, memory, names and pieces may be any bytes.
+use image::Outcome;
+use rules::Connected;
+use rules::Gone;
+use rules::Judgement;
+use rules::Receiver;
+use rules::Taken;
+ghost use mathlib.Core.Path.{_≡_};
+ghost use Rattle.image.specs.Good.{goodImage};
+ghost use Rattle.memory.specs.Calls.{startOn, connectOn, ownOn, releaseOn, pieceOn, disconnectOn, Did};
+
+fn is_image_good(image: &[u8]) -> bool
+    ensures { λ r. ⌜ r ≡ goodImage (now (image .entry)) ⌝ }
+{
+    match image::check(image) {
+        Outcome::Good => true,
+        Outcome::Bad => false,
+    }
+}
+
+// Writes an empty guard over memory of the right length.
+pub fn start(memory: &mut [u8]) -> u8
+    ensures { λ r. ⌜ Did (startOn (now (memory .entry))) r (now (memory .exit)) ⌝ }
+{
+    if memory.len() != 52676 {
+        return 51;
+    }
+    wire::wipe(memory);
+    0
+}
+
+// A new peer, with its uid and gids: its number and slot.
+pub fn connect(image: &[u8], memory: &mut [u8], uid: u32, gids: &[u32]) -> Connected
+    ensures { λ r. ⌜ Did (connectOn (now (image .entry)) (now (memory .entry)) uid (now (gids .entry))) r (now (memory .exit)) ⌝ }
+{
+    if !is_image_good(image) {
+        return Connected {
+            answer: 50,
+            number: 0,
+            slot: 0,
+        };
+    }
+    if !audit::is_good(memory) {
+        return Connected {
+            answer: 51,
+            number: 0,
+            slot: 0,
+        };
+    }
+    peers::connect(image, memory, uid, gids)
+}
+
+// A peer asks to own a well-known name.
+pub fn own(image: &[u8], memory: &mut [u8], peer: u32, name: &[u8]) -> u8
+    ensures { λ r. ⌜ Did (ownOn (now (image .entry)) (now (memory .entry)) peer (now (name .entry))) r (now (memory .exit)) ⌝ }
+{
+    if !is_image_good(image) {
+        return 50;
+    }
+    if !audit::is_good(memory) {
+        return 51;
+    }
+    peers::own(image, memory, peer, name)
+}
+
+// A peer gives a name up.
+pub fn release(memory: &mut [u8], peer: u32, name: &[u8]) -> u8
+    ensures { λ r. ⌜ Did (releaseOn (now (memory .entry)) peer (now (name .entry))) r (now (memory .exit)) ⌝ }
+{
+    if !audit::is_good(memory) {
+        return 51;
+    }
+    peers::release(memory, peer, name)
+}
+
+// A piece of a peer's stream: at most one message of it is taken and judged.
+pub fn piece(image: &[u8], memory: &mut [u8], peer: u32, bytes: &[u8]) -> Taken
+    ensures { λ r. ⌜ Did (pieceOn (now (image .entry)) (now (memory .entry)) peer (now (bytes .entry))) r (now (memory .exit)) ⌝ }
+{
+    if !is_image_good(image) {
+        return Taken {
+            judgement: Judgement {
+                answer: 50,
+                receiver: Receiver::Nobody,
+            },
+            taken: 0,
+        };
+    }
+    if !audit::is_good(memory) {
+        return Taken {
+            judgement: Judgement {
+                answer: 51,
+                receiver: Receiver::Nobody,
+            },
+            taken: 0,
+        };
+    }
+    pieces::piece(image, memory, peer, bytes)
+}
+
+// A peer goes: its names and its pending calls, made and awaited, end.
+pub fn disconnect(memory: &mut [u8], peer: u32) -> Gone
+    ensures { λ r. ⌜ Did (disconnectOn (now (memory .entry)) peer) r (now (memory .exit)) ⌝ }
+{
+    if !audit::is_good(memory) {
+        return Gone {
+            answer: 51,
+            bytes: 0,
+        };
+    }
+    peers::disconnect(memory, peer)
+}

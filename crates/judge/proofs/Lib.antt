@@ -1,0 +1,7 @@
+mod Unique
+mod Addresses
+mod Policy
+mod Calls
+mod Peers
+mod Everybody
+mod Whole

@@ -1,0 +1,138 @@
+-- The unique name of a number: its digits are written from the last. Assumes nothing.
+use mathlib.Core.Path.{_≡_, refl, sym, ap, _∙_}
+use mathlib.Core.Bool.{Bool, true, false, not, _&&_}
+use mathlib.Core.List.{List, [], _∷_, _++_, append-assoc}
+use Prim.Native.Nat.{ℕ, zero, suc, _+_, _-_, _/_, _%_, _≤_, _<_}
+use native.Mathlib.Omega.{arith}
+use native.Mathlib.Numerals.{add-one}
+use native.Mathlib.Decide.{decLt}
+use lib.Dec.{ltb, eqb}
+use lib.ListN.{length, take, drop, set, length-set, length-drop, drop-of-length-le}
+use lib.Seq.{sets-eq, drop-cons, drop-at, getD-set-same, drop-set-lt, take-all, length-take-le}
+use borrow.Author.Needs.{needs}
+use borrow.Author.Tests.{ltb-true, lt-ltb, eqb-true, ne-eqb, not-true, not-false}
+use Rattle.wire.specs.Bytes.{front, same}
+use Rattle.wire.proofs.Texts.{both-first, both-second}
+use Rattle.rules.specs.Addresses.{digits, uniqueName}
+use Rattle.judge.specs.declared.address.Text.{Text}
+use Rattle.judge.specs.Steps.{Spelled}
+
+-- ---- stores
+
+-- one at i, as what stands from i on
+put-here : (l : List ℕ) (i k v : ℕ) → k ≡ i + 1 → i < length l → drop i (set l i v) ≡ v ∷ drop k l
+put-here l i k v e h =
+    drop-cons (set l i v) i 0 (rw (length-set l i v) h)
+    ∙ rw (getD-set-same l i v 0 h, drop-set-lt (suc i) l i v (omega arith), e, add-one i)
+
+-- the prefix in front of k
+put-prefix : (l : List ℕ) (i k : ℕ) → k ≡ i + 3 → k ≤ length l
+    → drop i (set (set (set l i 58) (i + 1) 49) (i + 2) 46) ≡ 58 ∷ 49 ∷ 46 ∷ drop k l
+put-prefix l i k e h =
+    let vs : List ℕ = 58 ∷ 49 ∷ 46 ∷ [] in
+    let a : i + 1 ≡ suc i = omega arith in
+    let b : i + 2 ≡ suc (suc i) = omega arith in
+    let s : set (set (set l i 58) (i + 1) 49) (i + 2) 46 ≡ take i l ++ (vs ++ drop (i + 3) l)
+    = rw (a, b) (sets-eq vs l i (omega arith) ∙ append-assoc (take i l) vs (drop (i + 3) l)) in
+    ap (drop i) s
+    ∙ drop-at (take i l) (vs ++ drop (i + 3) l) i (length-take-le i l (omega arith))
+    ∙ ap (λ (z : ℕ). 58 ∷ 49 ∷ 46 ∷ drop z l) (sym e)
+
+-- ---- the digits: those from k on are written, and n is left
+
+pub record Spelling (number : ℕ) (bytes : List ℕ) (k n : ℕ) : Type 0 where
+  pub low : 3 ≤ k
+  pub high : k ≤ 13
+  pub sized : length bytes ≡ 13
+  pub left : digits 10 number [] ≡ digits (k - 3) n (drop k bytes)
+
+pub spelling-begins : (number : ℕ) (bytes : List ℕ) → length bytes ≡ 13 → Spelling number bytes 13 number
+spelling-begins number bytes l =
+    record {
+      low = omega arith;
+      high = omega arith;
+      sized = l;
+      left = sym (ap (digits 10 number) (drop-of-length-le bytes {i = 13} (omega arith)));
+    }
+
+digits-none : (fuel : ℕ) (after : List ℕ) → digits fuel 0 after ≡ after
+unfolding digits
+digits-none zero after = refl
+digits-none (suc fuel) after = refl
+
+digits-next : (fuel n : ℕ) (after : List ℕ) → eqb n 0 ≡ false → digits (suc fuel) n after ≡ digits fuel (n / 10) ((48 + n % 10) ∷ after)
+unfolding digits
+digits-next fuel n after e = rw (digits, e)
+
+digits-over : (n : ℕ) (after : List ℕ) → digits 0 n after ≡ after
+unfolding digits
+digits-over n after = refl
+
+module _ {number : ℕ} {bytes : List ℕ} {k n : ℕ} (s : Spelling number bytes k n) where
+  pub spelling-more : ltb 3 k && not (eqb n 0) ≡ true → Spelling number (set bytes (k - 1) (48 + n % 10)) (k - 1) (n / 10)
+  spelling-more t =
+      let a : 3 < k = ltb-true 3 k (both-first (ltb 3 k) (not (eqb n 0)) t) in
+      let z : eqb n 0 ≡ false = not-true (eqb n 0) (both-second (ltb 3 k) (not (eqb n 0)) t) in
+      let l : length bytes ≡ 13 = s .sized in
+      let u : k ≤ 13 = s .high in
+      let e : k - 3 ≡ suc (k - 1 - 3) = omega arith in
+      let d : drop (k - 1) (set bytes (k - 1) (48 + n % 10)) ≡ (48 + n % 10) ∷ drop k bytes
+      = put-here bytes (k - 1) k (48 + n % 10) (omega arith) (omega arith) in
+      record {
+        low = omega arith;
+        high = omega arith;
+        sized = length-set bytes (k - 1) (48 + n % 10) ∙ l;
+        left =
+            s .left
+            ∙ ap (λ (f : ℕ). digits f n (drop k bytes)) e
+            ∙ digits-next (k - 1 - 3) n (drop k bytes) z
+            ∙ ap (digits (k - 1 - 3) (n / 10)) (sym d);
+      }
+
+  module _ (t : ltb 3 k && not (eqb n 0) ≡ false) where
+    none-left : digits (k - 3) n (drop k bytes) ≡ drop k bytes
+    none-left = go (decLt 3 k)
+      where
+        go : Dec (3 < k) → digits (k - 3) n (drop k bytes) ≡ drop k bytes
+        go (yes h) =
+            let z : n ≡ 0 = eqb-true n 0 (not-false (eqb n 0) (rw (lt-ltb 3 k h) at t)) in
+            rw z (digits-none (k - 3) (drop k bytes))
+        go (no h) =
+            let w : 3 ≤ k = s .low in
+            let z : k - 3 ≡ 0 = omega arith in
+            rw z (digits-over n (drop k bytes))
+
+    pub spelled : Spelled number (record { bytes = set (set (set bytes (k - 3) 58) (k - 3 + 1) 49) (k - 3 + 2) 46; from = k - 3 })
+    unfolding uniqueName
+    spelled =
+        let l : length bytes ≡ 13 = s .sized in
+        let u : k ≤ 13 = s .high in
+        let w : 3 ≤ k = s .low in
+        record {
+          inside = omega arith;
+          sized =
+              length-set (set (set bytes (k - 3) 58) (k - 3 + 1) 49) (k - 3 + 2) 46
+              ∙ length-set (set bytes (k - 3) 58) (k - 3 + 1) 49
+              ∙ length-set bytes (k - 3) 58
+              ∙ l;
+          is =
+              put-prefix bytes (k - 3) k (omega arith) (omega arith)
+              ∙ ap (λ (d : List ℕ). 58 ∷ 49 ∷ 46 ∷ d) (sym (s .left ∙ none-left));
+        }
+
+pub ruleset spelling = (spelling-begins, spelling-more, spelled, needs)
+
+-- ---- a text compared with it
+
+pub unique-not : (text : List ℕ) (number b : ℕ) → b ≡ front (drop 0 text) → (b ≡ 58 → ⊥) → false ≡ same text (uniqueName number)
+unfolding same uniqueName
+unique-not [] number b e h = refl
+unique-not (x ∷ text) number b e h = rw (ne-eqb x 58 (λ q. h (e ∙ q)))
+
+pub unique-is : (text : List ℕ) {number : ℕ} {t : Text} → Spelled number t
+    → {r : Bool} → r ≡ same text (take (13 - t .from) (drop (t .from) (t .bytes))) → r ≡ same text (uniqueName number)
+unique-is text {t = t} s e =
+    let l : length (t .bytes) ≡ 13 = s .sized in
+    e ∙ rw (take-all (13 - t .from) (drop (t .from) (t .bytes)) (omega (arith, length-drop (t .from) (t .bytes))), s .is)
+
+pub ruleset uniques = (unique-not, unique-is, needs)

@@ -1,0 +1,18 @@
+-- `judge::judge` meets its contract. Assumes nothing.
+use Rattle.judge.proofs.Whole.{judging}
+use Rattle.judge.proofs.judge.Statement.{statement}
+use Rattle.judge.proofs.judge.Tie as tie
+
+pub judge-spec : {M : Type 1} → statement M
+judge-spec =
+    tie.close
+    (tie.spec
+    (λ c κs. search judging)
+    (λ c. search judging)
+    (λ c κs. search judging)
+    (λ c κs. search judging)
+    (λ c. search judging)
+    (λ c. search judging)
+    (λ c κs. search judging)
+    (λ c. search judging)
+    (λ c. search judging))

@@ -1,0 +1,26 @@
+-- `judge::pending::end_call` meets its contract. Assumes nothing.
+use Rattle.judge.proofs.Calls.{ending}
+use Rattle.judge.proofs.pending.end_call.Statement.{statement}
+use Rattle.judge.proofs.pending.end_call.Tie as tie
+
+pub end-call-spec : {M : Type 1} → statement M
+end-call-spec =
+    tie.close
+    (tie.spec
+    (λ c. search ending)
+    (λ c. search ending)
+    (λ c. search ending)
+    (λ c. search ending)
+    (λ c. search ending)
+    (λ c. search ending)
+    (λ c. search ending)
+    (λ c. search ending)
+    (λ c κs. search ending)
+    (λ c. search ending)
+    (λ c. search ending)
+    (λ c. search ending)
+    (λ c. search ending)
+    (λ c. search ending)
+    (λ c κs. search ending)
+    (λ c. search ending)
+    (λ c. search ending))

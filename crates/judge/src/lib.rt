@@ -1,0 +1,296 @@
+// The judgement of a whole message over the guard's memory: its answer, its receiver, and the pending calls that it begins or ends.
+mod address;
+mod pending;
+
+use address::Destination;
+use header::Header;
+use policy::Uid;
+use rules::Judgement;
+use rules::Receiver;
+ghost use mathlib.Core.Path.{_≡_};
+ghost use Prim.Native.Nat.{_+_, _*_, _≤_, _<_};
+ghost use lib.ListN.{take};
+ghost use Rattle.policy.specs.Contracts.{Asked};
+ghost use Rattle.policy.specs.Decisions.{mayTransact};
+ghost use Rattle.policy.specs.Matching.{messageOf};
+ghost use Rattle.policy.specs.Names.{namesIn};
+ghost use Rattle.rules.specs.Judge.{refusal, bit};
+ghost use Rattle.slots.specs.Slots.{At};
+ghost use Rattle.judge.specs.Judging.{PeerAt, Message, Judges};
+ghost use Rattle.judge.specs.Steps.{Asks, Between, Says, Sent, SentTo, SentBy, Both, Answers, ToBus, Reaches, ToAll, Waits, Delivers, Answer, ToPeer, RepliesTo, Replies, Directs};
+
+// ---- policy
+
+// What policy says of the message, asked of a user and the first `count` of the groups about the names.
+fn ask(
+    image: &[u8],
+    direction: u8,
+    uid: Uid,
+    gids: [u32; 16],
+    count: usize,
+    names: &[u8],
+    head: &[u8],
+    header: Header,
+) -> bool
+    requires { ⌜ (Asked (now image) (now head) header) × (count ≤ 16) ⌝ }
+    ensures { λ r. ⌜ r ≡ mayTransact (now (image .entry)) direction uid (take count gids) (namesIn (now (names .entry))) (messageOf (now (head .entry)) header) ⌝ }
+{
+    policy::may_transact(image, direction, uid, &gids[0..count], names, head, header)
+}
+
+// The same, asked of the peer of slot i.
+fn ask_peer(
+    image: &[u8],
+    direction: u8,
+    memory: &[u8],
+    i: usize,
+    names: &[u8],
+    head: &[u8],
+    header: Header,
+) -> bool
+    requires { ⌜ (Asked (now image) (now head) header) × (At (now memory) i) ⌝ }
+    ensures { λ r. ⌜ Asks (now (image .entry)) direction (now (memory .entry)) i (now (names .entry)) (now (head .entry)) header r ⌝ }
+{
+    let uid = Uid(slots::word_at(memory, i, 4));
+    let gids = slots::gids_at(memory, i);
+    let list = gids.list;
+    let count = gids.count;
+    ask(image, direction, uid, list, count, names, head, header)
+}
+
+// The same, asked of the peer of one slot about the names of another's.
+fn may(
+    image: &[u8],
+    direction: u8,
+    memory: &[u8],
+    subject: usize,
+    other: usize,
+    head: &[u8],
+    header: Header,
+) -> bool
+    requires { ⌜ Between (now image) (now memory) subject other (now head) header ⌝ }
+    ensures { λ r. ⌜ Says (now (image .entry)) direction (now (memory .entry)) subject other (now (head .entry)) header r ⌝ }
+{
+    let names = wire::least(slots::word_at(memory, other, 208) as usize, 4);
+    let from = 4 + 3292 * other + 212;
+    let to = from + 256 * names;
+    ask_peer(
+        image,
+        direction,
+        memory,
+        subject,
+        &memory[from..to],
+        head,
+        header,
+    )
+}
+
+// ---- judgements
+
+fn refused(answer: u8) -> Judgement
+    ensures { λ r. ⌜ r ≡ refusal answer ⌝ }
+{
+    Judgement {
+        answer,
+        receiver: Receiver::Nobody,
+    }
+}
+
+// "Only send is judged; nothing waits."
+fn to_bus(image: &[u8], memory: &[u8], i: usize, head: &[u8], header: Header) -> Judgement
+    requires { ⌜ Sent (now image) (now memory) i (now head) header ⌝ }
+    ensures { λ r. ⌜ ToBus (now (image .entry)) (now (memory .entry)) i (now (head .entry)) header r ⌝ }
+{
+    let cell = policy::bus_cell();
+    if !ask_peer(image, policy::SEND, memory, i, &cell, head, header) {
+        return refused(22);
+    }
+    Judgement {
+        answer: 0,
+        receiver: Receiver::Bus,
+    }
+}
+
+// Slot k is a peer's for whom send and receive both allow.
+fn reaches(image: &[u8], memory: &[u8], i: usize, k: usize, head: &[u8], header: Header) -> bool
+    requires { ⌜ (Sent (now image) (now memory) i (now head) header) × (k < 16) ⌝ }
+    ensures { λ r. ⌜ Reaches (now (image .entry)) (now (memory .entry)) i k (now (head .entry)) header r ⌝ }
+{
+    if slots::number_at(memory, k) == 0 {
+        return false;
+    }
+    if !may(image, policy::SEND, memory, i, k, head, header) {
+        return false;
+    }
+    may(image, policy::RECEIVE, memory, k, i, head, header)
+}
+
+// The mask with one slot more below its slots.
+fn below(mask: u16, reached: bool) -> u16
+    requires { ⌜ mask < 32768 ⌝ }
+    ensures { λ r. ⌜ r ≡ bit reached + 2 * mask ⌝ }
+{
+    if reached { 1 + 2 * mask } else { 2 * mask }
+}
+
+// A signal to everybody: bit k of the mask is slot k.
+fn to_all(image: &[u8], memory: &[u8], i: usize, head: &[u8], header: Header) -> Judgement
+    requires { ⌜ Sent (now image) (now memory) i (now head) header ⌝ }
+    ensures { λ r. ⌜ ToAll (now (image .entry)) (now (memory .entry)) i (now (head .entry)) header r ⌝ }
+{
+    let mut mask: u16 = 0;
+    let mut k = 16;
+    while 0 < k {
+        k -= 1;
+        mask = below(mask, reaches(image, memory, i, k, head, header));
+    }
+    Judgement {
+        answer: 0,
+        receiver: Receiver::Slots(mask, u16::count_ones(mask)),
+    }
+}
+
+// ---- to one peer
+
+// A call of slot i that expects a reply of the callee to this serial: 25, then 26.
+fn wait(memory: &mut [u8], i: usize, callee: u32, serial: u32) -> Judgement
+    requires { ⌜ PeerAt (now memory) i ⌝ }
+    ensures { λ r. ⌜ Waits (now (memory .entry)) i callee serial r (now (memory .exit)) ⌝ }
+{
+    let n = pending::calls_at(memory, i);
+    if slots::find_pending(memory, i, callee, serial, 0) < n {
+        return refused(25);
+    }
+    if 16 <= n {
+        return refused(26);
+    }
+    pending::begin_call(memory, i, n, callee, serial);
+    Judgement {
+        answer: 0,
+        receiver: Receiver::Peer(callee),
+    }
+}
+
+// A call or a signal of slot i that may pass to the peer of slot j: it waits where a reply is expected.
+fn deliver(memory: &mut [u8], i: usize, j: usize, header: Header) -> Judgement
+    requires { ⌜ Both (now memory) i j ⌝ }
+    ensures { λ r. ⌜ Delivers (now (memory .entry)) i j header r (now (memory .exit)) ⌝ }
+{
+    let receiver = slots::number_at(memory, j);
+    if (header.kind == 1) & (header.flags % 2 == 0) {
+        return wait(memory, i, receiver, header.serial);
+    }
+    Judgement {
+        answer: 0,
+        receiver: Receiver::Peer(receiver),
+    }
+}
+
+// What policy answers to a call or a signal of slot i to the peer of slot j: 22, 23, or 0.
+fn answer_to(image: &[u8], memory: &[u8], i: usize, j: usize, head: &[u8], header: Header) -> u8
+    requires { ⌜ SentTo (now image) (now memory) i j (now head) header ⌝ }
+    ensures { λ r. ⌜ Answer (now (image .entry)) (now (memory .entry)) i j (now (head .entry)) header r ⌝ }
+{
+    if !may(image, policy::SEND, memory, i, j, head, header) {
+        return 22;
+    }
+    if !may(image, policy::RECEIVE, memory, j, i, head, header) {
+        return 23;
+    }
+    0
+}
+
+// A call or a signal of slot i to the peer of slot j.
+fn to_peer(
+    image: &[u8],
+    memory: &mut [u8],
+    i: usize,
+    j: usize,
+    head: &[u8],
+    header: Header,
+) -> Judgement
+    requires { ⌜ SentTo (now image) (now memory) i j (now head) header ⌝ }
+    ensures { λ r. ⌜ ToPeer (now (image .entry)) (now (memory .entry)) i j (now (head .entry)) header r (now (memory .exit)) ⌝ }
+{
+    let answer = answer_to(image, memory, i, j, head, header);
+    if answer != 0 {
+        return refused(answer);
+    }
+    deliver(memory, i, j, header)
+}
+
+// ---- replies
+
+// A return or error of slot i to the peer of slot j, which must await it.
+fn reply_to(memory: &mut [u8], i: usize, j: usize, header: Header) -> Judgement
+    requires { ⌜ Both (now memory) i j ⌝ }
+    ensures { λ r. ⌜ RepliesTo (now (memory .entry)) i j header r (now (memory .exit)) ⌝ }
+{
+    let callee = slots::number_at(memory, i);
+    let n = pending::calls_at(memory, j);
+    let k = slots::find_pending(memory, j, callee, header.reply_serial, 0);
+    if n <= k {
+        return refused(24);
+    }
+    let caller = slots::number_at(memory, j);
+    pending::end_call(memory, j, n, k);
+    Judgement {
+        answer: 0,
+        receiver: Receiver::Peer(caller),
+    }
+}
+
+// "A reply to the bus or with no destination never does."
+fn reply(memory: &mut [u8], i: usize, to: Destination, header: Header) -> Judgement
+    requires { ⌜ Answers (now memory) i to ⌝ }
+    ensures { λ r. ⌜ Replies (now (memory .entry)) i to header r (now (memory .exit)) ⌝ }
+{
+    match to {
+        Destination::At(j) => reply_to(memory, i, j, header),
+        Destination::Absent => refused(24),
+        Destination::Bus => refused(24),
+        Destination::Unknown => refused(24),
+    }
+}
+
+// ---- the whole
+
+// A call or a signal, by its destination.
+fn direct(
+    image: &[u8],
+    memory: &mut [u8],
+    i: usize,
+    to: Destination,
+    head: &[u8],
+    header: Header,
+) -> Judgement
+    requires { ⌜ SentBy (now image) (now memory) i to (now head) header ⌝ }
+    ensures { λ r. ⌜ Directs (now (image .entry)) (now (memory .entry)) i to (now (head .entry)) header r (now (memory .exit)) ⌝ }
+{
+    match to {
+        Destination::At(j) => to_peer(image, memory, i, j, head, header),
+        Destination::Bus => to_bus(image, memory, i, head, header),
+        Destination::Unknown => refused(21),
+        Destination::Absent => {
+            if header.kind == 1 {
+                return to_bus(image, memory, i, head, header);
+            }
+            to_all(image, memory, i, head, header)
+        }
+    }
+}
+
+// The judgement of a whole message of the peer in slot i. Types above 4 are 20; returns and errors are replies.
+pub fn judge(image: &[u8], memory: &mut [u8], i: usize, head: &[u8], header: Header) -> Judgement
+    requires { ⌜ Message (now image) (now memory) i (now head) header ⌝ }
+    ensures { λ r. ⌜ Judges (now (image .entry)) (now (memory .entry)) i (now (head .entry)) header r (now (memory .exit)) ⌝ }
+{
+    if 4 < header.kind {
+        return refused(20);
+    }
+    let to = address::resolve(memory, head, header.destination);
+    if (header.kind == 2) | (header.kind == 3) {
+        return reply(memory, i, to, header);
+    }
+    direct(image, memory, i, to, head, header)
+}

@@ -1,0 +1,71 @@
+-- What the tables of a good slot hold is read back from their bytes. Assumes nothing.
+use mathlib.Core.Bool.{Bool, true, not, _&&_}
+use mathlib.Core.List.{List, [], _∷_, map}
+use mathlib.Core.Path.{_≡_, refl, ap₂}
+use Prim.Native.Nat.{ℕ, _≤_, _<_}
+use native.Mathlib.Omega.{arith}
+use lib.Dec.{leb}
+use lib.ListN.{length}
+use lib.Seq.{take-at}
+use borrow.Author.Tests.{ltb-true, leb-true}
+use Rattle.wire.specs.Bytes.{same}
+use Rattle.wire.specs.Words.{wordAt, wordBytes}
+use Rattle.wire.proofs.Texts.{both-first, both-second}
+use Rattle.tables.proofs.Parts.{pad-fits}
+use Rattle.names.specs.Names.{wellKnown}
+use Rattle.policy.specs.Names.{cellOf, nameOf, owns, busName}
+use Rattle.stream.specs.Tail.{Tail}
+use Rattle.rules.specs.State.{Pending, Slot}
+use Rattle.rules.specs.Addresses.{ownable}
+use Rattle.rules.specs.Calls.{isOwner}
+use Rattle.memory.specs.Encoding.{pendingBytes, pendingOf, wordOf}
+use Rattle.memory.specs.Good.{nobody, goodNames, goodPending, goodSlots}
+use Rattle.memory.specs.Sound.{every, word32}
+use Rattle.memory.proofs.Peers.{connected-within, call-first, call-later}
+
+-- ---- one thing
+
+pub word-back : (n : ℕ) → n < 4294967296 → wordOf (wordBytes n) ≡ n
+unfolding wordAt wordBytes
+word-back n h = omega arith
+
+pub pending-back : (w : Pending) → w .callee < 4294967296 → w .serial < 4294967296 → pendingOf (pendingBytes w) ≡ w
+unfolding wordAt wordBytes
+pending-back w h k =
+    let a : wordOf (wordBytes (w .callee)) ≡ w .callee = word-back (w .callee) h in
+    let b : wordOf (wordBytes (w .serial)) ≡ w .serial = word-back (w .serial) k in
+    λ j. record { callee = a j; serial = b j }
+
+pub name-back : (name : List ℕ) → length name ≤ 255 → nameOf (cellOf name) ≡ name
+unfolding cellOf
+name-back name h = rw (pad-fits 255 name h) (take-at name _ (length name) refl)
+
+-- ---- lists
+
+pub words-back : (xs : List ℕ) → every word32 xs ≡ true → map wordOf (map wordBytes xs) ≡ xs
+words-back [] e = refl
+words-back (x ∷ xs) e =
+    ap₂ _∷_ (word-back x (ltb-true x 4294967296 (both-first (word32 x) (every word32 xs) e)))
+    (words-back xs (both-second (word32 x) (every word32 xs) e))
+
+pub ownable-short : (name : List ℕ) → ownable name ≡ true → length name ≤ 255
+unfolding wellKnown
+ownable-short name e = leb-true (length name) 255 (both-first (leb (length name) 255) _ (both-first (wellKnown name) (not (same name busName)) e))
+
+pub names-back : (xs : List (List ℕ)) (later : List (Slot Tail)) → goodNames xs later ≡ true → map nameOf (map cellOf xs) ≡ xs
+unfolding goodNames
+names-back [] later e = refl
+names-back (x ∷ xs) later e =
+    let a : ownable x && not (owns xs x) && nobody (isOwner x) later ≡ true = both-first _ (goodNames xs later) e in
+    let b : ownable x && not (owns xs x) ≡ true = both-first _ (nobody (isOwner x) later) a in
+    ap₂ _∷_ (name-back x (ownable-short x (both-first (ownable x) (not (owns xs x)) b)))
+    (names-back xs later (both-second (ownable x && not (owns xs x) && nobody (isOwner x) later) (goodNames xs later) e))
+
+pub pendings-back : (all : List (Slot Tail)) (last : ℕ) (ws : List Pending) → goodSlots all last all ≡ true → last < 4294967296
+    → goodPending all ws ≡ true → every (λ w. word32 (w .serial)) ws ≡ true → map pendingOf (map pendingBytes ws) ≡ ws
+pendings-back all last [] g l e n = refl
+pendings-back all last (w ∷ ws) g l e n =
+    let t : Pending → Bool = λ w. word32 (w .serial) in
+    let k : w .callee ≤ last = connected-within all last (w .callee) all g (call-first all w ws e .callee) in
+    ap₂ _∷_ (pending-back w (omega arith) (ltb-true (w .serial) 4294967296 (both-first (t w) (every t ws) n)))
+    (pendings-back all last ws g l (call-later all w ws e) (both-second (t w) (every t ws) n))

@@ -1,0 +1,36 @@
+-- The bytes of a slot after a callee has gone, and of all slots after a peer has disconnected. Assumes nothing.
+use mathlib.Core.List.{List, _++_}
+use mathlib.Core.Path.{_≡_, refl, sym, ap, _∙_}
+use Prim.Native.Nat.{ℕ, _+_}
+use lib.ListN.{take, drop}
+use Rattle.wire.specs.Words.{wordAt}
+use Rattle.wire.specs.declared.Order.the-variants.{Little}
+use Rattle.tables.specs.Tables.{tableBytes, tableOf}
+use Rattle.stream.specs.Tail.{Tail}
+use Rattle.rules.specs.State.{Slot, peer}
+use Rattle.rules.specs.Pending.{endedAll, bereft}
+use Rattle.memory.specs.Encoding.{pendingBytes, pendingOf, slotBytes, peerOf, slotOf}
+use Rattle.memory.proofs.Reading.{part-free, part-peer}
+use Rattle.memory.proofs.Fields.{put-pending}
+use Rattle.memory.proofs.Sweep.{changed}
+
+-- b is a slot's bytes, and is plain
+pub bereft-free : (c : ℕ) (b : List ℕ) → slotBytes (slotOf b) ≡ b → wordAt Little b 0 ≡ 0 → b ≡ changed (bereft c) b
+bereft-free c b p e =
+    let q = part-free b e in
+    sym p ∙ ap slotBytes q ∙ sym (ap (λ (x : Slot Tail). slotBytes (bereft c x)) q)
+
+pub bereft-peer : (c : ℕ) (b : List ℕ) → slotBytes (slotOf b) ≡ b → (wordAt Little b 0 ≡ 0 → ⊥)
+    → take 76 b ++ (tableBytes 8 16 pendingBytes (endedAll c (peerOf b .pending)) ++ drop 208 b) ≡ changed (bereft c) b
+bereft-peer c b p e =
+    let x = peerOf b in
+    let q = part-peer b e in
+    let s : slotBytes (peer x) ≡ b = ap slotBytes (sym q) ∙ p in
+    sym
+    (ap (λ (y : Slot Tail). slotBytes (bereft c y)) q
+    ∙ put-pending x (endedAll c (x .pending))
+    ∙ ap (λ (z : List ℕ). take 76 z ++ (tableBytes 8 16 pendingBytes (endedAll c (x .pending)) ++ drop 208 z)) s)
+
+pub pending-of : (b : List ℕ) → peerOf b .pending ≡ tableOf 8 16 pendingOf (drop 76 b)
+unfolding peerOf
+pending-of b = refl

@@ -1,0 +1,119 @@
+-- A table of pending calls from which those of one callee are taken out, call by call. Assumes nothing.
+use mathlib.Core.List.{List, [], _∷_, _++_, map, append-nil}
+use mathlib.Core.Path.{_≡_, refl, sym, ap, ap₂, _∙_}
+use Prim.Native.Nat.{ℕ, zero, suc, _+_, _-_, _*_, _≤_, _<_, min}
+use native.Mathlib.Omega.{arith}
+use lib.ListN.{length, getD, take, drop}
+use borrow.Author.Needs.{needs}
+use Rattle.wire.specs.Words.{wordAt, wordBytes}
+use Rattle.wire.specs.declared.Order.the-variants.{Little}
+use Rattle.tables.specs.Tables.{parts, tableBytes, tableOf}
+use Rattle.tables.proofs.Words.{word-part, word-fits, bytes-take, bytes-drop}
+use Rattle.tables.proofs.Table.{table-length, table-many, table-count, table-again, table-at}
+use Rattle.tables.proofs.Change.{without, without-length, map-without, removed, table-remove}
+use Rattle.rules.specs.State.{Pending}
+use Rattle.rules.specs.Pending.{endedAll}
+use Rattle.memory.specs.Encoding.{pendingBytes, pendingOf}
+use Rattle.memory.proofs.Frame.{pending-length}
+use Rattle.memory.proofs.Again.{pending-back}
+use Rattle.memory.proofs.Removal.{Leaving, leaving-begins, leaving-out, leaving-stays, leaving-ends}
+
+-- what is read off bytes is given back by its own bytes
+parts-back : (n : ℕ) (d : List ℕ) → ((i : ℕ) → getD d i 0 < 256)
+    → map pendingOf (map pendingBytes (map pendingOf (parts 8 n d))) ≡ map pendingOf (parts 8 n d)
+unfolding parts
+parts-back zero d b = refl
+parts-back (suc n) d b =
+    let f : (i : ℕ) → getD (take 8 d) i 0 < 256 = bytes-take 8 d b in
+    ap₂ _∷_ (pending-back (pendingOf (take 8 d)) (word-fits (take 8 d) 0 f) (word-fits (take 8 d) 4 f)) (parts-back n (drop 8 d) (bytes-drop 8 d b))
+
+table-back : (t : List ℕ) → ((i : ℕ) → getD t i 0 < 256)
+    → map pendingOf (map pendingBytes (tableOf 8 16 pendingOf t)) ≡ tableOf 8 16 pendingOf t
+unfolding tableOf
+table-back t b = parts-back (min (wordAt Little t 0) 16) (drop 4 t) (bytes-drop 4 t b)
+
+-- t is the table of `calls`, n of them; those before j stay, and those from j on are still to be looked at
+pub record Ending (c : ℕ) (ws₀ : List Pending) (t : List ℕ) (n j : ℕ) : Type 0 where
+  pub calls : List Pending
+  pub back : map pendingOf (map pendingBytes calls) ≡ calls
+  pub is : t ≡ tableBytes 8 16 pendingBytes calls
+  pub sized : length t ≡ 132
+  pub count : n ≡ length calls
+  pub few : n ≤ 16
+  pub below : j ≤ n
+  pub left : Leaving c ws₀ calls j
+
+pub ending-begins : (c : ℕ) (t : List ℕ) (n : ℕ) → length t ≡ 132 → ((i : ℕ) → getD t i 0 < 256)
+    → t ≡ tableBytes 8 16 pendingBytes (tableOf 8 16 pendingOf t) → n ≡ wordAt Little t 0 → Ending c (tableOf 8 16 pendingOf t) t n 0
+ending-begins c t n l b e en =
+    let ws = tableOf 8 16 pendingOf t in
+    let k : length ws ≡ min (wordAt Little t 0) 16 = table-many 8 16 pendingOf t in
+    let q : wordAt Little t 0 ≡ length ws
+    = ap (λ (z : List ℕ). wordAt Little z 0) (e ∙ sym (append-nil (tableBytes 8 16 pendingBytes ws))) ∙ table-count 8 16 pendingBytes ws [] (omega arith) in
+    record {
+      calls = ws;
+      back = table-back t b;
+      is = e;
+      sized = l;
+      count = en ∙ q;
+      few = omega arith;
+      below = omega arith;
+      left = leaving-begins c ws;
+    }
+
+module _ (c : ℕ) (ws₀ : List Pending) (t : List ℕ) (n j : ℕ) (g : Ending c ws₀ t n j) (h : j < n) (k : ℕ) (e : k ≡ wordAt Little t (4 + 8 * j)) where
+  read : tableOf 8 16 pendingOf t ≡ g .calls
+  read =
+      let ws = g .calls in
+      let m : n ≡ length ws = g .count in
+      let f : n ≤ 16 = g .few in
+      ap (tableOf 8 16 pendingOf) (g .is ∙ sym (append-nil (tableBytes 8 16 pendingBytes ws)))
+      ∙ table-again 8 16 pendingBytes pending-length pendingOf ws [] (omega arith) (omega arith) (g .back)
+
+  callee-at : getD (g .calls) j (pendingOf []) .callee ≡ wordAt Little t (4 + 8 * j)
+  callee-at =
+      let m : n ≡ length (g .calls) = g .count in
+      let l : j < length (tableOf 8 16 pendingOf t) = rw read (omega arith) in
+      let q : getD (g .calls) j (pendingOf []) ≡ pendingOf (take 8 (drop (4 + 8 * j) t)) = rw read at (table-at 8 16 pendingOf t j l) in
+      ap (λ (w : Pending). w .callee) q
+      ∙ word-part t (4 + 8 * j) 8 0 (omega arith)
+      ∙ ap (wordAt Little t) (omega arith)
+
+  pub ending-out : k ≡ c → (t₁ : List ℕ) (n₁ : ℕ) → t₁ ≡ wordBytes (n - 1) ++ removed 8 n j (drop 4 t) → n₁ ≡ n - 1 → Ending c ws₀ t₁ n₁ j
+  ending-out q t₁ n₁ e₁ en =
+      let ws = g .calls in
+      let m : n ≡ length ws = g .count in
+      let f : n ≤ 16 = g .few in
+      let l : length (without j ws) + 1 ≡ length ws = without-length j ws (omega arith) in
+      let is : t₁ ≡ tableBytes 8 16 pendingBytes (without j ws) = e₁ ∙ sym (table-remove 8 16 pendingBytes pending-length ws j t n (g .is) m f h) in
+      record {
+        calls = without j ws;
+        back = ap (map pendingOf) (map-without pendingBytes j ws) ∙ map-without pendingOf j (map pendingBytes ws) ∙ ap (without j) (g .back);
+        is = is;
+        sized = ap length is ∙ table-length 8 16 pendingBytes (without j ws);
+        count = omega arith;
+        few = omega arith;
+        below = omega arith;
+        left = leaving-out c ws₀ ws j (g .left) (pendingOf []) (omega arith) (callee-at ∙ sym e ∙ q);
+      }
+
+  pub ending-stays : (k ≡ c → ⊥) → Ending c ws₀ t n (j + 1)
+  ending-stays q =
+      let m : n ≡ length (g .calls) = g .count in
+      record {
+        calls = g .calls;
+        back = g .back;
+        is = g .is;
+        sized = g .sized;
+        count = g .count;
+        few = g .few;
+        below = omega arith;
+        left = leaving-stays c ws₀ (g .calls) j (g .left) (pendingOf []) (omega arith) (λ z. q (e ∙ sym callee-at ∙ z));
+      }
+
+pub ending-ends : (c : ℕ) (ws₀ : List Pending) (t : List ℕ) (n j : ℕ) → Ending c ws₀ t n j → n ≤ j → t ≡ tableBytes 8 16 pendingBytes (endedAll c ws₀)
+ending-ends c ws₀ t n j g h =
+    let m : n ≡ length (g .calls) = g .count in
+    g .is ∙ ap (tableBytes 8 16 pendingBytes) (leaving-ends c ws₀ (g .calls) j (g .left) (omega arith))
+
+pub ruleset ending = (ending-begins, ending-out, ending-stays, ending-ends, needs)

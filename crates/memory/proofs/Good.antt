@@ -1,0 +1,123 @@
+-- Good memory: it is the bytes of the state that is read off it, and that state is sound. Assumes nothing.
+use mathlib.Core.Bool.{Bool, true, false, cond, _&&_}
+use mathlib.Core.List.{List, [], _∷_, _++_, map}
+use mathlib.Core.Path.{_≡_, refl, sym, ap, ap₂, _∙_}
+use Prim.Native.Nat.{ℕ, zero, suc, _+_, _*_, _<_, min}
+use native.Mathlib.Omega.{arith}
+use lib.Dec.{eqb}
+use lib.ListN.{length, getD, take, drop, set, length-drop, take-append-drop}
+use borrow.Author.Tests.{eqb-true, lt-ltb}
+use Rattle.wire.specs.Bytes.{same}
+use Rattle.wire.specs.Words.{wordAt, wordBytes}
+use Rattle.wire.specs.declared.Order.the-variants.{Little}
+use Rattle.wire.proofs.Texts.{both-first, both-second, both-true, same-eq}
+use Rattle.tables.specs.Tables.{cells, parts, tableOf}
+use Rattle.tables.proofs.Words.{bytes-take, bytes-drop, word-fits, word-cut}
+use Rattle.stream.specs.Tail.{Tail}
+use Rattle.rules.specs.State.{Pending, Slot, free, peer, putSlot}
+use Rattle.memory.specs.Layout.{slotStart}
+use Rattle.memory.specs.Encoding.{slotBytes, memoryOf, wordOf, pendingOf, peerOf, slotOf, stateOf}
+use Rattle.memory.specs.Good.{goodSlots, plain, good}
+use Rattle.memory.specs.Sound.{headOctets, every, word32, narrow, Sound, Held}
+use Rattle.memory.proofs.Octets.{slot-octets}
+use Rattle.memory.proofs.Frame.{put-memory, put-last}
+use Rattle.memory.proofs.Reading.{sixteen}
+
+-- ---- the parts of the test
+
+pub good-sized : (m : List ℕ) → good m ≡ true → length m ≡ 52676
+unfolding good
+good-sized m e =
+    let g = goodSlots (stateOf m .slots) (stateOf m .last) (stateOf m .slots) && plain (parts 3292 16 (drop 4 m)) in
+    eqb-true (length m) 52676 (both-first (eqb (length m) 52676) g e)
+
+good-rest : (m : List ℕ) → good m ≡ true
+    → goodSlots (stateOf m .slots) (stateOf m .last) (stateOf m .slots) && plain (parts 3292 16 (drop 4 m)) ≡ true
+unfolding good
+good-rest m e =
+    let g = goodSlots (stateOf m .slots) (stateOf m .last) (stateOf m .slots) && plain (parts 3292 16 (drop 4 m)) in
+    both-second (eqb (length m) 52676) g e
+
+pub good-slots : (m : List ℕ) → good m ≡ true → goodSlots (stateOf m .slots) (stateOf m .last) (stateOf m .slots) ≡ true
+good-slots m e =
+    both-first (goodSlots (stateOf m .slots) (stateOf m .last) (stateOf m .slots)) (plain (parts 3292 16 (drop 4 m))) (good-rest m e)
+
+pub good-plain : (m : List ℕ) → good m ≡ true → plain (parts 3292 16 (drop 4 m)) ≡ true
+good-plain m e =
+    both-second (goodSlots (stateOf m .slots) (stateOf m .last) (stateOf m .slots)) (plain (parts 3292 16 (drop 4 m))) (good-rest m e)
+
+pub held-of : (m : List ℕ) → good m ≡ true → Held m
+held-of m e = record { sized = good-sized m e; held = e }
+
+-- ---- good bytes are those of the state that is read off them
+
+plain-slots : (n : ℕ) (d : List ℕ) → length d ≡ 3292 * n → plain (parts 3292 n d) ≡ true → cells slotBytes (map slotOf (parts 3292 n d)) ≡ d
+unfolding parts plain cells
+plain-slots zero [] l e = refl
+plain-slots zero (x ∷ d) l e = absurd (omega arith)
+plain-slots (suc n) d l e =
+    let b = take 3292 d in
+    let r = parts 3292 n (drop 3292 d) in
+    ap₂ _++_ (same-eq (slotBytes (slotOf b)) b (both-first (same (slotBytes (slotOf b)) b) (plain r) e))
+    (plain-slots n (drop 3292 d) (length-drop 3292 d ∙ omega arith) (both-second (same (slotBytes (slotOf b)) b) (plain r) e))
+    ∙ take-append-drop 3292 d
+
+pub good-is : (m : List ℕ) → ((i : ℕ) → getD m i 0 < 256) → good m ≡ true → memoryOf (stateOf m) ≡ m
+unfolding memoryOf stateOf
+good-is m b e =
+    let l : length m ≡ 52676 = good-sized m e in
+    ap (λ (z : List ℕ). wordBytes (wordAt Little m 0) ++ z) (plain-slots 16 (drop 4 m) (length-drop 4 m ∙ omega arith) (good-plain m e))
+    ∙ sym (word-cut m (omega arith) b)
+
+-- ---- the numbers read off bytes are of 32 bits
+
+every-parts : {A : Type 0} (t : A → Bool) (dec : List ℕ → A) (w : ℕ) → ((b : List ℕ) → ((i : ℕ) → getD b i 0 < 256) → t (dec b) ≡ true)
+    → (n : ℕ) (m : List ℕ) → ((i : ℕ) → getD m i 0 < 256) → every t (map dec (parts w n m)) ≡ true
+unfolding parts
+every-parts t dec w f zero m b = refl
+every-parts t dec w f (suc n) m b =
+    both-true (t (dec (take w m))) (every t (map dec (parts w n (drop w m)))) (f (take w m) (bytes-take w m b))
+    (every-parts t dec w f n (drop w m) (bytes-drop w m b))
+
+every-table : {A : Type 0} (t : A → Bool) (dec : List ℕ → A) (w k : ℕ) → ((b : List ℕ) → ((i : ℕ) → getD b i 0 < 256) → t (dec b) ≡ true)
+    → (m : List ℕ) → ((i : ℕ) → getD m i 0 < 256) → every t (tableOf w k dec m) ≡ true
+unfolding tableOf
+every-table t dec w k f m b = every-parts t dec w f (min (wordAt Little m 0) k) (drop 4 m) (bytes-drop 4 m b)
+
+word-narrow : (a : ℕ) (b : List ℕ) → ((i : ℕ) → getD b i 0 < 256) → word32 (wordAt Little b a) ≡ true
+word-narrow a b f = lt-ltb (wordAt Little b a) 4294967296 (word-fits b a f)
+
+pub slot-narrow : (b : List ℕ) → ((i : ℕ) → getD b i 0 < 256) → narrow (slotOf b) ≡ true
+unfolding slotOf peerOf narrow
+slot-narrow b f = go (eqb (wordAt Little b 0) 0)
+  where
+    go : (z : Bool) → narrow (cond z free (peer (peerOf b))) ≡ true
+    go true = refl
+    go false =
+        let u = word-narrow 4 b f in
+        let v = every-table word32 wordOf 4 16 (word-narrow 0) (drop 8 b) (bytes-drop 8 b f) in
+        let x = every-table (λ (w : Pending). word32 (w .serial)) pendingOf 8 16 (word-narrow 4) (drop 76 b) (bytes-drop 76 b f) in
+        rw (u, v, x)
+
+pub good-sound : (m : List ℕ) → ((i : ℕ) → getD m i 0 < 256) → good m ≡ true → Sound (stateOf m)
+unfolding stateOf
+good-sound m b e =
+    record {
+      sixteen = sixteen m;
+      fits = word-fits m 0 b;
+      slots = good-slots m e;
+      narrows = every-parts narrow slotOf 3292 slot-narrow 16 (drop 4 m) (bytes-drop 4 m b);
+      octets = every-parts headOctets slotOf 3292 slot-octets 16 (drop 4 m) (bytes-drop 4 m b);
+    }
+
+-- ---- a slot and the last number put in good memory
+
+module _ (m : List ℕ) (b : (i : ℕ) → getD m i 0 < 256) (g : good m ≡ true) where
+  pub framed : (i : ℕ) (x : Slot Tail) → i < 16
+      → memoryOf (putSlot (stateOf m) i x) ≡ take (slotStart i) m ++ (slotBytes x ++ drop (slotStart i + 3292) m)
+  framed i x h = rw (good-is m b g) at (put-memory (stateOf m) i x (rw (sixteen m) h))
+
+  pub seated : (n i : ℕ) (x : Slot Tail) → i < 16
+      → memoryOf (record { last = n; slots = set (stateOf m .slots) i x })
+      ≡ wordBytes n ++ drop 4 (take (slotStart i) m ++ (slotBytes x ++ drop (slotStart i + 3292) m))
+  seated n i x h = put-last (putSlot (stateOf m) i x) n ∙ ap (λ (y : List ℕ). wordBytes n ++ drop 4 y) (framed i x h)

@@ -1,0 +1,103 @@
+-- In good memory the bytes of each slot are those of the slot that is read off them, and counts are what they say. Assumes nothing.
+use mathlib.Core.Bool.{true}
+use mathlib.Core.List.{List, [], _∷_, _++_}
+use mathlib.Core.Path.{_≡_, sym, ap, _∙_}
+use Prim.Native.Nat.{ℕ, zero, suc, _+_, _≤_, _<_, min}
+use native.Mathlib.Omega.{arith}
+use lib.ListN.{length, getD, take, drop, length-take}
+use lib.Seq.{drop-at}
+use Rattle.wire.specs.Bytes.{same}
+use Rattle.wire.specs.Words.{wordAt, wordBytes}
+use Rattle.wire.specs.declared.Order.the-variants.{Little}
+use Rattle.wire.proofs.Texts.{both-first, both-second, same-eq}
+use Rattle.tables.specs.Tables.{parts, tableBytes}
+use Rattle.tables.proofs.Words.{word-front, word-part}
+use Rattle.tables.proofs.Cells.{parts-length}
+use Rattle.tables.proofs.Table.{table-count}
+use Rattle.policy.specs.Names.{cellOf}
+use Rattle.stream.specs.Tail.{Tail}
+use Rattle.rules.specs.State.{Peer, free, peer}
+use Rattle.memory.specs.Layout.{slotStart}
+use Rattle.memory.specs.Encoding.{pendingBytes, slotBytes, slotOf, stateOf}
+use Rattle.memory.specs.Good.{plain}
+use Rattle.memory.specs.Sound.{Held}
+use Rattle.memory.proofs.Reading.{slot-part, slot-at, numberAt, peerFrom, slot-free, slot-peer, gids-many, pending-many, names-many}
+use Rattle.memory.proofs.Fields.{beforeGids, beforePending, beforeNames, before-gids, before-pending, before-names, stream, split-gids, split-pending, split-names}
+use Rattle.memory.proofs.Slots.{head-count}
+use Rattle.memory.proofs.Good.{good-plain}
+
+plain-at : (l : List (List ℕ)) (i : ℕ) → plain l ≡ true → i < length l → slotBytes (slotOf (getD l i [])) ≡ getD l i []
+unfolding plain
+plain-at [] i e h = absurd (omega arith)
+plain-at (b ∷ l) zero e h = same-eq (slotBytes (slotOf b)) b (both-first (same (slotBytes (slotOf b)) b) (plain l) e)
+plain-at (b ∷ l) (suc i) e h = plain-at l i (both-second (same (slotBytes (slotOf b)) b) (plain l) e) (omega arith)
+
+pub held-part : (m : List ℕ) (i : ℕ) → Held m → i < 16 → take 3292 (drop (slotStart i) m) ≡ slotBytes (getD (stateOf m .slots) i free)
+held-part m i g h =
+    let p = parts 3292 16 (drop 4 m) in
+    let l : i < length p = rw (parts-length 3292 16 (drop 4 m)) h in
+    let e : slotBytes (slotOf (getD p i [])) ≡ getD p i [] = plain-at p i (good-plain m (g .held)) l in
+    sym (rw (slot-part m i h) at e) ∙ ap slotBytes (sym (slot-at m i h))
+
+pub held-free : (m : List ℕ) (i : ℕ) → Held m → i < 16 → numberAt m i ≡ 0 → take 3292 (drop (slotStart i) m) ≡ slotBytes free
+held-free m i g h e = held-part m i g h ∙ ap slotBytes (slot-free m i h e)
+
+pub held-peer : (m : List ℕ) (i : ℕ) → Held m → i < 16 → (numberAt m i ≡ 0 → ⊥)
+    → take 3292 (drop (slotStart i) m) ≡ slotBytes (peer (peerFrom m (slotStart i)))
+held-peer m i g h e = held-part m i g h ∙ ap slotBytes (slot-peer m i h e)
+
+-- ---- counts of a peer's bytes
+
+gids-count : (p : Peer Tail) → length (p .gids) < 4294967296 → wordAt Little (slotBytes (peer p)) 8 ≡ length (p .gids)
+gids-count p h =
+    sym (word-front (slotBytes (peer p)) 8)
+    ∙ rw (split-gids p, drop-at (beforeGids p) (tableBytes 4 16 wordBytes (p .gids) ++ _) 8 (before-gids p)) (table-count 4 16 wordBytes (p .gids) _ h)
+
+calls-count : (p : Peer Tail) → length (p .pending) < 4294967296 → wordAt Little (slotBytes (peer p)) 76 ≡ length (p .pending)
+calls-count p h =
+    sym (word-front (slotBytes (peer p)) 76)
+    ∙ rw (split-pending p, drop-at (beforePending p) (tableBytes 8 16 pendingBytes (p .pending) ++ _) 76 (before-pending p))
+    (table-count 8 16 pendingBytes (p .pending) _ h)
+
+names-count : (p : Peer Tail) → length (p .names) < 4294967296 → wordAt Little (slotBytes (peer p)) 208 ≡ length (p .names)
+names-count p h =
+    sym (word-front (slotBytes (peer p)) 208)
+    ∙ rw (split-names p, drop-at (beforeNames p) (tableBytes 256 4 cellOf (p .names) ++ stream (p .stream)) 208 (before-names p))
+    (table-count 256 4 cellOf (p .names) _ h)
+
+-- ---- counts of the peer whose slot begins at a
+
+pub record Counted (m : List ℕ) (a : ℕ) : Type 0 where
+  pub gids : length (peerFrom m a .gids) ≡ wordAt Little m (a + 8)
+  pub calls : length (peerFrom m a .pending) ≡ wordAt Little m (a + 76)
+  pub names : length (peerFrom m a .names) ≡ wordAt Little m (a + 208)
+  pub head : length (peerFrom m a .stream .head) ≡ wordAt Little m (a + 1240)
+  pub fewGids : wordAt Little m (a + 8) ≤ 16
+  pub fewCalls : wordAt Little m (a + 76) ≤ 16
+  pub fewNames : wordAt Little m (a + 208) ≤ 4
+  pub small : wordAt Little m (a + 1240) ≤ 2048
+
+pub held-counted : (m : List ℕ) (i : ℕ) → Held m → i < 16 → (numberAt m i ≡ 0 → ⊥) → Counted m (slotStart i)
+held-counted m i g h e =
+    let a = slotStart i in
+    let p = peerFrom m a in
+    let count : (k : ℕ) → k + 4 ≤ 3292 → wordAt Little m (a + k) ≡ wordAt Little (slotBytes (peer p)) k
+    = λ k l. sym (word-part m a 3292 k l) ∙ ap (λ (z : List ℕ). wordAt Little z k) (held-peer m i g h e) in
+    let lg : length (p .gids) ≡ min (wordAt Little m (a + 8)) 16 = gids-many m a in
+    let lc : length (p .pending) ≡ min (wordAt Little m (a + 76)) 16 = pending-many m a in
+    let ln : length (p .names) ≡ min (wordAt Little m (a + 208)) 4 = names-many m a in
+    let lh : length (p .stream .head) ≤ 2048 = omega (arith, length-take (min (wordAt Little m (a + 1240)) 2048) (drop (a + 1244) m)) in
+    let eg : wordAt Little m (a + 8) ≡ length (p .gids) = count 8 (omega arith) ∙ gids-count p (omega arith) in
+    let ec : wordAt Little m (a + 76) ≡ length (p .pending) = count 76 (omega arith) ∙ calls-count p (omega arith) in
+    let en : wordAt Little m (a + 208) ≡ length (p .names) = count 208 (omega arith) ∙ names-count p (omega arith) in
+    let eh : wordAt Little m (a + 1240) ≡ length (p .stream .head) = count 1240 (omega arith) ∙ head-count p lh in
+    record {
+      gids = sym eg;
+      calls = sym ec;
+      names = sym en;
+      head = sym eh;
+      fewGids = omega arith;
+      fewCalls = omega arith;
+      fewNames = omega arith;
+      small = omega arith;
+    }

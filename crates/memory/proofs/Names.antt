@@ -1,0 +1,45 @@
+-- A peer's names as a region of memory: the cells in use, as the policy's functions take them. Assumes nothing.
+use mathlib.Core.List.{List, _∷_, map}
+use mathlib.Core.Path.{_≡_, refl, sym, ap, ap₂, _∙_}
+use Prim.Native.Nat.{ℕ, zero, suc, _+_, _*_, _/_, _≤_, _<_, min}
+use native.Mathlib.Omega.{arith}
+use native.Mathlib.Nat.{mul-div-cancel-left, min-eq-left}
+use lib.ListN.{length, getD, take, drop, length-drop}
+use lib.Seq.{take-take, getD-take, drop-drop, length-take-le}
+use Rattle.wire.specs.Bytes.{front}
+use Rattle.wire.specs.Words.{wordAt}
+use Rattle.wire.specs.declared.Order.the-variants.{Little}
+use Rattle.tables.specs.Tables.{parts, tableOf}
+use Rattle.tables.proofs.Parts.{drop-take}
+use Rattle.tables.proofs.Words.{word-front, bytes-take, bytes-drop}
+use Rattle.tables.proofs.Cells.{parts-take}
+use Rattle.policy.specs.Names.{nameOf, cells as nameCells, namesIn}
+use Rattle.memory.proofs.Reading.{peerFrom}
+
+-- a name is read no further than its cell
+pub name-take : (s : List ℕ) → getD s 0 0 < 256 → nameOf (take 256 s) ≡ nameOf s
+name-take s h =
+    rw (getD-take 256 s 0 0 (omega arith), drop-take 1 255 s) (take-take (front s) 255 (drop 1 s) (omega arith))
+
+names-cells : (n : ℕ) (d : List ℕ) → ((i : ℕ) → getD d i 0 < 256) → nameCells n d ≡ map nameOf (parts 256 n d)
+unfolding nameCells parts
+names-cells zero d b = refl
+names-cells (suc n) d b = ap₂ _∷_ (sym (name-take d (b 0))) (names-cells n (drop 256 d) (bytes-drop 256 d b))
+
+-- the n cells in use, n being the count
+pub names-in : (m : List ℕ) (a n : ℕ) → ((i : ℕ) → getD m i 0 < 256) → a + 1236 ≤ length m → n ≡ wordAt Little m (a + 208) → n ≤ 4
+    → namesIn (take (256 * n) (drop (a + 212) m)) ≡ peerFrom m a .names
+unfolding namesIn tableOf
+names-in m a n b l e h =
+    let d = drop (a + 212) m in
+    let s = take (256 * n) d in
+    let k : length s ≡ 256 * n = length-take-le (256 * n) d (omega (arith, length-drop (a + 212) m)) in
+    let q : length s / 256 ≡ n = ap (λ (z : ℕ). z / 256) k ∙ mul-div-cancel-left n (omega arith) in
+    let c : min (wordAt Little m (a + 208)) 4 ≡ n = rw (← e) (min-eq-left h) in
+    let f : a + 208 + 4 ≡ a + 212 = omega arith in
+    let r : map nameOf (parts 256 (min (wordAt Little (drop (a + 208) m) 0) 4) (drop 4 (drop (a + 208) m))) ≡ map nameOf (parts 256 n d)
+    = rw (word-front m (a + 208), c, drop-drop 4 (a + 208) m, f) in
+    rw q
+    (names-cells n s (bytes-take (256 * n) d (bytes-drop (a + 212) m b))
+    ∙ ap (map nameOf) (parts-take 256 n (256 * n) d (omega arith))
+    ∙ sym r)

@@ -1,0 +1,57 @@
+-- The bytes of a peer that has just connected: its number, its uid and its gids, and zeros. Assumes nothing.
+use mathlib.Core.List.{List, [], _++_, append-assoc}
+use mathlib.Core.Path.{_≡_, ap, ap₂, _∙_}
+use Prim.Native.Nat.{ℕ, _+_, _-_, _*_, _≤_}
+use native.Mathlib.Omega.{arith}
+use lib.ListN.{length, replicate, replicate-append-replicate}
+use Rattle.wire.specs.Bytes.{pad}
+use Rattle.wire.specs.Words.{wordBytes}
+use Rattle.wire.proofs.Words.{word-length}
+use Rattle.tables.specs.Tables.{cells, tableBytes}
+use Rattle.tables.proofs.Table.{table-spread}
+use Rattle.tables.proofs.Same.{pad-none}
+use Rattle.policy.specs.Names.{cellOf}
+use Rattle.stream.specs.Tail.{tails}
+use Rattle.rules.specs.State.{peer}
+use Rattle.rules.specs.Calls.{newcomer}
+use Rattle.memory.specs.Encoding.{pendingBytes, headBytes, peerBytes, slotBytes}
+use Rattle.memory.proofs.Frame.{word-zero}
+use Rattle.memory.proofs.Heads.{single, head-table}
+
+-- an empty table is zero
+pub table-none : {A : Type 0} (w k : ℕ) (enc : A → List ℕ) → tableBytes w k enc [] ≡ replicate (4 + w * k) 0
+unfolding tableBytes cells
+table-none w k enc = ap₂ _++_ word-zero (pad-none (w * k)) ∙ replicate-append-replicate {A = ℕ} 4 (w * k) 0
+
+zeros : (a b : ℕ) (p q : List ℕ) → p ≡ replicate a 0 → q ≡ replicate b 0 → p ++ q ≡ replicate (a + b) 0
+zeros a b p q e f = ap₂ _++_ e f ∙ replicate-append-replicate {A = ℕ} a b 0
+
+pub newcomer-bytes : (n uid : ℕ) (gids : List ℕ)
+    → slotBytes (peer (newcomer tails n uid gids)) ≡ wordBytes n ++ (wordBytes uid ++ (tableBytes 4 16 wordBytes gids ++ replicate 3216 0))
+unfolding slotBytes peerBytes
+newcomer-bytes n uid gids =
+    let P = tableBytes 8 16 pendingBytes [] in
+    let N = tableBytes 256 4 cellOf [] in
+    let H = headBytes [] in
+    let h : H ≡ replicate 2052 0 = head-table [] ∙ table-none 1 2048 single in
+    let t = zeros 4 2052 (wordBytes 0) H word-zero h in
+    let u = zeros 1028 2056 N (wordBytes 0 ++ H) (table-none 256 4 cellOf) t in
+    let v = zeros 132 3084 P (N ++ (wordBytes 0 ++ H)) (table-none 8 16 pendingBytes) u in
+    ap (λ (z : List ℕ). wordBytes n ++ (wordBytes uid ++ (tableBytes 4 16 wordBytes gids ++ z))) v
+
+-- the gids' cells, and zeros
+pub newcomer-spread : (n uid : ℕ) (gids : List ℕ) → length gids ≤ 16
+    → slotBytes (peer (newcomer tails n uid gids))
+    ≡ wordBytes n ++ (wordBytes uid ++ (wordBytes (length gids) ++ (cells wordBytes gids ++ replicate (3280 - 4 * length gids) 0)))
+unfolding tableBytes
+newcomer-spread n uid gids h =
+    let c = cells wordBytes gids in
+    let x = 64 - 4 * length gids in
+    let e : x + 3216 ≡ 3280 - 4 * length gids = omega arith in
+    let s : (wordBytes (length gids) ++ pad 64 c) ++ replicate 3216 0 ≡ wordBytes (length gids) ++ (c ++ replicate (3280 - 4 * length gids) 0)
+    = append-assoc (wordBytes (length gids)) (pad 64 c) (replicate 3216 0)
+    ∙ ap (λ (z : List ℕ). wordBytes (length gids) ++ z)
+    (ap (λ (z : List ℕ). z ++ replicate 3216 0) (table-spread 4 16 wordBytes word-length gids h)
+    ∙ append-assoc c (replicate x 0) (replicate 3216 0)
+    ∙ ap (λ (z : List ℕ). c ++ z) (replicate-append-replicate {A = ℕ} x 3216 0 ∙ ap (λ (k : ℕ). replicate k 0) e)) in
+    newcomer-bytes n uid gids ∙ ap (λ (z : List ℕ). wordBytes n ++ (wordBytes uid ++ z)) s

@@ -1,0 +1,55 @@
+-- Numbers below a bound, as a test and by place; and the head in a slot of bytes is one of bytes. Assumes nothing.
+use mathlib.Core.Path.{_≡_, refl}
+use mathlib.Core.Bool.{Bool, true, false, cond, _&&_}
+use mathlib.Core.List.{List, [], _∷_, _++_}
+use Prim.Native.Nat.{ℕ, zero, suc, _+_, _<_, min}
+use lib.Dec.{ltb, eqb}
+use lib.ListN.{getD, take, drop}
+use borrow.Author.Tests.{lt-ltb, ltb-true}
+use Rattle.wire.specs.Words.{wordAt}
+use Rattle.wire.specs.declared.Order.the-variants.{Little}
+use Rattle.wire.proofs.Texts.{both-first, both-second, both-true}
+use Rattle.rules.specs.State.{Slot, free, peer}
+use Rattle.stream.specs.Tail.{Tail}
+use Rattle.memory.specs.Layout.{headAt}
+use Rattle.memory.specs.Encoding.{tailOf, peerOf, slotOf}
+use Rattle.memory.specs.Sound.{every, octet, headOctets}
+
+-- ---- every thing of a list
+
+module _ {A : Type 0} (t : A → Bool) where
+  pub every-snoc : (l : List A) (x : A) → every t l ≡ true → t x ≡ true → every t (l ++ (x ∷ [])) ≡ true
+  every-snoc [] x e h = rw h
+  every-snoc (y ∷ l) x e h =
+      both-true (t y) (every t (l ++ (x ∷ []))) (both-first (t y) (every t l) e) (every-snoc l x (both-second (t y) (every t l) e) h)
+
+  pub every-take : (k : ℕ) (l : List A) → every t l ≡ true → every t (take k l) ≡ true
+  every-take zero l e = refl
+  every-take (suc k) [] e = refl
+  every-take (suc k) (x ∷ l) e = both-true (t x) (every t (take k l)) (both-first (t x) (every t l) e) (every-take k l (both-second (t x) (every t l) e))
+
+  pub every-drop : (k : ℕ) (l : List A) → every t l ≡ true → every t (drop k l) ≡ true
+  every-drop zero l e = e
+  every-drop (suc k) [] e = refl
+  every-drop (suc k) (x ∷ l) e = every-drop k l (both-second (t x) (every t l) e)
+
+-- ---- numbers below k
+
+pub every-below : (k : ℕ) (l : List ℕ) → ((i : ℕ) → getD l i 0 < k) → every (λ n. ltb n k) l ≡ true
+every-below k [] h = refl
+every-below k (x ∷ l) h = both-true (ltb x k) (every (λ n. ltb n k) l) (lt-ltb x k (h 0)) (every-below k l (λ i. h (suc i)))
+
+pub below-every : (k : ℕ) (l : List ℕ) → 0 < k → every (λ n. ltb n k) l ≡ true → (i : ℕ) → getD l i 0 < k
+below-every k [] h e i = h
+below-every k (x ∷ l) h e zero = ltb-true x k (both-first (ltb x k) (every (λ n. ltb n k) l) e)
+below-every k (x ∷ l) h e (suc i) = below-every k l h (both-second (ltb x k) (every (λ n. ltb n k) l) e) i
+
+-- ---- the head in a slot
+
+pub slot-octets : (b : List ℕ) → ((i : ℕ) → getD b i 0 < 256) → headOctets (slotOf b) ≡ true
+unfolding slotOf peerOf tailOf headOctets
+slot-octets b h = go (eqb (wordAt Little b 0) 0)
+  where
+    go : (z : Bool) → headOctets (cond z free (peer (peerOf b))) ≡ true
+    go true = refl
+    go false = every-take octet (min (wordAt Little b headAt) 2048) (drop (headAt + 4) b) (every-drop octet (headAt + 4) b (every-below 256 b h))

@@ -1,0 +1,135 @@
+-- A slot that fits its bytes is read back from them. Assumes nothing.
+use mathlib.Core.List.{List, _++_, map}
+use mathlib.Core.Path.{_≡_, refl, sym, ap, _∙_}
+use Prim.Native.Nat.{ℕ, _+_, _≤_, _<_, min}
+use native.Mathlib.Omega.{arith}
+use native.Mathlib.Nat.{min-eq-left}
+use lib.ListN.{length, take, drop, replicate, getD-replicate}
+use lib.Seq.{take-at, drop-at, drop-drop}
+use borrow.Author.Tests.{ne-eqb}
+use Rattle.wire.specs.Bytes.{pad}
+use Rattle.wire.specs.Words.{wordAt, wordBytes}
+use Rattle.wire.specs.declared.Order.the-variants.{Little}
+use Rattle.wire.proofs.Words.{word-length, word-again}
+use Rattle.tables.specs.Tables.{tableBytes, tableOf}
+use Rattle.tables.proofs.Parts.{pad-fits}
+use Rattle.tables.proofs.Words.{word-front}
+use Rattle.tables.proofs.Table.{table-again}
+use Rattle.policy.specs.Names.{cellOf, nameOf}
+use Rattle.stream.specs.Tail.{Tail}
+use Rattle.rules.specs.State.{Peer, free, peer}
+use Rattle.memory.specs.Encoding.{pendingBytes, headBytes, peerBytes, slotBytes, wordOf, pendingOf, tailOf, peerOf, slotOf}
+use Rattle.memory.proofs.Frame.{pending-length, cell-length, free-bytes}
+use Rattle.memory.proofs.Fields.{beforeGids, beforePending, beforeNames, before-gids, before-pending, before-names, stream, split-gids, split-pending, split-names, stream-bytes}
+
+-- what the bytes of a slot can hold
+pub record Fits (p : Peer Tail) : Type 0 where
+  pub number : p .number < 4294967296
+  pub uid : p .uid < 4294967296
+  pub gids : length (p .gids) ≤ 16
+  pub gidsBack : map wordOf (map wordBytes (p .gids)) ≡ p .gids
+  pub calls : length (p .pending) ≤ 16
+  pub callsBack : map pendingOf (map pendingBytes (p .pending)) ≡ p .pending
+  pub names : length (p .names) ≤ 4
+  pub namesBack : map nameOf (map cellOf (p .names)) ≡ p .names
+  pub taken : p .stream .taken < 4294967296
+  pub head : length (p .stream .head) ≤ 2048
+
+-- ---- each field
+
+pub number-back : (p : Peer Tail) → p .number < 4294967296 → wordAt Little (slotBytes (peer p)) 0 ≡ p .number
+unfolding slotBytes peerBytes
+number-back p h = word-again (p .number) _ h
+
+pub uid-back : (p : Peer Tail) → p .uid < 4294967296 → wordAt Little (slotBytes (peer p)) 4 ≡ p .uid
+unfolding slotBytes peerBytes
+uid-back p h =
+    sym (word-front (peerBytes p) 4)
+    ∙ ap (λ (z : List ℕ). wordAt Little z 0) (drop-at (wordBytes (p .number)) _ 4 (word-length (p .number)))
+    ∙ word-again (p .uid) _ h
+
+pub gids-back : (p : Peer Tail) → length (p .gids) ≤ 16 → map wordOf (map wordBytes (p .gids)) ≡ p .gids
+    → tableOf 4 16 wordOf (drop 8 (slotBytes (peer p))) ≡ p .gids
+gids-back p h e =
+    rw (split-gids p, drop-at (beforeGids p) (tableBytes 4 16 wordBytes (p .gids) ++ _) 8 (before-gids p))
+    (table-again 4 16 wordBytes word-length wordOf (p .gids) _ h (omega arith) e)
+
+pub calls-back : (p : Peer Tail) → length (p .pending) ≤ 16 → map pendingOf (map pendingBytes (p .pending)) ≡ p .pending
+    → tableOf 8 16 pendingOf (drop 76 (slotBytes (peer p))) ≡ p .pending
+calls-back p h e =
+    rw (split-pending p, drop-at (beforePending p) (tableBytes 8 16 pendingBytes (p .pending) ++ _) 76 (before-pending p))
+    (table-again 8 16 pendingBytes pending-length pendingOf (p .pending) _ h (omega arith) e)
+
+pub names-back : (p : Peer Tail) → length (p .names) ≤ 4 → map nameOf (map cellOf (p .names)) ≡ p .names
+    → tableOf 256 4 nameOf (drop 208 (slotBytes (peer p))) ≡ p .names
+names-back p h e =
+    rw (split-names p, drop-at (beforeNames p) (tableBytes 256 4 cellOf (p .names) ++ stream (p .stream)) 208 (before-names p))
+    (table-again 256 4 cellOf cell-length nameOf (p .names) _ h (omega arith) e)
+
+-- the head behind the bytes d, of which the first 1236 are something else
+pub taken-back : (p : Peer Tail) → p .stream .taken < 4294967296 → wordAt Little (slotBytes (peer p)) 1236 ≡ p .stream .taken
+taken-back p h =
+    sym (word-front (slotBytes (peer p)) 1236)
+    ∙ ap (λ (z : List ℕ). wordAt Little z 0) (stream-bytes p)
+    ∙ word-again (p .stream .taken) (headBytes (p .stream .head)) h
+
+head-bytes : (p : Peer Tail) → drop 1240 (slotBytes (peer p)) ≡ headBytes (p .stream .head)
+head-bytes p =
+    sym (drop-drop 4 1236 (slotBytes (peer p)))
+    ∙ ap (drop 4) (stream-bytes p)
+    ∙ drop-at (wordBytes (p .stream .taken)) (headBytes (p .stream .head)) 4 (word-length (p .stream .taken))
+
+pub head-count : (p : Peer Tail) → length (p .stream .head) ≤ 2048 → wordAt Little (slotBytes (peer p)) 1240 ≡ length (p .stream .head)
+unfolding headBytes
+head-count p h =
+    sym (word-front (slotBytes (peer p)) 1240)
+    ∙ ap (λ (z : List ℕ). wordAt Little z 0) (head-bytes p)
+    ∙ word-again (length (p .stream .head)) (pad 2048 (p .stream .head)) (omega arith)
+
+pub head-padded : (p : Peer Tail) → drop 1244 (slotBytes (peer p)) ≡ pad 2048 (p .stream .head)
+unfolding headBytes
+head-padded p =
+    let h = p .stream .head in
+    sym (drop-drop 4 1240 (slotBytes (peer p)))
+    ∙ ap (drop 4) (head-bytes p)
+    ∙ drop-at (wordBytes (length h)) (pad 2048 h) 4 (word-length (length h))
+
+pub tail-back : (p : Peer Tail) → p .stream .taken < 4294967296 → length (p .stream .head) ≤ 2048 → tailOf (slotBytes (peer p)) ≡ p .stream
+unfolding tailOf
+tail-back p l h =
+    let a = taken-back p l in
+    let m : min (length (p .stream .head)) 2048 ≡ length (p .stream .head) = min-eq-left h in
+    let b : take (min (wordAt Little (slotBytes (peer p)) 1240) 2048) (drop 1244 (slotBytes (peer p))) ≡ p .stream .head
+    = rw (head-count p h, m, head-padded p, pad-fits 2048 (p .stream .head) h) (take-at (p .stream .head) _ (length (p .stream .head)) refl) in
+    λ j. record { taken = a j; head = b j }
+
+-- ---- the whole
+
+pub peer-back : (p : Peer Tail) → Fits p → peerOf (slotBytes (peer p)) ≡ p
+unfolding peerOf
+peer-back p f =
+    let a = number-back p (f .number) in
+    let b = uid-back p (f .uid) in
+    let c = gids-back p (f .gids) (f .gidsBack) in
+    let d = calls-back p (f .calls) (f .callsBack) in
+    let e = names-back p (f .names) (f .namesBack) in
+    let g = tail-back p (f .taken) (f .head) in
+    λ j. record { number = a j; uid = b j; gids = c j; pending = d j; names = e j; stream = g j }
+
+pub slot-back : (p : Peer Tail) → 1 ≤ p .number → Fits p → slotOf (slotBytes (peer p)) ≡ peer p
+unfolding slotOf
+slot-back p h f = rw (number-back p (f .number), ne-eqb (p .number) 0 (omega arith), peer-back p f)
+
+zeros-word : (n : ℕ) → 4 ≤ n → wordAt Little (replicate n 0) 0 ≡ 0
+unfolding wordAt
+zeros-word n h =
+    rw (
+      getD-replicate {A = ℕ} n 0 0 0 (omega arith),
+      getD-replicate {A = ℕ} n 1 0 0 (omega arith),
+      getD-replicate {A = ℕ} n 2 0 0 (omega arith),
+      getD-replicate {A = ℕ} n 3 0 0 (omega arith),
+    )
+
+pub free-back : slotOf (slotBytes free) ≡ free
+unfolding slotOf
+free-back = rw (free-bytes, zeros-word 3292 (omega arith))

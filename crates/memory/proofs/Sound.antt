@@ -1,0 +1,113 @@
+-- A sound state is read back from its bytes, and these are good memory: memory is good exactly where it is the bytes of a sound state.
+-- Assumes nothing.
+use mathlib.Core.Bool.{true, _&&_}
+use mathlib.Core.Logic.{_↔_}
+use mathlib.Core.List.{List, [], _∷_, map, append-nil}
+use mathlib.Core.Path.{_≡_, refl, ap₂}
+use Prim.Native.Nat.{ℕ, _≤_, _<_}
+use native.Mathlib.Omega.{arith}
+use lib.ListN.{length, getD, drop}
+use borrow.Author.Tests.{eq-eqb, ltb-true}
+use Rattle.wire.specs.Words.{wordAt}
+use Rattle.wire.specs.declared.Order.the-variants.{Little}
+use Rattle.wire.proofs.Texts.{both-first, both-second, same-refl}
+use Rattle.wire.proofs.Words.{word-again}
+use Rattle.tables.specs.Tables.{cells, parts}
+use Rattle.tables.proofs.Cells.{cells-parts}
+use Rattle.stream.proofs.Good.{tail-fits}
+use Rattle.stream.specs.Tail.{Tail, goodTail}
+use Rattle.rules.specs.State.{Peer, Slot, free, peer, State}
+use Rattle.rules.specs.Calls.{empty}
+use Rattle.memory.specs.Encoding.{slotBytes, memoryOf, slotOf, stateOf}
+use Rattle.memory.specs.Good.{goodSlot, goodSlots, plain, good}
+use Rattle.memory.specs.Sound.{headOctets, every, word32, narrow, Sound}
+use Rattle.memory.proofs.Frame.{slot-length, memory-length, memory-slots}
+use Rattle.memory.proofs.Peers.{GoodPeer, peer-good, slots-first, slots-later}
+use Rattle.memory.proofs.Again.{words-back, names-back, pendings-back}
+use Rattle.memory.proofs.Slots.{Fits, slot-back, free-back}
+use Rattle.memory.proofs.Good.{good-is, good-sound}
+
+pub sound-empty : Sound empty
+unfolding goodSlots narrow headOctets
+sound-empty = record { sixteen = refl; fits = omega arith; slots = refl; narrows = refl; octets = refl }
+
+-- the parts of the bytes of slots are the bytes of each
+slot-parts : (slots : List (Slot Tail)) → length slots ≡ 16 → parts 3292 16 (cells slotBytes slots) ≡ map slotBytes slots
+slot-parts slots e =
+    rw (append-nil (cells slotBytes slots), e) at (cells-parts 3292 slotBytes slot-length slots [])
+
+last-back : (s : State Tail) → s .last < 4294967296 → wordAt Little (memoryOf s) 0 ≡ s .last
+unfolding memoryOf
+last-back s h = word-again (s .last) (cells slotBytes (s .slots)) h
+
+module _ (all : List (Slot Tail)) (last : ℕ) (g : goodSlots all last all ≡ true) (l : last < 4294967296) where
+  peer-fits : (p : Peer Tail) (later : List (Slot Tail)) → GoodPeer all last p later → narrow (peer p) ≡ true → Fits p
+  unfolding narrow
+  peer-fits p later q n =
+      let a = word32 (p .uid) in
+      let b = every word32 (p .gids) in
+      let c = every (λ w. word32 (w .serial)) (p .pending) in
+      let ab : a && b ≡ true = both-first (a && b) c n in
+      let within : p .number ≤ last = q .within in
+      let taken : p .stream .taken < 134217728 = tail-fits (p .stream) (q .tail) .0 in
+      record {
+        number = omega arith;
+        uid = ltb-true (p .uid) 4294967296 (both-first a b ab);
+        gids = q .gids;
+        gidsBack = words-back (p .gids) (both-second a b ab);
+        calls = q .calls;
+        callsBack = pendings-back all last (p .pending) g l (q .pending) (both-second (a && b) c n);
+        names = q .few;
+        namesBack = names-back (p .names) later (q .names);
+        taken = omega arith;
+        head = tail-fits (p .stream) (q .tail) .1;
+      }
+
+  pub slot-again : (x : Slot Tail) (later : List (Slot Tail)) → goodSlot all last x later ≡ true → narrow x ≡ true → slotOf (slotBytes x) ≡ x
+  slot-again free later e n = free-back
+  slot-again (peer p) later e n =
+      let q = peer-good all last p later e in
+      slot-back p (q .some) (peer-fits p later q n)
+
+  slots-again : (slots : List (Slot Tail)) → goodSlots all last slots ≡ true → every narrow slots ≡ true → map slotOf (map slotBytes slots) ≡ slots
+  slots-again [] e n = refl
+  slots-again (x ∷ later) e n =
+      ap₂ _∷_ (slot-again x later (slots-first all last x later e) (both-first (narrow x) (every narrow later) n))
+      (slots-again later (slots-later all last x later e) (both-second (narrow x) (every narrow later) n))
+
+  plain-slots : (slots : List (Slot Tail)) → goodSlots all last slots ≡ true → every narrow slots ≡ true → plain (map slotBytes slots) ≡ true
+  unfolding plain
+  plain-slots [] e n = refl
+  plain-slots (x ∷ later) e n =
+      rw (
+        slot-again x later (slots-first all last x later e) (both-first (narrow x) (every narrow later) n),
+        same-refl (slotBytes x),
+      )
+      (plain-slots later (slots-later all last x later e) (both-second (narrow x) (every narrow later) n))
+
+-- a sound state is read off its bytes
+pub state-again : (s : State Tail) → Sound s → stateOf (memoryOf s) ≡ s
+unfolding stateOf
+state-again s g =
+    let a : wordAt Little (memoryOf s) 0 ≡ s .last = last-back s (g .fits) in
+    let b : map slotOf (parts 3292 16 (drop 4 (memoryOf s))) ≡ s .slots
+    = rw (memory-slots s, slot-parts (s .slots) (g .sixteen)) (slots-again (s .slots) (s .last) (g .slots) (g .fits) (s .slots) (g .slots) (g .narrows)) in
+    λ j. record { last = a j; slots = b j }
+
+-- and its bytes are good
+pub good-memory : (s : State Tail) → Sound s → good (memoryOf s) ≡ true
+unfolding good
+good-memory s g =
+    let p = plain-slots (s .slots) (s .last) (g .slots) (g .fits) (s .slots) (g .slots) (g .narrows) in
+    rw (
+      eq-eqb (length (memoryOf s)) 52676 (memory-length s (g .sixteen)),
+      state-again s g,
+      g .slots,
+      memory-slots s,
+      slot-parts (s .slots) (g .sixteen),
+      p,
+    )
+
+-- memory is good exactly where it is the bytes of a sound state
+pub good-iff : (m : List ℕ) → ((i : ℕ) → getD m i 0 < 256) → (good m ≡ true) ↔ ((s : State Tail) × Sound s × (memoryOf s ≡ m))
+good-iff m b = (λ e. (stateOf m, good-sound m b e, good-is m b e), λ x. rw (← (x .2)) (good-memory (x .0) (x .1)))

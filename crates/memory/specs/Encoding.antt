@@ -1,0 +1,67 @@
+-- What a state is in bytes, and what bytes say. Each part has its length whatever the state is. Assumes nothing: these are definitions.
+use mathlib.Core.Bool.{cond}
+use mathlib.Core.List.{List, [], _∷_, _++_, map}
+use Prim.Native.Nat.{ℕ, _+_, min}
+use lib.Dec.{eqb}
+use lib.ListN.{length, take, drop, replicate}
+use Rattle.wire.specs.Bytes.{pad}
+use Rattle.wire.specs.Words.{wordAt, wordBytes}
+use Rattle.wire.specs.declared.Order.the-variants.{Little}
+use Rattle.tables.specs.Tables.{cells, parts, tableBytes, tableOf}
+use Rattle.policy.specs.Names.{cellOf, nameOf}
+use Rattle.stream.specs.Tail.{Tail}
+use Rattle.rules.specs.State.{Pending, Peer, Slot, free, peer, State}
+use Rattle.memory.specs.Layout.{gidsAt, pendingAt, namesAt, takenAt, headAt, slotLength, slotStart}
+
+-- ---- what a state is in bytes
+
+abbrev pub pendingBytes : Pending → List ℕ
+pendingBytes w = wordBytes (w .callee) ++ wordBytes (w .serial)
+
+unfoldable pub headBytes : List ℕ → List ℕ
+headBytes h = wordBytes (length h) ++ pad 2048 h
+
+unfoldable pub peerBytes : Peer Tail → List ℕ
+peerBytes p =
+    wordBytes (p .number)
+    ++ (wordBytes (p .uid)
+    ++ (tableBytes 4 16 wordBytes (p .gids)
+    ++ (tableBytes 8 16 pendingBytes (p .pending)
+    ++ (tableBytes 256 4 cellOf (p .names) ++ (wordBytes (p .stream .taken) ++ headBytes (p .stream .head))))))
+
+unfoldable pub slotBytes : Slot Tail → List ℕ
+slotBytes free = replicate slotLength 0
+slotBytes (peer p) = peerBytes p
+
+unfoldable pub memoryOf : State Tail → List ℕ
+memoryOf s = wordBytes (s .last) ++ cells slotBytes (s .slots)
+
+-- ---- what bytes say
+
+abbrev pub wordOf : List ℕ → ℕ
+wordOf b = wordAt Little b 0
+
+abbrev pub pendingOf : List ℕ → Pending
+pendingOf b = record { callee = wordAt Little b 0; serial = wordAt Little b 4 }
+
+unfoldable pub tailOf : List ℕ → Tail
+tailOf b =
+    record { taken = wordAt Little b takenAt; head = take (min (wordAt Little b headAt) 2048) (drop (headAt + 4) b) }
+
+unfoldable pub peerOf : List ℕ → Peer Tail
+peerOf b =
+    record {
+      number = wordAt Little b 0;
+      uid = wordAt Little b 4;
+      gids = tableOf 4 16 wordOf (drop gidsAt b);
+      pending = tableOf 8 16 pendingOf (drop pendingAt b);
+      names = tableOf 256 4 nameOf (drop namesAt b);
+      stream = tailOf b;
+    }
+
+-- a slot whose number is 0 is free
+unfoldable pub slotOf : List ℕ → Slot Tail
+slotOf b = cond (eqb (wordAt Little b 0) 0) free (peer (peerOf b))
+
+unfoldable pub stateOf : List ℕ → State Tail
+stateOf m = record { last = wordAt Little m 0; slots = map slotOf (parts slotLength 16 (drop 4 m)) }

@@ -1,0 +1,29 @@
+-- Where things stand in the guard's memory: the last number, then sixteen slots of one size. Assumes nothing: these are definitions.
+use Prim.Native.Nat.{ℕ, _+_, _*_}
+
+-- of a slot: number, uid, gids (a count and 16 of 4 bytes), pending calls (a count and 16 of 8), names (a count and 4 of 256), bytes taken of the
+-- unfinished message, and its head (a count and 2,048 bytes)
+abbrev pub gidsAt : ℕ
+gidsAt = 8
+
+abbrev pub pendingAt : ℕ
+pendingAt = 76
+
+abbrev pub namesAt : ℕ
+namesAt = 208
+
+abbrev pub takenAt : ℕ
+takenAt = 1236
+
+abbrev pub headAt : ℕ
+headAt = 1240
+
+abbrev pub slotLength : ℕ
+slotLength = 3292
+
+-- where slot i stands
+abbrev pub slotStart : ℕ → ℕ
+slotStart i = 4 + 3292 * i
+
+abbrev pub memoryLength : ℕ
+memoryLength = 52676

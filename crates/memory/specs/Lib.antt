@@ -1,0 +1,5 @@
+pub mod Layout
+pub mod Encoding
+pub mod Good
+pub mod Sound
+pub mod Calls

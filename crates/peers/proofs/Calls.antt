@@ -1,0 +1,174 @@
+-- Ending the calls to a callee: in a table, in a slot, in every slot. Assumes nothing.
+use mathlib.Core.Path.{_≡_, refl, sym, ap, _∙_}
+use mathlib.Core.List.{List, [], _++_, append-nil}
+use Prim.Native.Nat.{ℕ, _+_, _-_, _*_, _≤_, _<_}
+use native.Mathlib.Omega.{arith}
+use lib.ListN.{length, take, drop, length-drop, drop-of-length-le}
+use lib.Seq.{drop-at, drop-drop, take-take, take-all, length-take-le}
+use borrow.Author.Needs.{needs}
+use Rattle.wire.specs.Words.{wordAt, wordBytes}
+use Rattle.wire.specs.declared.Order.the-variants.{Little}
+use Rattle.wire.proofs.Words.{cut-at, put-at}
+use Rattle.tables.specs.Tables.{tableBytes, tableOf}
+use Rattle.tables.proofs.Parts.{drop-take, drop-past, part-nested, cut-two}
+use Rattle.tables.proofs.Table.{table-take}
+use Rattle.rules.specs.State.{Pending, peer}
+use Rattle.rules.specs.Pending.{endedAll, bereft}
+use Rattle.memory.specs.Encoding.{pendingBytes, pendingOf, slotBytes, peerOf, slotOf, memoryOf, stateOf}
+use Rattle.memory.proofs.Reading.{sixteen, slot-at, numberAt, part-peer}
+use Rattle.memory.proofs.Fields.{pending-bytes}
+use Rattle.memory.proofs.Frame.{slot-length, memory-at}
+use Rattle.memory.proofs.Check.{part-number}
+use Rattle.tables.proofs.Close.{cutOut as closed}
+use Rattle.memory.proofs.Ending.{Ending, ending-begins, ending-out, ending-stays, ending-ends}
+use Rattle.memory.proofs.Bereft.{bereft-free, bereft-peer, pending-of}
+use Rattle.memory.proofs.Sweep.{changed, Sweeping, sweeping-begins, sweeping-again, sweeping-ends}
+use Rattle.peers.specs.Writes.{cutOut, Table}
+use Rattle.peers.specs.Steps.{PlainSlot, Encoded, endedAt, endedFor}
+use Rattle.peers.proofs.Found.{Octets, below}
+
+-- ---- in a table
+
+pub calls-begin : (c : ℕ) (t : List ℕ) (n : ℕ) → length t ≡ 132 → Octets t → t ≡ tableBytes 8 16 pendingBytes (tableOf 8 16 pendingOf t)
+    → n ≡ wordAt Little t 0 → Ending c (tableOf 8 16 pendingOf t) t n 0
+calls-begin c t n l f e en = ending-begins c t n l (below t f) e en
+
+module _ {c : ℕ} {ws : List Pending} {t : List ℕ} {n j : ℕ} (g : Ending c ws t n j) (h : j < n) where
+  pub calls-table : Table t (8 * j) 8 (8 * n)
+  calls-table =
+      let l : length t ≡ 132 = g .sized in
+      let f : n ≤ 16 = g .few in
+      record { inside = omega arith; room = omega arith }
+
+  module _ (k : ℕ) (e : k ≡ wordAt Little t (4 + 8 * j)) where
+    pub calls-out : k ≡ c → (t₂ : List ℕ) → t₂ ≡ wordBytes (n - 1) ++ cutOut (8 * j) 8 (8 * n) (drop 4 t) → Ending c ws t₂ (n - 1) j
+    unfolding cutOut closed
+    calls-out q t₂ e₂ = ending-out c ws t n j g h k e q t₂ (n - 1) e₂ refl
+
+    pub calls-on : (k ≡ c → ⊥) → Ending c ws t n (j + 1)
+    calls-on q = ending-stays c ws t n j g h k e q
+
+pub calls-end : {c : ℕ} {ws : List Pending} {t : List ℕ} {n j : ℕ} → Ending c ws t n j → n ≤ j → t ≡ tableBytes 8 16 pendingBytes (endedAll c ws)
+calls-end {c} {ws} {t} {n} {j} g h = ending-ends c ws t n j g h
+
+pub ruleset calls = (calls-begin, calls-table, calls-out, calls-on, calls-end, needs)
+
+-- ---- in slot i
+
+module _ (m : List ℕ) (i : ℕ) (p : PlainSlot m i) (n : ℕ) (e : n ≡ numberAt m i) where
+  part : List ℕ
+  part = take 3292 (drop (4 + 3292 * i) m)
+
+  number : wordAt Little part 0 ≡ n
+  unfolding part
+  number = part-number m i ∙ sym e
+
+  pub slot-none : n ≡ 0 → (c : ℕ) → m ≡ endedAt m i c
+  unfolding endedAt part
+  slot-none z c =
+      let q : part ≡ changed (bereft c) part = bereft-free c part (p .plain) (number ∙ z) in
+      cut-two m (4 + 3292 * i) 3292 ∙ ap (λ (y : List ℕ). take (4 + 3292 * i) m ++ (y ++ drop (4 + 3292 * i + 3292) m)) q
+
+  -- the table of pending calls, as the code cuts it
+  cut-table : take (4 + 3292 * i + 76 + 132 - (4 + 3292 * i + 76)) (drop (4 + 3292 * i + 76) m) ≡ take 132 (drop 76 part)
+  unfolding part
+  cut-table =
+      let d = drop (4 + 3292 * i) m in
+      cut-at (4 + 3292 * i + 76) 132 m
+      ∙ ap (take 132) (sym (drop-drop 76 (4 + 3292 * i) m))
+      ∙ sym (ap (take 132) (drop-take 76 3216 d) ∙ take-take 132 3216 (drop 76 d) (omega arith))
+
+  pub slot-length-is : length (take (4 + 3292 * i + 76 + 132 - (4 + 3292 * i + 76)) (drop (4 + 3292 * i + 76) m)) ≡ 132
+  slot-length-is =
+      let s : length m ≡ 52676 = p .sized in
+      let h : i < 16 = p .below in
+      ap length (cut-at (4 + 3292 * i + 76) 132 m)
+      ∙ length-take-le 132 (drop (4 + 3292 * i + 76) m) (omega (arith, length-drop (4 + 3292 * i + 76) m))
+
+  -- what it says is what the slot says
+  pending-is : tableOf 8 16 pendingOf (take 132 (drop 76 part)) ≡ peerOf part .pending
+  pending-is = table-take 8 16 pendingOf (drop 76 part) 132 (omega arith) ∙ sym (pending-of part)
+
+  module _ (z : n ≡ 0 → ⊥) where
+    taken : wordAt Little part 0 ≡ 0 → ⊥
+    taken y = z (sym number ∙ y)
+
+    pub slot-table : take (4 + 3292 * i + 76 + 132 - (4 + 3292 * i + 76)) (drop (4 + 3292 * i + 76) m)
+        ≡ tableBytes 8 16 pendingBytes (tableOf 8 16 pendingOf (take (4 + 3292 * i + 76 + 132 - (4 + 3292 * i + 76)) (drop (4 + 3292 * i + 76) m)))
+    unfolding part
+    slot-table =
+        let s : slotBytes (peer (peerOf part)) ≡ part = ap slotBytes (sym (part-peer part taken)) ∙ p .plain in
+        let q : take 132 (drop 76 part) ≡ tableBytes 8 16 pendingBytes (peerOf part .pending)
+        = ap (λ (y : List ℕ). take 132 (drop 76 y)) (sym s) ∙ pending-bytes (peerOf part) in
+        rw cut-table (q ∙ ap (tableBytes 8 16 pendingBytes) (sym pending-is))
+
+    pub slot-ended : (c : ℕ) (t : List ℕ)
+        → t
+        ≡ tableBytes 8 16 pendingBytes
+        (endedAll c (tableOf 8 16 pendingOf (take (4 + 3292 * i + 76 + 132 - (4 + 3292 * i + 76)) (drop (4 + 3292 * i + 76) m))))
+        → take (4 + 3292 * i + 76) m ++ (t ++ drop (4 + 3292 * i + 76 + 132 - (4 + 3292 * i + 76)) (drop (4 + 3292 * i + 76) m)) ≡ endedAt m i c
+    unfolding endedAt part
+    slot-ended c t et =
+        let f : t ≡ tableBytes 8 16 pendingBytes (endedAll c (peerOf part .pending))
+        = et ∙ ap (λ (y : List ℕ). tableBytes 8 16 pendingBytes (endedAll c (tableOf 8 16 pendingOf y))) cut-table
+        ∙ ap (λ (ws : List Pending). tableBytes 8 16 pendingBytes (endedAll c ws)) pending-is in
+        put-at (4 + 3292 * i + 76) 132 m t
+        ∙ sym (part-nested m t (4 + 3292 * i) 76 132 3292 (omega arith))
+        ∙ ap (λ (y : List ℕ). take (4 + 3292 * i) m ++ ((take 76 part ++ (y ++ drop 208 part)) ++ drop (4 + 3292 * i + 3292) m)) f
+        ∙ ap (λ (y : List ℕ). take (4 + 3292 * i) m ++ (y ++ drop (4 + 3292 * i + 3292) m)) (bereft-peer c part (p .plain) taken)
+
+pub ruleset slot-calls = (slot-none, slot-length-is, slot-table, slot-ended, needs)
+
+-- ---- in every slot: those before slot i are done, and the others are as they were
+
+pub record Bereaving (m₀ m : List ℕ) (c i : ℕ) : Type 0 where
+  pub sweeping : Sweeping (bereft c) m₀ m i
+  pub inside : i ≤ 16
+  pub sized : length m ≡ 52676
+  pub whole : memoryOf (stateOf m₀) ≡ m₀
+  pub rest : drop (4 + 3292 * i) m ≡ drop (4 + 3292 * i) m₀
+
+pub bereaving-begins : (m : List ℕ) (c : ℕ) → Octets m → Encoded m → Bereaving m m c 0
+bereaving-begins m c f g =
+    record {
+      sweeping = sweeping-begins (bereft c) m (below m f) (g .sized);
+      inside = omega arith;
+      sized = g .sized;
+      whole = g .is;
+      rest = refl;
+    }
+
+module _ {m₀ m : List ℕ} {c i : ℕ} (b : Bereaving m₀ m c i) where
+  module _ (h : i < 16) where
+    pub bereaving-slot : PlainSlot m i
+    bereaving-slot =
+        let a = 4 + 3292 * i in
+        let q : take 3292 (drop a m₀) ≡ slotBytes (slotOf (take 3292 (drop a m₀)))
+        = ap (λ (y : List ℕ). take 3292 (drop a y)) (sym (b .whole))
+        ∙ memory-at (stateOf m₀) i (rw (sixteen m₀) h)
+        ∙ ap slotBytes (slot-at m₀ i h) in
+        record { sized = b .sized; below = h; plain = rw (b .rest) (sym q) }
+
+    pub bereaving-more : (u : List ℕ) → u ≡ endedAt m i c → Bereaving m₀ u c (i + 1)
+    unfolding endedAt
+    bereaving-more u e =
+        let a = 4 + 3292 * i in
+        let l : length m ≡ 52676 = b .sized in
+        let y = changed (bereft c) (take 3292 (drop a m)) in
+        let ly : length y ≡ 3292 = slot-length (bereft c (slotOf (take 3292 (drop a m)))) in
+        let s = sweeping-again (bereft c) m₀ m u y i (b .sweeping) h e refl in
+        let n : 4 + 3292 * (i + 1) ≡ a + 3292 = omega arith in
+        let r : drop (a + 3292) u ≡ drop (a + 3292) m₀
+        = ap (drop (a + 3292)) e
+        ∙ drop-past (take a m) (y ++ drop (a + 3292) m) a 3292 (length-take-le a m (omega arith))
+        ∙ drop-at y (drop (a + 3292) m) 3292 ly
+        ∙ sym (drop-drop 3292 a m)
+        ∙ ap (drop 3292) (b .rest)
+        ∙ drop-drop 3292 a m₀ in
+        record { sweeping = s; inside = omega arith; sized = s .sized; whole = b .whole; rest = rw n r }
+
+  pub bereaving-ends : 16 ≤ i → m ≡ endedFor m₀ c
+  unfolding endedFor
+  bereaving-ends h = sweeping-ends (bereft c) m₀ m i (b .sweeping) h
+
+pub ruleset bereaving = (bereaving-begins, bereaving-slot, bereaving-more, bereaving-ends, needs)

@@ -1,0 +1,122 @@
+-- Each way through connect. Assumes nothing.
+use mathlib.Core.Path.{_≡_, refl, sym, ap, _∙_}
+use mathlib.Core.Bool.{Bool, true, false, not}
+use mathlib.Core.List.{List, _++_, append-assoc}
+use Prim.Native.Nat.{ℕ, _+_, _-_, _*_, _≤_, _<_}
+use native.Mathlib.Omega.{arith}
+use lib.ListN.{length, take, drop, replicate}
+use borrow.Author.Needs.{needs}
+use borrow.Author.Tests.{lt-ltb, le-ltb, not-true, not-false}
+use Rattle.wire.specs.Words.{wordBytes}
+use Rattle.tables.specs.Tables.{cells}
+use Rattle.policy.specs.Decisions.{mayConnect}
+use Rattle.stream.specs.Tail.{tails}
+use Rattle.rules.specs.State.{peer, isFree}
+use Rattle.rules.specs.Calls.{newcomer, connect, noConnect}
+use Rattle.memory.specs.Encoding.{slotBytes, stateOf}
+use Rattle.memory.specs.Sound.{Held}
+use Rattle.memory.specs.Calls.{stored, Did}
+use Rattle.memory.proofs.Reading.{sixteen}
+use Rattle.memory.proofs.Search.{Found}
+use Rattle.memory.proofs.Find.{found-first}
+use Rattle.memory.proofs.Frame.{free-bytes}
+use Rattle.memory.proofs.Newcomer.{newcomer-spread}
+use Rattle.memory.proofs.Good.{seated}
+use Rattle.rules.specs.declared.Connected.{Connected}
+use Rattle.peers.specs.Writes.{newBytes, Seating}
+use Rattle.peers.specs.Steps.{Free, admitted, entered}
+use Rattle.peers.proofs.Zeros.{zero-rest}
+use Rattle.peers.proofs.Found.{Octets, below, did-stay, free-part}
+
+-- a newcomer's bytes are what was written, and the zeros of the slot
+seat-bytes : (m gids : List ℕ) (a n u : ℕ) → length gids ≤ 16 → take 3292 (drop a m) ≡ replicate 3292 0
+    → newBytes n u gids ++ drop (a + (12 + 4 * length gids)) m ≡ slotBytes (peer (newcomer tails n u gids)) ++ drop (a + 3292) m
+unfolding newBytes
+seat-bytes m gids a n u h e =
+    let k = 12 + 4 * length gids in
+    let x₁ = wordBytes n in
+    let x₂ = wordBytes u in
+    let x₃ = wordBytes (length gids) in
+    let x₄ = cells wordBytes gids in
+    let f : 3292 - k ≡ 3280 - 4 * length gids = omega arith in
+    let z = replicate {A = ℕ} (3280 - 4 * length gids) 0 in
+    let t = drop (a + 3292) m in
+    let r : drop (a + k) m ≡ z ++ t = zero-rest m a 3292 k (omega arith) e ∙ ap (λ (c : ℕ). replicate c 0 ++ t) f in
+    let s : slotBytes (peer (newcomer tails n u gids)) ≡ (x₁ ++ (x₂ ++ (x₃ ++ x₄))) ++ z
+    = newcomer-spread n u gids h
+    ∙ sym (append-assoc x₁ (x₂ ++ (x₃ ++ x₄)) z
+    ∙ ap (λ (y : List ℕ). x₁ ++ y) (append-assoc x₂ (x₃ ++ x₄) z ∙ ap (λ (y : List ℕ). x₂ ++ y) (append-assoc x₃ x₄ z))) in
+    let q = x₁ ++ (x₂ ++ (x₃ ++ x₄)) in
+    ap (λ (y : List ℕ). q ++ y) r ∙ sym (append-assoc q z t) ∙ ap (λ (y : List ℕ). y ++ t) (sym s)
+
+-- ---- the seat
+
+pub admit-seats : (m gids : List ℕ) (i : ℕ) → Free m i gids → Seating m i gids
+admit-seats m gids i g = record { sized = g .sized; below = g .below; few = g .few }
+
+pub admit-seated : (m : List ℕ) → Octets m → (i n uid : ℕ) (gids m₁ m₂ : List ℕ) → Free m i gids
+    → m₁ ≡ take (4 + 3292 * i) m ++ (newBytes n uid gids ++ drop (4 + 3292 * i + (12 + 4 * length gids)) m)
+    → m₂ ≡ wordBytes n ++ drop 4 m₁
+    → m₂ ≡ admitted m i n uid gids
+unfolding admitted
+admit-seated m f i n uid gids m₁ m₂ g e₁ e₂ =
+    let a = 4 + 3292 * i in
+    let x = peer (newcomer tails n uid gids) in
+    let q : m₁ ≡ take a m ++ (slotBytes x ++ drop (a + 3292) m)
+    = e₁ ∙ ap (λ (y : List ℕ). take a m ++ y) (seat-bytes m gids a n uid (g .few) (g .zeros ∙ free-bytes)) in
+    e₂ ∙ ap (λ (y : List ℕ). wordBytes n ++ drop 4 y) q ∙ sym (seated m (below m f) (g .held .held) n i x (g .below))
+
+pub ruleset admitting = (admit-seats, admit-seated, needs)
+
+-- ---- 38, 39, and the seat
+
+pub enter-free : (m gids : List ℕ) (i : ℕ) → Held m → Found isFree m 0 i → (i ≡ 16 → ⊥) → length gids ≤ 16 → Free m i gids
+enter-free m gids i g e q h =
+    let b : i ≤ 16 = e .bound in
+    let k : i < 16 = omega arith in
+    record { sized = g .sized; held = g; below = k; few = h; zeros = free-part m i g e k }
+
+module _ (m : List ℕ) (f : Octets m) (g : Held m) (i : ℕ) (e : Found isFree m 0 i) (uid : ℕ) (gids : List ℕ) where
+  pub enter-full : i ≡ 16 → Did (stored (entered m uid gids)) (record { answer = 38; number = 0; slot = 0 }) m
+  unfolding entered
+  enter-full q =
+      did-stay m f g (noConnect 38) (entered m uid gids) (rw (found-first isFree m i e, sixteen m, le-ltb i 16 (omega arith)))
+
+  module _ (q : i ≡ 16 → ⊥) (l : ℕ) (el : l ≡ stateOf m .last) where
+    within : i < 16
+    within = let b : i ≤ 16 = e .bound in omega arith
+
+    pub enter-last : l ≡ 4294967295 → Did (stored (entered m uid gids)) (record { answer = 39; number = 0; slot = 0 }) m
+    unfolding entered
+    enter-last z =
+        did-stay m f g (noConnect 39) (entered m uid gids)
+        (rw (found-first isFree m i e, sixteen m, lt-ltb i 16 within, le-ltb (stateOf m .last) 4294967295 (omega arith)))
+
+    pub enter-seated : (l ≡ 4294967295 → ⊥) → l < 4294967296 → (m₁ : List ℕ) → m₁ ≡ admitted m i (l + 1) uid gids
+        → Did (stored (entered m uid gids)) (record { answer = 0; number = l + 1; slot = i }) m₁
+    unfolding entered admitted
+    enter-seated z k m₁ e₁ =
+        rw (found-first isFree m i e, sixteen m, lt-ltb i 16 within, lt-ltb (stateOf m .last) 4294967295 (omega arith), ← el)
+        (record { result = refl; memory = e₁ })
+
+pub ruleset entering = (enter-free, enter-full, enter-last, enter-seated, needs)
+
+-- ---- 37, 36
+
+module _ (image m : List ℕ) (f : Octets m) (g : Held m) (uid : ℕ) (gids : List ℕ) where
+  pub connect-many : 16 < length gids → Did (stored (connect tails image (stateOf m) uid gids)) (record { answer = 37; number = 0; slot = 0 }) m
+  unfolding connect
+  connect-many h = did-stay m f g (noConnect 37) (connect tails image (stateOf m) uid gids) (rw (lt-ltb 16 (length gids) h))
+
+  module _ (h : length gids ≤ 16) (b : Bool) (e : b ≡ mayConnect image (record { 0 = uid }) gids) where
+    pub connect-denied : not b ≡ true → Did (stored (connect tails image (stateOf m) uid gids)) (record { answer = 36; number = 0; slot = 0 }) m
+    unfolding connect
+    connect-denied t =
+        did-stay m f g (noConnect 36) (connect tails image (stateOf m) uid gids) (rw (le-ltb 16 (length gids) h, ← e, not-true b t))
+
+    pub connect-entered : not b ≡ false → (r : Connected) (m₁ : List ℕ) → Did (stored (entered m uid gids)) r m₁
+        → Did (stored (connect tails image (stateOf m) uid gids)) r m₁
+    unfolding connect entered
+    connect-entered t r m₁ d = rw (le-ltb 16 (length gids) h, ← e, not-false b t) d
+
+pub ruleset connecting = (connect-many, connect-denied, connect-entered, needs)

@@ -1,0 +1,77 @@
+-- Each way through disconnect. Assumes nothing.
+use mathlib.Core.Path.{_≡_, refl, sym, ap, _∙_}
+use mathlib.Core.List.{List, _++_}
+use Prim.Native.Nat.{ℕ, _+_, _-_, _*_, _<_}
+use native.Mathlib.Omega.{arith}
+use lib.ListN.{length, take, drop, replicate, length-drop}
+use lib.Seq.{length-take-le}
+use borrow.Author.Needs.{needs}
+use Rattle.wire.specs.Words.{wordAt}
+use Rattle.wire.specs.declared.Order.the-variants.{Little}
+use Rattle.wire.proofs.Words.{cut-at, put-at}
+use Rattle.stream.specs.Tail.{tails}
+use Rattle.rules.specs.State.{free, putSlot, isPeer}
+use Rattle.rules.specs.Pending.{bereft}
+use Rattle.rules.specs.Calls.{disconnect, noGone}
+use Rattle.memory.specs.Encoding.{slotBytes, memoryOf, stateOf}
+use Rattle.memory.specs.Sound.{Held}
+use Rattle.memory.specs.Calls.{stored, Did}
+use Rattle.memory.proofs.Search.{Found}
+use Rattle.memory.proofs.Find.{found-number}
+use Rattle.memory.proofs.Frame.{free-bytes, slot-length}
+use Rattle.memory.proofs.Slots.{free-back}
+use Rattle.memory.proofs.Good.{framed}
+use Rattle.memory.proofs.Sweep.{putAt, put-again, put-length, swept-freed}
+use Rattle.peers.specs.Steps.{Encoded, endedFor, gone}
+use Rattle.peers.proofs.Found.{Octets, below, did-stay, peer-none, found-below, peer-place, peer-some}
+
+-- ---- a slot wiped
+
+module _ (m : List ℕ) (g : Held m) (i : ℕ) (h : i < 16) (z : List ℕ)
+    (e : z ≡ replicate (length (take (4 + 3292 * i + 3292 - (4 + 3292 * i)) (drop (4 + 3292 * i) m))) 0) where
+  zeros : z ≡ slotBytes free
+  zeros =
+      let a = 4 + 3292 * i in
+      let s : length m ≡ 52676 = g .sized in
+      let l : length (take (a + 3292 - a) (drop a m)) ≡ 3292
+      = ap length (cut-at a 3292 m) ∙ length-take-le 3292 (drop a m) (omega (arith, length-drop a m)) in
+      e ∙ ap (λ (k : ℕ). replicate k 0) l ∙ sym free-bytes
+
+  wiped : take (4 + 3292 * i) m ++ (z ++ drop (4 + 3292 * i + 3292 - (4 + 3292 * i)) (drop (4 + 3292 * i) m)) ≡ putAt m i (slotBytes free)
+  wiped = put-at (4 + 3292 * i) 3292 m z ∙ ap (λ (y : List ℕ). putAt m i y) zeros
+
+  pub leave-encoded : Octets m → Encoded (take (4 + 3292 * i) m ++ (z ++ drop (4 + 3292 * i + 3292 - (4 + 3292 * i)) (drop (4 + 3292 * i) m)))
+  leave-encoded f =
+      let u = putAt m i (slotBytes free) in
+      let s : stateOf u ≡ putSlot (stateOf m) i free
+      = put-again m (slotBytes free) i h (g .sized) (slot-length free) ∙ ap (putSlot (stateOf m) i) free-back in
+      let q : Encoded u
+      = record {
+        sized = put-length m (slotBytes free) i h (g .sized) (slot-length free);
+        is = ap memoryOf s ∙ framed m (below m f) (g .held) i free h;
+      } in
+      rw wiped q
+
+  pub leave-gone : (c : ℕ) (m₂ : List ℕ)
+      → m₂ ≡ endedFor (take (4 + 3292 * i) m ++ (z ++ drop (4 + 3292 * i + 3292 - (4 + 3292 * i)) (drop (4 + 3292 * i) m))) c → m₂ ≡ gone m i c
+  unfolding endedFor gone
+  leave-gone c m₂ q =
+      swept-freed (bereft c) m (take (4 + 3292 * i) m ++ (z ++ drop (4 + 3292 * i + 3292 - (4 + 3292 * i)) (drop (4 + 3292 * i) m))) m₂
+      (slotBytes free) i h (g .sized) refl wiped q
+
+pub ruleset leaving = (leave-encoded, leave-gone, needs)
+
+-- ---- 30, and the report
+
+module _ (m : List ℕ) (f : Octets m) (g : Held m) (n i : ℕ) (e : Found (isPeer n) m 0 i) where
+  pub disconnect-none : i ≡ 16 → Did (stored (disconnect tails (stateOf m) n)) (record { answer = 30; bytes = 0 }) m
+  unfolding disconnect
+  disconnect-none q = did-stay m f g (noGone 30) (disconnect tails (stateOf m) n) (rw (peer-none n m i e q))
+
+  pub disconnect-gone : (i ≡ 16 → ⊥) → (b : ℕ) → b ≡ wordAt Little m (4 + 3292 * i + 1236) → (m₂ : List ℕ) → m₂ ≡ gone m i n
+      → Did (stored (disconnect tails (stateOf m) n)) (record { answer = 0; bytes = b }) m₂
+  unfolding disconnect gone
+  disconnect-gone q b eb m₂ em =
+      rw (peer-place n m i e q, peer-some n m i e q, found-number n m 0 i e (found-below n m i e q), ← eb) (record { result = refl; memory = em })
+
+pub ruleset disconnecting = (disconnect-none, disconnect-gone, needs)

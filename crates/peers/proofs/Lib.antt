@@ -1,0 +1,9 @@
+mod Zeros
+mod Newcomers
+mod Cutting
+mod Calls
+mod Found
+mod Entering
+mod Leaving
+mod Owning
+mod Releasing

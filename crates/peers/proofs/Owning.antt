@@ -1,0 +1,190 @@
+-- Each way through own. Assumes nothing.
+use mathlib.Core.Path.{_≡_, refl, sym, ap, _∙_}
+use mathlib.Core.Bool.{Bool, true, false, not}
+use mathlib.Core.List.{List, [], _∷_, _++_, append-assoc}
+use Prim.Native.Nat.{ℕ, _+_, _-_, _*_, _≤_, _<_}
+use native.Mathlib.Omega.{arith}
+use native.Mathlib.Nat.{sub-zero}
+use native.Mathlib.Numerals.{add-one}
+use lib.ListN.{length, take, drop, set, replicate, length-set}
+use lib.Seq.{drop-drop, take-take, take-suc-set, drop-set-lt}
+use borrow.Author.Needs.{needs}
+use borrow.Author.Tests.{lt-ltb, le-ltb, le-leb, lt-leb, not-true, not-false}
+use Rattle.wire.specs.Words.{wordAt, wordBytes}
+use Rattle.wire.specs.declared.Order.the-variants.{Little}
+use Rattle.wire.proofs.Words.{put-at}
+use Rattle.tables.proofs.Parts.{drop-take, pad-fits, take-zeros}
+use Rattle.tables.proofs.Written.{table-unused}
+use Rattle.policy.specs.Names.{cellOf, owns}
+use Rattle.policy.specs.Decisions.{mayOwn}
+use Rattle.policy.specs.declared.Uid.{Uid}
+use Rattle.rules.specs.State.{isPeer}
+use Rattle.rules.specs.Addresses.{ownable}
+use Rattle.rules.specs.Calls.{isOwner, own}
+use Rattle.memory.specs.Encoding.{stateOf}
+use Rattle.memory.specs.Sound.{Held}
+use Rattle.memory.specs.Calls.{stored, Did}
+use Rattle.memory.proofs.Reading.{sixteen}
+use Rattle.memory.proofs.Search.{Found}
+use Rattle.memory.proofs.Find.{found-first}
+use Rattle.memory.proofs.Frame.{cell-length}
+use Rattle.memory.proofs.Again.{ownable-short}
+use Rattle.memory.proofs.Puts.{names-stand, name-appended}
+use Rattle.slots.specs.Slots.{peerAt, GidsOf}
+use Rattle.slots.specs.declared.Gids.{Gids}
+use Rattle.peers.specs.Writes.{nameBytes, Naming}
+use Rattle.peers.specs.Steps.{Seated, granted, claimed}
+use Rattle.peers.proofs.Newcomers.{put-sized}
+use Rattle.peers.proofs.Found.{Octets, below, did-stay, peer-none, peer-place, peer-some, peer-seated, names-counted}
+use Rattle.peers.proofs.Zeros.{zero-rest}
+
+-- ---- what the policy is asked
+
+pub may-own-front : (image : List ℕ) (uid : Uid) (gids : List ℕ) (count : ℕ) (name : List ℕ) (r : Bool)
+    → r ≡ mayOwn image uid (take (count - 0) gids) name → r ≡ mayOwn image uid (take count gids) name
+may-own-front image uid gids count name r e = e ∙ rw (sub-zero count)
+
+pub may-own-is : (image m name : List ℕ) (i u : ℕ) (g : Gids) (r : Bool) → GidsOf m i g → u ≡ wordAt Little m (4 + 3292 * i + 4)
+    → r ≡ mayOwn image (record { 0 = u }) (take (g .count) (g .list)) name
+    → r ≡ mayOwn image (record { 0 = peerAt m i .uid }) (peerAt m i .gids) name
+may-own-is image m name i u g r h e q = q ∙ rw (h .are, e)
+
+pub ruleset asking = (may-own-front, may-own-is, needs)
+
+-- ---- a name behind its length
+
+module _ (m y name : List ℕ) (at : ℕ) (g : Naming m at name) where
+  pub name-room : at + 1 + length name ≤ length (set m at (length name))
+  name-room =
+      let s : length m ≡ 52676 = g .sized in
+      let k : length name ≤ 255 = g .short in
+      let r : at + 256 ≤ 52676 = g .room in
+      rw (length-set m at (length name)) (omega arith)
+
+  pub name-put : y ≡ name
+      → take (at + 1) (set m at (length name)) ++ (y ++ drop (at + 1 + length name - (at + 1)) (drop (at + 1) (set m at (length name))))
+      ≡ take at m ++ (nameBytes name ++ drop (at + (1 + length name)) m)
+  unfolding nameBytes
+  name-put e =
+      let s : length m ≡ 52676 = g .sized in
+      let r : at + 256 ≤ 52676 = g .room in
+      let n = length name in
+      let u = set m at n in
+      let t : take (at + 1) u ≡ take at m ++ (n ∷ []) = rw add-one (take-suc-set m at n (omega arith)) in
+      let d : drop (at + 1 + n) u ≡ drop (at + 1 + n) m = drop-set-lt (at + 1 + n) m at n (omega arith) in
+      let f : at + 1 + n ≡ at + (1 + n) = omega arith in
+      put-at (at + 1) n u y
+      ∙ rw (t, d, e, f) (append-assoc (take at m) (n ∷ []) (name ++ drop (at + (1 + n)) m))
+
+  pub name-sized : y ≡ name
+      → length (take (at + 1) (set m at (length name)) ++ (y ++ drop (at + 1 + length name - (at + 1)) (drop (at + 1) (set m at (length name)))))
+      ≡ length m
+  unfolding nameBytes
+  name-sized e =
+      let s : length m ≡ 52676 = g .sized in
+      let k : length name ≤ 255 = g .short in
+      let r : at + 256 ≤ 52676 = g .room in
+      ap length (name-put e) ∙ put-sized m (nameBytes name) at (1 + length name) (omega arith) (omega arith)
+
+pub ruleset naming = (name-room, name-put, name-sized, needs)
+
+-- ---- the name granted: n is how many slot i has
+
+module _ (m : List ℕ) (f : Octets m) (i : ℕ) (g : Seated m i) (name : List ℕ) (n : ℕ) (en : n ≡ wordAt Little m (4 + 3292 * i + 208)) where
+  many : length (peerAt m i .names) ≡ n
+  many = names-counted m i g n en
+
+  pub grant-full : 4 ≤ n → Did (stored (granted m i name)) 34 m
+  unfolding granted
+  grant-full l = did-stay m f (g .held) 34 (granted m i name) (rw (many, le-leb 4 n l))
+
+  module _ (l : n < 4) where
+    -- the cell behind those in use is zero
+    room : take 256 (drop (4 + 3292 * i + 212 + 256 * n) m) ≡ replicate 256 0
+    room =
+        let a = 4 + 3292 * i in
+        let k = 4 + 256 * n in
+        let x = 1024 - 256 * n in
+        let d = drop (a + 208) m in
+        let s : 1028 ≡ k + x = omega arith in
+        let t : a + 208 + k ≡ a + 212 + 256 * n = omega arith in
+        let z : drop k (take 1028 d) ≡ replicate x 0
+        = table-unused 256 4 cellOf cell-length (peerAt m i .names) (take 1028 d) n
+        (names-stand m (below m f) (g .held) i (g .below) (g .some)) (sym many) (omega arith) in
+        let y : drop k (take 1028 d) ≡ take x (drop (a + 212 + 256 * n) m)
+        = ap (λ (c : ℕ). drop k (take c d)) s
+        ∙ drop-take k x d
+        ∙ ap (take x) (drop-drop k (a + 208) m ∙ ap (λ (c : ℕ). drop c m) t) in
+        sym (take-take 256 x (drop (a + 212 + 256 * n) m) (omega arith))
+        ∙ ap (take 256) (sym y ∙ z)
+        ∙ take-zeros 256 x (omega arith)
+
+    pub grant-done : length name ≤ 255 → (m₁ m₂ : List ℕ)
+        → m₁ ≡ take (4 + 3292 * i + 212 + 256 * n) m ++ (nameBytes name ++ drop (4 + 3292 * i + 212 + 256 * n + (1 + length name)) m)
+        → m₂ ≡ take (4 + 3292 * i + 208) m₁ ++ (wordBytes (n + 1) ++ drop (4 + 3292 * i + 208 + 4) m₁)
+        → Did (stored (granted m i name)) 0 m₂
+    unfolding granted nameBytes cellOf
+    grant-done k m₁ m₂ e₁ e₂ =
+        let c = 4 + 3292 * i + 212 + 256 * n in
+        let u = length name in
+        let t = drop (c + 256) m in
+        let v : 256 - (1 + u) ≡ 255 - u = omega arith in
+        let z = replicate {A = ℕ} (255 - u) 0 in
+        let y : drop (c + (1 + u)) m ≡ z ++ t = zero-rest m c 256 (1 + u) (omega arith) room ∙ ap (λ (x : ℕ). replicate x 0 ++ t) v in
+        let p : nameBytes name ++ (z ++ t) ≡ cellOf name ++ t
+        = ap (λ (x : List ℕ). u ∷ x) (sym (append-assoc name z t) ∙ ap (λ (x : List ℕ). x ++ t) (sym (pad-fits 255 name k))) in
+        let e₃ : m₁ ≡ take c m ++ (cellOf name ++ t)
+        = e₁ ∙ ap (λ (x : List ℕ). take c m ++ (nameBytes name ++ x)) y ∙ ap (λ (x : List ℕ). take c m ++ x) p in
+        let w = name-appended m (below m f) (g .held) i (g .below) (g .some) name m₁ m₂ n c en l refl e₃ e₂ in
+        rw (many, lt-leb 4 n l) (record { result = refl; memory = w })
+
+pub ruleset granting = (grant-full, grant-done, needs)
+
+-- ---- own's tests of names: b is whether slot i has the name, j who has it
+
+module _ (m : List ℕ) (f : Octets m) (i : ℕ) (g : Seated m i) (name : List ℕ) (b : Bool) (e : b ≡ owns (peerAt m i .names) name) where
+  pub claim-own : b ≡ true → Did (stored (claimed m i name)) 0 m
+  unfolding claimed
+  claim-own q = did-stay m f (g .held) 0 (claimed m i name) (rw (← e, q))
+
+  module _ (q : b ≡ false) (j : ℕ) (o : Found (isOwner name) m 0 j) where
+    pub claim-granted : 16 ≤ j → (r : ℕ) (m₁ : List ℕ) → Did (stored (granted m i name)) r m₁ → Did (stored (claimed m i name)) r m₁
+    unfolding claimed granted
+    claim-granted h r m₁ d = rw (← e, q, found-first (isOwner name) m j o, sixteen m, le-ltb j 16 h) d
+
+    pub claim-other : j < 16 → Did (stored (claimed m i name)) 33 m
+    unfolding claimed
+    claim-other h =
+        did-stay m f (g .held) 33 (claimed m i name) (rw (← e, q, found-first (isOwner name) m j o, sixteen m, lt-ltb j 16 h))
+
+pub ruleset claiming = (claim-own, claim-granted, claim-other, needs)
+
+-- ---- 30, 31, 32
+
+pub own-short : (name : List ℕ) (b : Bool) → b ≡ ownable name → not b ≡ false → length name ≤ 255
+own-short name b e t = ownable-short name (sym e ∙ not-false b t)
+
+module _ (image m : List ℕ) (f : Octets m) (g : Held m) (n i : ℕ) (e : Found (isPeer n) m 0 i) (name : List ℕ) where
+  pub own-none : i ≡ 16 → Did (stored (own image (stateOf m) n name)) 30 m
+  unfolding own
+  own-none q = did-stay m f g 30 (own image (stateOf m) n name) (rw (peer-none n m i e q))
+
+  module _ (q : i ≡ 16 → ⊥) (b : Bool) (eb : b ≡ ownable name) where
+    pub own-bad : not b ≡ true → Did (stored (own image (stateOf m) n name)) 31 m
+    unfolding own
+    own-bad t =
+        did-stay m f g 31 (own image (stateOf m) n name) (rw (peer-place n m i e q, peer-some n m i e q, ← eb, not-true b t))
+
+    module _ (t : not b ≡ false) (d : Bool) (ed : d ≡ mayOwn image (record { 0 = peerAt m i .uid }) (peerAt m i .gids) name) where
+      pub own-denied : not d ≡ true → Did (stored (own image (stateOf m) n name)) 32 m
+      unfolding own
+      own-denied s =
+          did-stay m f g 32 (own image (stateOf m) n name)
+          (rw (peer-place n m i e q, peer-some n m i e q, ← eb, not-false b t, ← ed, not-true d s))
+
+      pub own-claimed : not d ≡ false → (r : ℕ) (m₁ : List ℕ) → Did (stored (claimed m i name)) r m₁
+          → Did (stored (own image (stateOf m) n name)) r m₁
+      unfolding own claimed
+      own-claimed s r m₁ x = rw (peer-place n m i e q, peer-some n m i e q, ← eb, not-false b t, ← ed, not-false d s) x
+
+pub ruleset owning = (own-none, own-bad, own-denied, own-claimed, own-short, peer-seated, needs)

@@ -1,0 +1,9 @@
+-- `peers::connect` meets its contract. Assumes nothing.
+use Rattle.peers.proofs.Entering.{connecting}
+use Rattle.peers.proofs.connect.Statement.{statement}
+use Rattle.peers.proofs.connect.Tie as tie
+
+pub connect-spec : {M : Type 1} → statement M
+connect-spec =
+    tie.close
+    (tie.spec (λ c. search connecting) (λ c κs. search connecting) (λ c. search connecting) (λ c κs. search connecting) (λ c. search connecting) (λ c. search connecting))

@@ -1,0 +1,17 @@
+-- `peers::cut_out` meets its contract. Assumes nothing.
+use Rattle.peers.proofs.Cutting.{cutting}
+use Rattle.peers.proofs.cut_out.Statement.{statement}
+use Rattle.peers.proofs.cut_out.Tie as tie
+
+pub cut-out-spec : {M : Type 1} → statement M
+cut-out-spec =
+    tie.close
+    (tie.spec
+    (λ c κs. search cutting)
+    (λ c. search cutting)
+    (λ c. search cutting)
+    (λ c. search cutting)
+    (λ c. search cutting)
+    (λ c κs. search cutting)
+    (λ c. search cutting)
+    (λ c. search cutting))

@@ -1,0 +1,40 @@
+-- `peers::end_calls` meets its contract. Assumes nothing.
+use Prim.Native.Nat.{_-_}
+use Rattle.tables.specs.Tables.{tableOf}
+use Rattle.memory.specs.Encoding.{pendingOf}
+use Rattle.memory.proofs.Ending.{Ending}
+use Rattle.peers.proofs.Calls.{calls, calls-out}
+use borrow.Author.Needs.{needs}
+use Rattle.peers.proofs.end_calls.Statement.{statement}
+use Rattle.peers.proofs.end_calls.Tie as tie
+
+abbrev Inv-loop : tie.InvT-loop
+Inv-loop table₀ callee n₀ j₀ table n j = Ending callee (tableOf 8 16 pendingOf table₀) table n j
+
+abbrev μ-loop : tie.MeasureT-loop
+μ-loop table₀ callee n₀ j₀ table n j = n - j
+
+pub end-calls-spec : {M : Type 1} → statement M
+end-calls-spec =
+    tie.close
+    (tie.spec
+    Inv-loop
+    μ-loop
+    (λ c κs. search calls)
+    (λ c. search calls)
+    (λ c. search calls)
+    (λ c. search calls)
+    (λ c. search calls)
+    (λ c κs. search calls)
+    (λ c. search calls)
+    (λ c. search calls)
+    (λ c. search calls)
+    (λ c κs. search calls)
+    (λ c. search calls)
+    (λ c. search calls)
+    (λ c. search (calls-out (c .before .before .before .before .before .before .before .before .loop .inv), c .before .before .before .before .before .u32-at2 .ensures, c .before .before .before .before .if1 .taken, c .before .before .remove .ensures, needs))
+    (λ c. search calls)
+    (λ c. search calls)
+    (λ c. search calls)
+    (λ c. search calls)
+    (λ c. search calls))

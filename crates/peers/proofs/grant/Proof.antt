@@ -1,0 +1,26 @@
+-- `peers::grant` meets its contract. Assumes nothing.
+use Rattle.peers.proofs.Owning.{granting}
+use Rattle.peers.proofs.grant.Statement.{statement}
+use Rattle.peers.proofs.grant.Tie as tie
+
+pub grant-spec : {M : Type 1} → statement M
+grant-spec =
+    tie.close
+    (tie.spec
+    (λ c κs. search granting)
+    (λ c. search granting)
+    (λ c. search granting)
+    (λ c. search granting)
+    (λ c. search granting)
+    (λ c. search granting)
+    (λ c. search granting)
+    (λ c. search granting)
+    (λ c. search granting)
+    (λ c κs. search granting)
+    (λ c. search granting)
+    (λ c. search granting)
+    (λ c. search granting)
+    (λ c. search granting)
+    (λ c κs. search granting)
+    (λ c. search granting)
+    (λ c. search granting))

@@ -1,0 +1,19 @@
+-- `peers::leave` meets its contract. Assumes nothing.
+use Rattle.peers.proofs.Leaving.{leaving}
+use Rattle.peers.proofs.leave.Statement.{statement}
+use Rattle.peers.proofs.leave.Tie as tie
+
+pub leave-spec : {M : Type 1} → statement M
+leave-spec =
+    tie.close
+    (tie.spec
+    (λ c. search leaving)
+    (λ c. search leaving)
+    (λ c. search leaving)
+    (λ c. search leaving)
+    (λ c. search leaving)
+    (λ c. search leaving)
+    (λ c κs. search leaving)
+    (λ c κs. search leaving)
+    (λ c. search leaving)
+    (λ c. search leaving))

@@ -1,0 +1,21 @@
+-- `peers::own` meets its contract. Assumes nothing.
+use Rattle.peers.proofs.Owning.{owning}
+use Rattle.peers.proofs.own.Statement.{statement}
+use Rattle.peers.proofs.own.Tie as tie
+
+pub own-spec : {M : Type 1} → statement M
+own-spec =
+    tie.close
+    (tie.spec
+    (λ c κs. search owning)
+    (λ c. search owning)
+    (λ c. search owning)
+    (λ c κs. search owning)
+    (λ c. search owning)
+    (λ c. search owning)
+    (λ c κs. search owning)
+    (λ c. search owning)
+    (λ c. search owning)
+    (λ c κs. search owning)
+    (λ c. search owning)
+    (λ c. search owning))

@@ -1,0 +1,31 @@
+-- `peers::shift` meets its contract. Assumes nothing.
+use Prim.Native.Nat.{_-_}
+use Rattle.peers.proofs.Cutting.{Shifting, shifting}
+use Rattle.peers.proofs.shift.Statement.{statement}
+use Rattle.peers.proofs.shift.Tie as tie
+
+abbrev Inv-loop : tie.InvT-loop
+Inv-loop s₀ at w end count i₀ s i = Shifting s₀ s at w count i
+
+abbrev μ-loop : tie.MeasureT-loop
+μ-loop s₀ at w end count i₀ s i = count - i
+
+pub shift-spec : {M : Type 1} → statement M
+shift-spec =
+    tie.close
+    (tie.spec
+    Inv-loop
+    μ-loop
+    (λ c. search shifting)
+    (λ c. search shifting)
+    (λ c. search shifting)
+    (λ c. search shifting)
+    (λ c. search shifting)
+    (λ c. search shifting)
+    (λ c. search shifting)
+    (λ c. search shifting)
+    (λ c. search shifting)
+    (λ c. search shifting)
+    (λ c. search shifting)
+    (λ c. search shifting)
+    (λ c. search shifting))

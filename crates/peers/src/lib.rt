@@ -1,0 +1,362 @@
+// The calls about peers and their names, on a good image and good memory: connect, own, release, disconnect.
+use policy::Uid;
+use rules::Connected;
+use rules::Gone;
+use wire::Order;
+ghost use mathlib.Core.Path.{_≡_};
+ghost use mathlib.Core.List.{_++_};
+ghost use Prim.Native.Nat.{_+_, _-_, _*_, _≤_, _<_};
+ghost use lib.ListN.{length, take, drop, getD};
+ghost use Rattle.wire.specs.Bytes.{same};
+ghost use Rattle.wire.specs.Words.{wordBytes};
+ghost use Rattle.tables.specs.Tables.{cells, tableBytes, tableOf};
+ghost use Rattle.image.specs.Contracts.{GoodImage};
+ghost use Rattle.policy.specs.Decisions.{mayOwn};
+ghost use Rattle.stream.specs.Tail.{tails};
+ghost use Rattle.rules.specs.Pending.{endedAll};
+ghost use Rattle.rules.specs.Calls.{connect, own, release, disconnect};
+ghost use Rattle.memory.specs.Encoding.{pendingBytes, pendingOf, stateOf};
+ghost use Rattle.memory.specs.Sound.{Held};
+ghost use Rattle.memory.specs.Calls.{stored, Did};
+ghost use Rattle.slots.specs.Slots.{peerAt, nameAt};
+ghost use Rattle.peers.specs.Writes.{cutOut, Cell, Table, newBytes, Seating, nameBytes, Naming};
+ghost use Rattle.peers.specs.Steps.{Free, admitted, entered, PlainSlot, Encoded, endedAt, endedFor, gone, Seated, granted, claimed, givenUp, NameAt};
+
+// ---- connect
+
+// Writes the gids one after the other from `at` on.
+fn put_gids(memory: &mut [u8], at: usize, gids: &[u32])
+    requires { ⌜ (at + 4 * length (now gids) ≤ length (now memory)) × (length (now memory) ≡ 52676) ⌝ }
+    ensures { λ r. ⌜ now (memory .exit) ≡ take at (now (memory .entry)) ++ (cells wordBytes (now (gids .entry)) ++ drop (at + 4 * length (now (gids .entry))) (now (memory .entry))) ⌝ }
+{
+    let mut k = 0;
+    while k < gids.len() {
+        wire::put_u32(memory, at + 4 * k, gids[k]);
+        k += 1;
+    }
+}
+
+// Writes a peer's number, uid and gids in slot i, where zeros stand.
+fn seat(memory: &mut [u8], i: usize, number: u32, uid: u32, gids: &[u32])
+    requires { ⌜ Seating (now memory) i (now gids) ⌝ }
+    ensures { λ r. ⌜ now (memory .exit) ≡ take (4 + 3292 * i) (now (memory .entry)) ++ (newBytes number uid (now (gids .entry)) ++ drop (4 + 3292 * i + (12 + 4 * length (now (gids .entry)))) (now (memory .entry))) ⌝ }
+{
+    let at = 4 + 3292 * i;
+    wire::put_u32(memory, at, number);
+    wire::put_u32(memory, at + 4, uid);
+    wire::put_u32(memory, at + 8, gids.len() as u32);
+    put_gids(memory, at + 12, gids);
+}
+
+// Gives slot i, which is free, to a peer, whose number is then the last.
+fn admit(memory: &mut [u8], i: usize, number: u32, uid: u32, gids: &[u32])
+    requires { ⌜ Free (now memory) i (now gids) ⌝ }
+    ensures { λ r. ⌜ now (memory .exit) ≡ admitted (now (memory .entry)) i number uid (now (gids .entry)) ⌝ }
+{
+    seat(memory, i, number, uid, gids);
+    wire::put_u32(memory, 0, number);
+}
+
+// Gives the lowest free slot and the next number: 38, 39.
+fn enter(memory: &mut [u8], uid: u32, gids: &[u32]) -> Connected
+    requires { ⌜ (Held (now memory)) × (length (now gids) ≤ 16) ⌝ }
+    ensures { λ r. ⌜ Did (stored (entered (now (memory .entry)) uid (now (gids .entry)))) r (now (memory .exit)) ⌝ }
+{
+    let slot = slots::find_free(memory);
+    if slot == 16 {
+        return Connected {
+            answer: 38,
+            number: 0,
+            slot: 0,
+        };
+    }
+    let last = slots::last_of(memory);
+    if last == 4294967295 {
+        return Connected {
+            answer: 39,
+            number: 0,
+            slot: 0,
+        };
+    }
+    admit(memory, slot, last + 1, uid, gids);
+    Connected {
+        answer: 0,
+        number: last + 1,
+        slot,
+    }
+}
+
+// Connects a peer: 37, 36, 38, 39.
+pub fn connect(image: &[u8], memory: &mut [u8], uid: u32, gids: &[u32]) -> Connected
+    requires { ⌜ (GoodImage (now image)) × (Held (now memory)) ⌝ }
+    ensures { λ r. ⌜ Did (stored (connect tails (now (image .entry)) (stateOf (now (memory .entry))) uid (now (gids .entry)))) r (now (memory .exit)) ⌝ }
+{
+    if 16 < gids.len() {
+        return Connected {
+            answer: 37,
+            number: 0,
+            slot: 0,
+        };
+    }
+    if !policy::may_connect(image, Uid(uid), gids) {
+        return Connected {
+            answer: 36,
+            number: 0,
+            slot: 0,
+        };
+    }
+    enter(memory, uid, gids)
+}
+
+// ---- a cell taken out of a table
+
+// Moves the bytes from `at` + w up to `end` down by w.
+fn shift(s: &mut [u8], at: usize, w: usize, end: usize)
+    requires { ⌜ Cell (now s) at w end ⌝ }
+    ensures { λ r. ⌜ now (s .exit) ≡ take at (now (s .entry)) ++ (take (end - (at + w)) (drop (at + w) (now (s .entry))) ++ drop (end - w) (now (s .entry))) ⌝ }
+{
+    let count = end - (at + w);
+    let mut i = 0;
+    while i < count {
+        s[at + i] = s[at + w + i];
+        i += 1;
+    }
+}
+
+// Takes the w bytes at `at` out of the first `end`: the later ones move down, and the last w of them are zero.
+fn cut_out(s: &mut [u8], at: usize, w: usize, end: usize)
+    requires { ⌜ Cell (now s) at w end ⌝ }
+    ensures { λ r. ⌜ now (s .exit) ≡ cutOut at w end (now (s .entry)) ⌝ }
+{
+    shift(s, at, w, end);
+    let from = end - w;
+    wire::wipe(&mut s[from..end]);
+}
+
+// Takes such bytes out of the cells of a table, which then has `left` things.
+fn remove(table: &mut [u8], at: usize, w: usize, end: usize, left: u32)
+    requires { ⌜ Table (now table) at w end ⌝ }
+    ensures { λ r. ⌜ now (table .exit) ≡ wordBytes left ++ cutOut at w end (drop 4 (now (table .entry))) ⌝ }
+{
+    cut_out(&mut table[4..], at, w, end);
+    wire::put_u32(table, 0, left);
+}
+
+// ---- disconnect
+
+// Ends every call to the callee in a table of pending calls.
+fn end_calls(table: &mut [u8], callee: u32)
+    requires { ⌜ (length (now table) ≡ 132) × (now table ≡ tableBytes 8 16 pendingBytes (tableOf 8 16 pendingOf (now table))) ⌝ }
+    ensures { λ r. ⌜ now (table .exit) ≡ tableBytes 8 16 pendingBytes (endedAll callee (tableOf 8 16 pendingOf (now (table .entry)))) ⌝ }
+{
+    let mut n = wire::u32_at(Order::Little, table, 0);
+    let mut j: u32 = 0;
+    while j < n {
+        let at = 8 * (j as usize);
+        if wire::u32_at(Order::Little, table, 4 + at) == callee {
+            remove(table, at, 8, 8 * (n as usize), n - 1);
+            n -= 1;
+            continue;
+        }
+        j += 1;
+    }
+}
+
+// Ends every call to the callee that the peer of slot i awaits.
+fn end_at(memory: &mut [u8], i: usize, callee: u32)
+    requires { ⌜ PlainSlot (now memory) i ⌝ }
+    ensures { λ r. ⌜ now (memory .exit) ≡ endedAt (now (memory .entry)) i callee ⌝ }
+{
+    if slots::number_at(memory, i) == 0 {
+        return;
+    }
+    let at = 4 + 3292 * i + 76;
+    let end = at + 132;
+    end_calls(&mut memory[at..end], callee);
+}
+
+// Ends every call to the callee.
+fn end_all(memory: &mut [u8], callee: u32)
+    requires { ⌜ Encoded (now memory) ⌝ }
+    ensures { λ r. ⌜ now (memory .exit) ≡ endedFor (now (memory .entry)) callee ⌝ }
+{
+    let mut i = 0;
+    while i < 16 {
+        end_at(memory, i, callee);
+        i += 1;
+    }
+}
+
+// Frees slot i, whose peer has this number, and ends every call to it.
+fn leave(memory: &mut [u8], i: usize, number: u32)
+    requires { ⌜ (Held (now memory)) × (i < 16) ⌝ }
+    ensures { λ r. ⌜ now (memory .exit) ≡ gone (now (memory .entry)) i number ⌝ }
+{
+    let from = 4 + 3292 * i;
+    let to = from + 3292;
+    wire::wipe(&mut memory[from..to]);
+    end_all(memory, number);
+}
+
+// Disconnects a peer: 30.
+pub fn disconnect(memory: &mut [u8], peer: u32) -> Gone
+    requires { ⌜ Held (now memory) ⌝ }
+    ensures { λ r. ⌜ Did (stored (disconnect tails (stateOf (now (memory .entry))) peer)) r (now (memory .exit)) ⌝ }
+{
+    let i = slots::find(memory, peer, 0);
+    if i == 16 {
+        return Gone {
+            answer: 30,
+            bytes: 0,
+        };
+    }
+    let bytes = slots::word_at(memory, i, 1236);
+    leave(memory, i, peer);
+    Gone { answer: 0, bytes }
+}
+
+// ---- own
+
+// The policy lets a peer of this uid and the first `count` of these gids own the name.
+fn may_own_as(image: &[u8], uid: Uid, gids: [u32; 16], count: usize, name: &[u8]) -> bool
+    requires { ⌜ (GoodImage (now image)) × (count ≤ 16) ⌝ }
+    ensures { λ r. ⌜ r ≡ mayOwn (now (image .entry)) uid (take count gids) (now (name .entry)) ⌝ }
+{
+    policy::may_own(image, uid, &gids[0..count], name)
+}
+
+// The policy lets the peer of slot i own the name.
+fn may_own_at(image: &[u8], memory: &[u8], i: usize, name: &[u8]) -> bool
+    requires { ⌜ (GoodImage (now image)) × (length (now memory) ≡ 52676) × (i < 16) ⌝ }
+    ensures { λ r. ⌜ r ≡ mayOwn (now (image .entry)) (record { 0 = peerAt (now (memory .entry)) i .uid }) (peerAt (now (memory .entry)) i .gids) (now (name .entry)) ⌝ }
+{
+    let uid = Uid(slots::word_at(memory, i, 4));
+    let gids = slots::gids_at(memory, i);
+    let list = gids.list;
+    let count = gids.count;
+    may_own_as(image, uid, list, count, name)
+}
+
+// Writes a name behind its length at `at`.
+fn put_name(memory: &mut [u8], at: usize, name: &[u8])
+    requires { ⌜ Naming (now memory) at (now name) ⌝ }
+    ensures { λ r. ⌜ now (memory .exit) ≡ take at (now (memory .entry)) ++ (nameBytes (now (name .entry)) ++ drop (at + (1 + length (now (name .entry)))) (now (memory .entry))) ⌝ }
+{
+    memory[at] = name.len() as u8;
+    let from = at + 1;
+    let to = from + name.len();
+    wire::copy(&mut memory[from..to], name);
+}
+
+// Gives the name, which is nobody's, to the peer of slot i: 34.
+fn grant(memory: &mut [u8], i: usize, name: &[u8]) -> u8
+    requires { ⌜ (Seated (now memory) i) × (length (now name) ≤ 255) ⌝ }
+    ensures { λ r. ⌜ Did (stored (granted (now (memory .entry)) i (now (name .entry)))) r (now (memory .exit)) ⌝ }
+{
+    let n = slots::word_at(memory, i, 208);
+    if 4 <= n {
+        return 34;
+    }
+    put_name(memory, 4 + 3292 * i + 212 + 256 * (n as usize), name);
+    wire::put_u32(memory, 4 + 3292 * i + 208, n + 1);
+    0
+}
+
+// Gives the name to the peer of slot i, unless it has it: 33, 34.
+fn claim(memory: &mut [u8], i: usize, name: &[u8]) -> u8
+    requires { ⌜ (Seated (now memory) i) × (length (now name) ≤ 255) ⌝ }
+    ensures { λ r. ⌜ Did (stored (claimed (now (memory .entry)) i (now (name .entry)))) r (now (memory .exit)) ⌝ }
+{
+    if slots::owns_name(memory, i, name, 0) {
+        return 0;
+    }
+    if 16 <= slots::find_owner(memory, name, 0) {
+        return grant(memory, i, name);
+    }
+    33
+}
+
+// Gives a peer a name: 30, 31, 32, 33, 34.
+pub fn own(image: &[u8], memory: &mut [u8], peer: u32, name: &[u8]) -> u8
+    requires { ⌜ (GoodImage (now image)) × (Held (now memory)) ⌝ }
+    ensures { λ r. ⌜ Did (stored (own (now (image .entry)) (stateOf (now (memory .entry))) peer (now (name .entry)))) r (now (memory .exit)) ⌝ }
+{
+    let i = slots::find(memory, peer, 0);
+    if i == 16 {
+        return 30;
+    }
+    if !audit::is_ownable(name) {
+        return 31;
+    }
+    if !may_own_at(image, memory, i, name) {
+        return 32;
+    }
+    claim(memory, i, name)
+}
+
+// ---- release
+
+// Name j of slot i is this one.
+fn is_name(memory: &[u8], i: usize, j: usize, name: &[u8]) -> bool
+    requires { ⌜ (length (now memory) ≡ 52676) × (i < 16) × (j < 4) ⌝ }
+    ensures { λ r. ⌜ (r ≡ same (nameAt (now (memory .entry)) i j) (now (name .entry))) × (getD (now (memory .entry)) (4 + 3292 * i + 212 + 256 * j) 0 < 256) ⌝ }
+{
+    let at = 4 + 3292 * i + 212 + 256 * j;
+    let from = at + 1;
+    let to = from + wire::wide(memory[at]) as usize;
+    wire::equal(&memory[from..to], name)
+}
+
+// The first of the names of slot i that is this one, or how many there are.
+fn find_name(memory: &[u8], i: usize, name: &[u8]) -> usize
+    requires { ⌜ Seated (now memory) i ⌝ }
+    ensures { λ r. ⌜ NameAt (now (memory .entry)) i (now (name .entry)) r ⌝ }
+{
+    let count = slots::word_at(memory, i, 208) as usize;
+    let mut j = 0;
+    while j < count {
+        if is_name(memory, i, j, name) {
+            return j;
+        }
+        j += 1;
+    }
+    j
+}
+
+// Takes the name from the peer of slot i, if it has it: 35.
+fn give_up(memory: &mut [u8], i: usize, name: &[u8]) -> u8
+    requires { ⌜ Seated (now memory) i ⌝ }
+    ensures { λ r. ⌜ Did (stored (givenUp (now (memory .entry)) i (now (name .entry)))) r (now (memory .exit)) ⌝ }
+{
+    let j = find_name(memory, i, name);
+    let n = slots::word_at(memory, i, 208);
+    if n as usize <= j {
+        return 35;
+    }
+    let at = 4 + 3292 * i + 208;
+    let end = at + 1028;
+    remove(
+        &mut memory[at..end],
+        256 * j,
+        256,
+        256 * (n as usize),
+        n - 1,
+    );
+    0
+}
+
+// Takes a name from a peer: 30, 31, 35.
+pub fn release(memory: &mut [u8], peer: u32, name: &[u8]) -> u8
+    requires { ⌜ Held (now memory) ⌝ }
+    ensures { λ r. ⌜ Did (stored (release (stateOf (now (memory .entry))) peer (now (name .entry)))) r (now (memory .exit)) ⌝ }
+{
+    let i = slots::find(memory, peer, 0);
+    if i == 16 {
+        return 30;
+    }
+    let ownable = audit::is_ownable(name);
+    if !ownable {
+        return 31;
+    }
+    give_up(memory, i, name)
+}

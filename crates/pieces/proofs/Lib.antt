@@ -1,0 +1,5 @@
+mod Feeding
+mod Seats
+mod Copied
+mod Consumed
+mod Offered

@@ -1,0 +1,152 @@
+-- The stream of a slot, in good memory. Assumes nothing.
+use mathlib.Core.Path.{_≡_, refl, sym, ap, ap₂, subst, _∙_}
+use mathlib.Core.Bool.{Bool, true, false}
+use mathlib.Core.List.{List, [], _∷_, _++_, append-nil}
+use Prim.Native.Nat.{ℕ, _+_, _-_, _*_, _≤_, _<_, min}
+use native.Mathlib.Omega.{arith}
+use lib.ListN.{length, take, drop, getD, replicate, length-take, length-drop}
+use lib.Seq.{drop-drop, take-take, length-take-le}
+use mir.Syntax.{w8}
+use mir.Val.{Fits}
+use borrow.Author.Needs.{needs}
+use Rattle.wire.specs.Bytes.{pad}
+use Rattle.wire.specs.Words.{wordAt, wordBytes}
+use Rattle.wire.specs.declared.Order.the-variants.{Little}
+use Rattle.wire.proofs.Words.{cut-at, put-at}
+use Rattle.tables.proofs.Parts.{drop-take}
+use Rattle.tables.proofs.Words.{word-part}
+use Rattle.stream.specs.Stream.{Offer, offer}
+use Rattle.stream.specs.Tail.{Tail, tails, closed, fresh, goodTail}
+use Rattle.stream.specs.Contracts.{tailOf, GoodTail}
+use Rattle.stream.specs.declared.Advance.{Advance}
+use Rattle.rules.specs.State.{Peer, free, peer, putSlot, withStream}
+use Rattle.memory.specs.Encoding.{headBytes, memoryOf, stateOf}
+use Rattle.memory.specs.Sound.{Sound, Held}
+use Rattle.memory.proofs.Reading.{numberAt, peerFrom, slot-peer}
+use Rattle.memory.proofs.Held.{held-peer, held-counted, Counted}
+use Rattle.memory.proofs.Fields.{stream-bytes}
+use Rattle.memory.proofs.Good.{good-sound}
+use Rattle.memory.proofs.Puts.{stream-put}
+use Rattle.sound.proofs.Kept.{Fine}
+use Rattle.sound.proofs.Put.{peer-fine}
+use Rattle.slots.specs.Slots.{peerAt}
+use Rattle.pieces.specs.Fed.{streamBytes, streamIn, Opens, Fed, Seat, Running, FedAt, cleared}
+
+fresh-bytes : streamBytes fresh ≡ replicate 2056 0
+unfolding wordBytes headBytes pad
+fresh-bytes = refl
+
+module _ (m : List ℕ) (f : (j : ℕ) → Fits w8 (getD m j 0)) (i : ℕ) (s : Seat m i) where
+  pub sound : Sound (stateOf m)
+  sound = good-sound m (λ j. f j .fits) (s .held .held)
+
+  pub peer-is : getD (stateOf m .slots) i free ≡ peer (peerAt m i)
+  peer-is = slot-peer m i (s .below) (s .some)
+
+  pub fine : Fine (stateOf m .last) (peerAt m i)
+  fine = peer-fine (stateOf m) i (peerAt m i) sound peer-is
+
+  counts : Counted m (4 + 3292 * i)
+  counts = held-counted m i (s .held) (s .below) (s .some)
+
+  -- the bytes of its stream
+  part-is : take 2056 (drop (4 + 3292 * i + 1236) m) ≡ streamBytes (peerAt m i .stream)
+  part-is =
+      sym (drop-take 1236 2056 (drop (4 + 3292 * i) m) ∙ rw (drop-drop 1236 (4 + 3292 * i) m))
+      ∙ ap (drop 1236) (held-peer m i (s .held) (s .below) (s .some))
+      ∙ stream-bytes (peerAt m i)
+
+  stream-in : streamIn (take 2056 (drop (4 + 3292 * i + 1236) m)) ≡ peerAt m i .stream
+  stream-in =
+      let b = 4 + 3292 * i + 1236 in
+      let p : b + 0 ≡ 4 + 3292 * i + 1236 = omega arith in
+      let q : b + 4 ≡ 4 + 3292 * i + 1240 = omega arith in
+      let r : b + 8 ≡ 4 + 3292 * i + 1244 = omega arith in
+      let n = min (wordAt Little m (4 + 3292 * i + 1240)) 2048 in
+      rw (word-part m b 2056 0 (omega arith), p, word-part m b 2056 4 (omega arith), q, drop-take 8 2048 (drop b m), drop-drop 8 b m, r)
+      (ap (λ (h : List ℕ). record { taken = wordAt Little m (4 + 3292 * i + 1236); head = h }) (take-take n 2048 (drop (4 + 3292 * i + 1244) m) (omega arith)))
+
+  pub opens-at : closed (peerAt m i .stream) ≡ false → Opens (take (4 + 3292 * i + 1236 + 2056 - (4 + 3292 * i + 1236)) (drop (4 + 3292 * i + 1236) m))
+  opens-at c =
+      rw (cut-at (4 + 3292 * i + 1236) 2056 m)
+      (record {
+        sized = length-take-le 2056 (drop (4 + 3292 * i + 1236) m) (omega (arith, length-drop (4 + 3292 * i + 1236) m, s .sized, s .below));
+        bytes = part-is ∙ ap streamBytes (sym stream-in);
+        good = ap goodTail stream-in ∙ fine .tail;
+        runs = ap closed stream-in ∙ c;
+      })
+
+  pub fed-at : (piece x after : List ℕ) (r : Advance)
+      → Fed (offer tails (streamIn (take (4 + 3292 * i + 1236 + 2056 - (4 + 3292 * i + 1236)) (drop (4 + 3292 * i + 1236) m))) piece) (length piece) r x
+      → after ≡ take (4 + 3292 * i + 1236) m ++ (x ++ drop (4 + 3292 * i + 1236 + 2056 - (4 + 3292 * i + 1236)) (drop (4 + 3292 * i + 1236) m))
+      → FedAt m i (offer tails (peerAt m i .stream) piece) (length piece) r after
+  fed-at piece x after r d e =
+      let q : streamIn (take (4 + 3292 * i + 1236 + 2056 - (4 + 3292 * i + 1236)) (drop (4 + 3292 * i + 1236) m)) ≡ peerAt m i .stream
+      = ap streamIn (cut-at (4 + 3292 * i + 1236) 2056 m) ∙ stream-in in
+      let g : Fed (offer tails (peerAt m i .stream) piece) (length piece) r x
+      = subst (λ (t : Tail). Fed (offer tails t piece) (length piece) r x) q d in
+      record {
+        taken = g .taken;
+        verdict = g .verdict;
+        bytes = e ∙ put-at (4 + 3292 * i + 1236) 2056 m x ∙ rw (g .bytes);
+        memory =
+            e
+            ∙ put-at (4 + 3292 * i + 1236) 2056 m x
+            ∙ rw (g .bytes) (sym (stream-put m (λ j. f j .fits) (s .held) i (s .below) (s .some) (offer tails (peerAt m i .stream) piece .stream)));
+        within = g .within;
+      }
+
+  -- the region of its head
+  pub closed-at : (t n : ℕ) → t ≡ wordAt Little m (4 + 3292 * i + 1236) → n ≡ wordAt Little m (4 + 3292 * i + 1240)
+      → GoodTail (take (4 + 3292 * i + 1244 + 2048 - (4 + 3292 * i + 1244)) (drop (4 + 3292 * i + 1244) m)) t n
+  closed-at t n p q =
+      let k : n ≤ 2048 = rw (← q) at (counts .small) in
+      rw (cut-at (4 + 3292 * i + 1244) 2048 m)
+      (record {
+        inside =
+            rw (length-take-le 2048 (drop (4 + 3292 * i + 1244) m) (omega (arith, length-drop (4 + 3292 * i + 1244) m, s .sized, s .below))) k;
+        good = ap goodTail (tail-at t n p q) ∙ fine .tail;
+      })
+    where
+      tail-at : (t n : ℕ) → t ≡ wordAt Little m (4 + 3292 * i + 1236) → n ≡ wordAt Little m (4 + 3292 * i + 1240)
+          → tailOf (take 2048 (drop (4 + 3292 * i + 1244) m)) t n ≡ peerAt m i .stream
+      tail-at t n p q =
+          let k : n ≤ 2048 = rw (← q) at (counts .small) in
+          let e : min (wordAt Little m (4 + 3292 * i + 1240)) 2048 ≡ n = omega arith in
+          rw (e, ← p) (ap (λ (h : List ℕ). record { taken = t; head = h }) (take-take n 2048 (drop (4 + 3292 * i + 1244) m) k))
+
+  pub closed-is : (t n : ℕ) (r : Bool) → t ≡ wordAt Little m (4 + 3292 * i + 1236) → n ≡ wordAt Little m (4 + 3292 * i + 1240)
+      → r ≡ closed (tailOf (take (4 + 3292 * i + 1244 + 2048 - (4 + 3292 * i + 1244)) (drop (4 + 3292 * i + 1244) m)) t n)
+      → r ≡ closed (peerAt m i .stream)
+  closed-is t n r p q z =
+      let k : n ≤ 2048 = rw (← q) at (counts .small) in
+      let e : min (wordAt Little m (4 + 3292 * i + 1240)) 2048 ≡ n = omega arith in
+      z ∙ rw (cut-at (4 + 3292 * i + 1244) 2048 m, e, ← p, take-take n 2048 (drop (4 + 3292 * i + 1244) m) k)
+
+  -- zeros over its stream
+  pub cleared-is : cleared m i ≡ memoryOf (putSlot (stateOf m) i (peer (withStream (peerAt m i) fresh)))
+  cleared-is =
+      ap (λ (z : List ℕ). take (4 + 3292 * i + 1236) m ++ (z ++ drop (4 + 3292 * i + 1236 + 2056) m)) (sym fresh-bytes)
+      ∙ sym (stream-put m (λ j. f j .fits) (s .held) i (s .below) (s .some) fresh)
+
+-- zeros written over a stream
+pub settled-at : (m z : List ℕ) (i : ℕ) → length m ≡ 52676 → i < 16
+    → z ≡ replicate (length (take (4 + 3292 * i + 1236 + 2056 - (4 + 3292 * i + 1236)) (drop (4 + 3292 * i + 1236) m))) 0
+    → take (4 + 3292 * i + 1236) m ++ (z ++ drop (4 + 3292 * i + 1236 + 2056 - (4 + 3292 * i + 1236)) (drop (4 + 3292 * i + 1236) m)) ≡ cleared m i
+settled-at m z i h k q =
+    let l : length (take (4 + 3292 * i + 1236 + 2056 - (4 + 3292 * i + 1236)) (drop (4 + 3292 * i + 1236) m)) ≡ 2056
+    = ap length (cut-at (4 + 3292 * i + 1236) 2056 m)
+    ∙ length-take-le 2056 (drop (4 + 3292 * i + 1236) m) (omega (arith, length-drop (4 + 3292 * i + 1236) m)) in
+    put-at (4 + 3292 * i + 1236) 2056 m z ∙ rw (q, l)
+
+module _ (m : List ℕ) (f : (j : ℕ) → Fits w8 (getD m j 0)) (i : ℕ) (s : Running m i) where
+  pub runs-open : Opens (take (4 + 3292 * i + 1236 + 2056 - (4 + 3292 * i + 1236)) (drop (4 + 3292 * i + 1236) m))
+  runs-open = opens-at m f i (s .seat) (s .runs)
+
+  pub runs-fed : (piece x after : List ℕ) (r : Advance)
+      → Fed (offer tails (streamIn (take (4 + 3292 * i + 1236 + 2056 - (4 + 3292 * i + 1236)) (drop (4 + 3292 * i + 1236) m))) piece) (length piece) r x
+      → after ≡ take (4 + 3292 * i + 1236) m ++ (x ++ drop (4 + 3292 * i + 1236 + 2056 - (4 + 3292 * i + 1236)) (drop (4 + 3292 * i + 1236) m))
+      → FedAt m i (offer tails (peerAt m i .stream) piece) (length piece) r after
+  runs-fed = fed-at m f i (s .seat)
+
+pub ruleset seats = (runs-open, runs-fed, closed-at, closed-is, settled-at, needs)

@@ -1,0 +1,9 @@
+pub mod Mask
+pub mod Tests
+pub mod First
+pub mod Fewer
+pub mod Waits
+pub mod Replies
+pub mod View
+pub mod SeenJudge
+pub mod Seen

@@ -1,0 +1,44 @@
+-- Who is meant by a destination (01, "Receivers and replies"). Assumes nothing: these are definitions.
+use mathlib.Core.Bool.{Bool, true, false, cond, _&&_, _||_, not}
+use mathlib.Core.List.{List, [], _∷_, _++_}
+use mathlib.Core.Option.{Option, none, some}
+use Prim.Native.Nat.{ℕ, zero, suc, _+_, _/_, _%_}
+use lib.Dec.{eqb, ltb}
+use lib.ListN.{length}
+use Rattle.wire.specs.Bytes.{bytes, same}
+use Rattle.names.specs.Names.{wellKnown}
+use Rattle.policy.specs.Names.{busName, owns}
+use Rattle.rules.specs.State.{Slot, free, peer, Peer, firstBy}
+
+-- a name that a peer may own: well-known, and not the bus's
+abbrev pub ownable : List ℕ → Bool
+ownable name = wellKnown name && not (same name busName)
+
+-- the digits of n before `after`; ten are enough for a number of 32 bits
+unfoldable pub digits : ℕ → ℕ → List ℕ → List ℕ
+digits zero n after = after
+digits (suc fuel) n after = elim (eqb n 0) [ true ↦ after | false ↦ digits fuel (n / 10) ((48 + n % 10) ∷ after) ]
+
+-- "peer N's unique name is `:1.N`, decimal, no leading zeros"
+unfoldable pub uniqueName : ℕ → List ℕ
+uniqueName n = bytes ":1." ++ digits 10 n []
+
+-- the slot's peer has that unique name, or owns that name
+unfoldable pub answersTo : {S : Type 0} → List ℕ → Slot S → Bool
+answersTo text free = false
+answersTo text (peer p) = same text (uniqueName (p .number)) || owns (p .names) text
+
+-- where a message goes: to no destination, to the bus, to the peer of a slot, or to nobody
+pub data Address : Type 0 where
+  absent : Address
+  bus : Address
+  slot : ℕ → Address
+  unknown : Address
+
+-- the slot that was found, where there is one
+abbrev pub found : ℕ → ℕ → Address
+found n i = cond (ltb i n) (slot i) unknown
+
+unfoldable pub resolve : {S : Type 0} → List (Slot S) → Option (List ℕ) → Address
+resolve slots none = absent
+resolve slots (some text) = cond (same text busName) bus (found (length slots) (firstBy (answersTo text) slots))

@@ -1,0 +1,147 @@
+-- The guard's calls, as 01 words them, once, over any streams. Each is asked with a good image and good memory: 50 and 51 come before.
+-- Assumes nothing: these are definitions.
+use mathlib.Core.Bool.{Bool, true, false, cond}
+use mathlib.Core.List.{List, [], _∷_, _++_, map}
+use Prim.Native.Nat.{ℕ, _+_}
+use lib.Dec.{ltb, leb}
+use lib.ListN.{length, getD, set, replicate}
+use Rattle.header.specs.declared.Header.{Header}
+use Rattle.wire.specs.Bytes.{same}
+use Rattle.policy.specs.Names.{owns}
+use Rattle.policy.specs.Decisions.{mayConnect, mayOwn}
+use Rattle.stream.specs.Stream.{Verdict, more, broken, whole, Streams, Offer, offer, settled}
+use Rattle.rules.specs.State.{Slot, free, peer, Peer, State, isFree, isPeer, firstBy, putSlot, withNames, withStream}
+use Rattle.rules.specs.Addresses.{ownable}
+use Rattle.rules.specs.Pending.{bereft}
+use Rattle.rules.specs.Judge.{Judged, refusal, judged}
+use Rattle.rules.specs.declared.Judgement.{Judgement}
+use Rattle.rules.specs.declared.Connected.{Connected}
+use Rattle.rules.specs.declared.Taken.{Taken}
+use Rattle.rules.specs.declared.Gone.{Gone}
+
+-- a call's result, and the state that it leaves
+pub record Step (S R : Type 0) : Type 0 where
+  pub state : State S
+  pub result : R
+
+abbrev pub stays : {S R : Type 0} → State S → R → Step S R
+stays s r = record { state = s; result = r }
+
+abbrev pub empty : {S : Type 0} → State S
+empty = record { last = 0; slots = replicate 16 free }
+
+-- ---- connect: 37, 36, 38, 39
+
+abbrev pub noConnect : ℕ → Connected
+noConnect a = record { answer = a; number = 0; slot = 0 }
+
+abbrev pub newcomer : {S : Type 0} → Streams S → ℕ → ℕ → List ℕ → Peer S
+newcomer O number uid gids = record { number = number; uid = uid; gids = gids; pending = []; names = []; stream = O .fresh }
+
+-- "the numbers 1, 2, 3 and on, one higher at each granted connect, never used again, and the lowest free slot"
+abbrev pub seated : {S : Type 0} → Streams S → State S → ℕ → ℕ → List ℕ → Step S Connected
+seated O s i uid gids =
+    record {
+      state = record { last = s .last + 1; slots = set (s .slots) i (peer (newcomer O (s .last + 1) uid gids)) };
+      result = record { answer = 0; number = s .last + 1; slot = i };
+    }
+
+abbrev pub connectAt : {S : Type 0} → Streams S → State S → ℕ → ℕ → List ℕ → Step S Connected
+connectAt O s i uid gids =
+    cond (ltb i (length (s .slots)))
+    (cond (ltb (s .last) 4294967295) (seated O s i uid gids) (stays s (noConnect 39)))
+    (stays s (noConnect 38))
+
+unfoldable pub connect : {S : Type 0} → Streams S → List ℕ → State S → ℕ → List ℕ → Step S Connected
+connect O image s uid gids =
+    cond (ltb 16 (length gids)) (stays s (noConnect 37))
+    (cond (mayConnect image (record { 0 = uid }) gids) (connectAt O s (firstBy isFree (s .slots)) uid gids) (stays s (noConnect 36)))
+
+-- ---- own: 30, 31, 32, then 0 unchanged if already its own, 33, 34
+
+-- the slot's peer owns the name
+abbrev pub isOwner : {S : Type 0} → List ℕ → Slot S → Bool
+isOwner name free = false
+isOwner name (peer p) = owns (p .names) name
+
+abbrev pub ownNew : {S : Type 0} → State S → ℕ → Peer S → List ℕ → Step S ℕ
+ownNew s i p name =
+    cond (ltb (firstBy (isOwner name) (s .slots)) (length (s .slots))) (stays s 33)
+    (cond (leb 4 (length (p .names))) (stays s 34)
+    (stays (putSlot s i (peer (withNames p (p .names ++ (name ∷ []))))) 0))
+
+abbrev pub ownAt : {S : Type 0} → List ℕ → State S → ℕ → Slot S → List ℕ → Step S ℕ
+ownAt image s i free name = stays s 30
+ownAt image s i (peer p) name =
+    cond (ownable name)
+    (cond (mayOwn image (record { 0 = p .uid }) (p .gids) name)
+    (cond (owns (p .names) name) (stays s 0) (ownNew s i p name))
+    (stays s 32))
+    (stays s 31)
+
+-- slot i, which is free past the last
+abbrev pub slotAt : {S : Type 0} → State S → ℕ → Slot S
+slotAt s i = getD (s .slots) i free
+
+unfoldable pub own : {S : Type 0} → List ℕ → State S → ℕ → List ℕ → Step S ℕ
+own image s n name = let i = firstBy (isPeer n) (s .slots) in ownAt image s i (slotAt s i) name
+
+-- ---- release: 30, 31, 35
+
+-- the names without that one: the later ones move down
+unfoldable pub released : List ℕ → List (List ℕ) → List (List ℕ)
+released name [] = []
+released name (x ∷ xs) = cond (same x name) xs (x ∷ released name xs)
+
+abbrev pub releaseAt : {S : Type 0} → State S → ℕ → Slot S → List ℕ → Step S ℕ
+releaseAt s i free name = stays s 30
+releaseAt s i (peer p) name =
+    cond (ownable name)
+    (cond (owns (p .names) name) (stays (putSlot s i (peer (withNames p (released name (p .names))))) 0) (stays s 35))
+    (stays s 31)
+
+unfoldable pub release : {S : Type 0} → State S → ℕ → List ℕ → Step S ℕ
+release s n name = let i = firstBy (isPeer n) (s .slots) in releaseAt s i (slotAt s i) name
+
+-- ---- piece: 30, 40
+
+abbrev pub noPiece : ℕ → Taken
+noPiece a = record { judgement = refusal a; taken = 0 }
+
+-- "Answers 1 to 9 take up to the byte that decided"; a whole message is judged over the state in which its bytes are taken
+abbrev pub offered : {S : Type 0} → List ℕ → State S → ℕ → Peer S → ℕ → Verdict → Step S Taken
+offered image s i p taken more = stays s (record { judgement = refusal 10; taken = taken })
+offered image s i p taken (broken a) = stays s (record { judgement = refusal a; taken = taken })
+offered image s i p taken (whole h x) =
+    let j = judged image s i p h x in
+    record { state = j .state; result = record { judgement = j .judgement; taken = taken } }
+
+abbrev pub offeredTo : {S : Type 0} → Streams S → List ℕ → State S → ℕ → Peer S → Offer S → Step S Taken
+offeredTo O image s i p o =
+    let q = withStream p (settled O (o .verdict) (o .stream)) in
+    offered image (putSlot s i (peer q)) i q (o .taken) (o .verdict)
+
+abbrev pub pieceAt : {S : Type 0} → Streams S → List ℕ → State S → ℕ → Slot S → List ℕ → Step S Taken
+pieceAt O image s i free bytes = stays s (noPiece 30)
+pieceAt O image s i (peer p) bytes =
+    cond (O .closed (p .stream)) (stays s (noPiece 40)) (offeredTo O image s i p (offer O (p .stream) bytes))
+
+unfoldable pub piece : {S : Type 0} → Streams S → List ℕ → State S → ℕ → List ℕ → Step S Taken
+piece O image s n bytes = let i = firstBy (isPeer n) (s .slots) in pieceAt O image s i (slotAt s i) bytes
+
+-- ---- disconnect: 30
+
+abbrev pub noGone : ℕ → Gone
+noGone a = record { answer = a; bytes = 0 }
+
+-- "Disconnect ends the peer's names and every wait where it is caller or callee, and reports the bytes taken of its unfinished or broken message."
+abbrev pub disconnectAt : {S : Type 0} → Streams S → State S → ℕ → Slot S → Step S Gone
+disconnectAt O s i free = stays s (noGone 30)
+disconnectAt O s i (peer p) =
+    record {
+      state = record { last = s .last; slots = map (bereft (p .number)) (set (s .slots) i free) };
+      result = record { answer = 0; bytes = O .count (p .stream) };
+    }
+
+unfoldable pub disconnect : {S : Type 0} → Streams S → State S → ℕ → Step S Gone
+disconnect O s n = let i = firstBy (isPeer n) (s .slots) in disconnectAt O s i (slotAt s i)

@@ -1,0 +1,133 @@
+-- The judgement of a whole message (01, "Precedence and matching", "Receivers and replies", "Answer numbers"): its answer, its receiver, and the state
+-- that it leaves. Assumes nothing: these are definitions.
+use mathlib.Core.Bool.{Bool, true, false, cond, _&&_, _||_}
+use mathlib.Core.List.{List, [], _∷_, _++_, map}
+use Prim.Native.Nat.{ℕ, _+_, _*_, _%_}
+use lib.Dec.{eqb, ltb, leb}
+use lib.ListN.{length, getD}
+use Rattle.header.specs.declared.Header.{Header}
+use Rattle.policy.specs.Names.{busName}
+use Rattle.policy.specs.Matching.{Message, fieldOf, messageOf}
+use Rattle.policy.specs.Decisions.{mayTransact}
+use Rattle.rules.specs.State.{Slot, free, peer, Peer, Pending, State, putSlot, withPending}
+use Rattle.rules.specs.Addresses.{Address, absent, bus, slot, unknown, resolve}
+use Rattle.rules.specs.Pending.{awaits, ended}
+use Rattle.rules.specs.declared.Receiver.{Receiver}
+use Rattle.rules.specs.declared.Receiver.the-variants as to
+use Rattle.rules.specs.declared.Judgement.{Judgement}
+
+pub record Judged (S : Type 0) : Type 0 where
+  pub judgement : Judgement
+  pub state : State S
+
+-- "Refusals and 10 carry nobody."
+abbrev pub refusal : ℕ → Judgement
+refusal a = record { answer = a; receiver = to.Nobody }
+
+abbrev pub refused : {S : Type 0} → State S → ℕ → Judged S
+refused s a = record { judgement = refusal a; state = s }
+
+abbrev pub passed : {S : Type 0} → State S → Receiver → Judged S
+passed s r = record { judgement = record { answer = 0; receiver = r }; state = s }
+
+-- "Send: the subject fits the sender; the name is any or one the receiver owns" and "Receive: the subject fits the receiver; the name is any or one the
+-- sender owns"
+abbrev pub maySend : {S : Type 0} → List ℕ → Peer S → List (List ℕ) → Message → Bool
+maySend image sender names m = mayTransact image 0 (record { 0 = sender .uid }) (sender .gids) names m
+
+abbrev pub mayReceive : {S : Type 0} → List ℕ → Peer S → List (List ℕ) → Message → Bool
+mayReceive image receiver names m = mayTransact image 1 (record { 0 = receiver .uid }) (receiver .gids) names m
+
+-- ---- to the bus
+
+-- "Only send is judged; nothing waits."
+abbrev pub toBus : {S : Type 0} → List ℕ → State S → Peer S → Message → Judged S
+toBus image s sender m = cond (maySend image sender (busName ∷ []) m) (passed s to.Bus) (refused s 22)
+
+-- ---- to one peer
+
+-- "A passed call to a peer, flag bit 0 clear, waits as (caller, callee, serial)." 25 and 26 only where a wait would begin.
+abbrev pub waits : {S : Type 0} → State S → ℕ → Peer S → Peer S → Header → Judged S
+waits s i sender receiver x =
+    cond (awaits (receiver .number) (x .serial) (sender .pending)) (refused s 25)
+    (cond (leb 16 (length (sender .pending))) (refused s 26)
+    (passed
+    (putSlot s i
+    (peer (withPending sender (sender .pending ++ (record { callee = receiver .number; serial = x .serial } ∷ [])))))
+    (to.Peer (receiver .number))))
+
+-- a call that expects a reply: type 1, flag bit 0 clear
+abbrev pub expectsReply : Header → Bool
+expectsReply x = eqb (x .kind) 1 && eqb (x .flags % 2) 0
+
+-- a call or a signal to a peer
+abbrev pub toPeer : {S : Type 0} → List ℕ → State S → ℕ → Peer S → Peer S → Message → Header → Judged S
+toPeer image s i sender receiver m x =
+    cond (maySend image sender (receiver .names) m)
+    (cond (mayReceive image receiver (sender .names) m)
+    (cond (expectsReply x) (waits s i sender receiver x) (passed s (to.Peer (receiver .number))))
+    (refused s 23))
+    (refused s 22)
+
+-- ---- to everybody
+
+-- "every connected peer, sender included, for whom send and receive both allow"
+abbrev pub reaches : {S : Type 0} → List ℕ → Peer S → Message → Slot S → Bool
+reaches image sender m free = false
+reaches image sender m (peer receiver) = maySend image sender (receiver .names) m && mayReceive image receiver (sender .names) m
+
+abbrev pub bit : Bool → ℕ
+bit true = 1
+bit false = 0
+
+-- bit k is slot k
+unfoldable pub maskOf : List Bool → ℕ
+maskOf [] = 0
+maskOf (b ∷ bs) = bit b + 2 * maskOf bs
+
+unfoldable pub countOf : List Bool → ℕ
+countOf [] = 0
+countOf (b ∷ bs) = bit b + countOf bs
+
+abbrev pub toAll : {S : Type 0} → List ℕ → State S → Peer S → Message → Judged S
+toAll image s sender m =
+    let bits = map (reaches image sender m) (s .slots) in
+    passed s (to.Slots (maskOf bits) (countOf bits))
+
+-- ---- replies
+
+-- "A return or error from B whose destination resolves to A passes exactly when (A, B, reply serial) waits, and ends that wait."
+abbrev pub replyTo : {S : Type 0} → State S → ℕ → Peer S → Slot S → Header → Judged S
+replyTo s j sender free x = refused s 24
+replyTo s j sender (peer caller) x =
+    cond (awaits (sender .number) (x .«reply_serial») (caller .pending))
+    (passed
+    (putSlot s j (peer (withPending caller (ended (sender .number) (x .«reply_serial») (caller .pending)))))
+    (to.Peer (caller .number)))
+    (refused s 24)
+
+-- "A reply to the bus or with no destination never does."
+abbrev pub reply : {S : Type 0} → State S → Peer S → Address → Header → Judged S
+reply s sender absent x = refused s 24
+reply s sender bus x = refused s 24
+reply s sender unknown x = refused s 24
+reply s sender (slot j) x = replyTo s j sender (getD (s .slots) j free) x
+
+-- ---- a call or a signal, by its address
+
+abbrev pub toSlot : {S : Type 0} → List ℕ → State S → ℕ → Peer S → Slot S → Message → Header → Judged S
+toSlot image s i sender free m x = refused s 21
+toSlot image s i sender (peer receiver) m x = toPeer image s i sender receiver m x
+
+abbrev pub directed : {S : Type 0} → List ℕ → State S → ℕ → Peer S → Address → Message → Header → Judged S
+directed image s i sender absent m x = cond (eqb (x .kind) 1) (toBus image s sender m) (toAll image s sender m)
+directed image s i sender bus m x = toBus image s sender m
+directed image s i sender unknown m x = refused s 21
+directed image s i sender (slot j) m x = toSlot image s i sender (getD (s .slots) j free) m x
+
+-- a whole message of the peer in slot i, whose head is h
+unfoldable pub judged : {S : Type 0} → List ℕ → State S → ℕ → Peer S → List ℕ → Header → Judged S
+judged image s i sender h x =
+    let a = resolve (s .slots) (fieldOf h (x .destination)) in
+    cond (ltb 4 (x .kind)) (refused s 20)
+    (cond (eqb (x .kind) 2 || eqb (x .kind) 3) (reply s sender a x) (directed image s i sender a (messageOf h x) x))

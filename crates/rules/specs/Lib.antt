@@ -1,0 +1,5 @@
+pub mod State
+pub mod Addresses
+pub mod Pending
+pub mod Judge
+pub mod Calls

@@ -1,0 +1,29 @@
+-- Calls that await their replies (01, "Receivers and replies"). Assumes nothing: these are definitions.
+use mathlib.Core.Bool.{Bool, true, false, cond, _&&_, _||_}
+use mathlib.Core.List.{List, [], _∷_, _++_}
+use Prim.Native.Nat.{ℕ}
+use lib.Dec.{eqb}
+use Rattle.rules.specs.State.{Pending, Slot, free, peer, withPending}
+
+abbrev pub isCall : ℕ → ℕ → Pending → Bool
+isCall callee serial w = eqb (w .callee) callee && eqb (w .serial) serial
+
+-- (caller, callee, serial) waits, in its caller's list
+unfoldable pub awaits : ℕ → ℕ → List Pending → Bool
+awaits callee serial [] = false
+awaits callee serial (w ∷ ws) = isCall callee serial w || awaits callee serial ws
+
+-- that wait ended: the later ones move down
+unfoldable pub ended : ℕ → ℕ → List Pending → List Pending
+ended callee serial [] = []
+ended callee serial (w ∷ ws) = cond (isCall callee serial w) ws (w ∷ ended callee serial ws)
+
+-- every wait for the callee ended
+unfoldable pub endedAll : ℕ → List Pending → List Pending
+endedAll callee [] = []
+endedAll callee (w ∷ ws) = cond (eqb (w .callee) callee) (endedAll callee ws) (w ∷ endedAll callee ws)
+
+-- a slot after the callee has gone
+abbrev pub bereft : {S : Type 0} → ℕ → Slot S → Slot S
+bereft callee free = free
+bereft callee (peer p) = peer (withPending p (endedAll callee (p .pending)))

@@ -1,0 +1,58 @@
+-- The abstract state: the last number given, and sixteen slots. `S` is what a stream is made of. Assumes nothing: these are definitions.
+use mathlib.Core.Bool.{Bool, true, false, cond}
+use mathlib.Core.List.{List, [], _∷_}
+use Prim.Native.Nat.{ℕ, suc}
+use lib.Dec.{eqb}
+use lib.ListN.{set}
+
+-- a call that awaits its reply, kept by its caller: 01's "wait" (caller, callee, serial)
+pub record Pending : Type 0 where
+  pub callee : ℕ
+  pub serial : ℕ
+
+-- a connected peer
+pub record Peer (S : Type 0) : Type 0 where
+  pub number : ℕ
+  pub uid : ℕ
+  pub gids : List ℕ
+  pub pending : List Pending
+  pub names : List (List ℕ)
+  pub stream : S
+
+pub data Slot (S : Type 0) : Type 0 where
+  free : Slot S
+  peer : Peer S → Slot S
+
+pub record State (S : Type 0) : Type 0 where
+  pub last : ℕ
+  pub slots : List (Slot S)
+
+abbrev pub isFree : {S : Type 0} → Slot S → Bool
+isFree free = true
+isFree (peer p) = false
+
+abbrev pub isPeer : {S : Type 0} → ℕ → Slot S → Bool
+isPeer n free = false
+isPeer n (peer p) = eqb (p .number) n
+
+-- the place of the first that passes, or the length where none does
+unfoldable pub firstBy : {A : Type 0} → (A → Bool) → List A → ℕ
+firstBy t [] = 0
+firstBy t (x ∷ xs) = cond (t x) 0 (suc (firstBy t xs))
+
+-- slot i put
+abbrev pub putSlot : {S : Type 0} → State S → ℕ → Slot S → State S
+putSlot s i x = record { last = s .last; slots = set (s .slots) i x }
+
+-- a peer with other names, pending calls or stream
+abbrev pub withNames : {S : Type 0} → Peer S → List (List ℕ) → Peer S
+withNames p ns =
+    record { number = p .number; uid = p .uid; gids = p .gids; pending = p .pending; names = ns; stream = p .stream }
+
+abbrev pub withPending : {S : Type 0} → Peer S → List Pending → Peer S
+withPending p ps =
+    record { number = p .number; uid = p .uid; gids = p .gids; pending = ps; names = p .names; stream = p .stream }
+
+abbrev pub withStream : {S : Type 0} → Peer S → S → Peer S
+withStream p t =
+    record { number = p .number; uid = p .uid; gids = p .gids; pending = p .pending; names = p .names; stream = t }

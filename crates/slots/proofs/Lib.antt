@@ -1,0 +1,4 @@
+pub mod Cells
+mod Owned
+mod Waiting
+mod Groups

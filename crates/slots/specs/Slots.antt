@@ -1,0 +1,33 @@
+-- What stands in slot i of a memory. Assumes nothing: these are definitions.
+use mathlib.Core.Path.{_≡_}
+use mathlib.Core.List.{List}
+use Prim.Native.Nat.{ℕ, _+_, _*_, _≤_, _<_}
+use lib.ListN.{length, take, drop, getD}
+use Rattle.stream.specs.Tail.{Tail}
+use Rattle.rules.specs.State.{Peer, firstBy}
+use Rattle.rules.specs.Pending.{isCall}
+use Rattle.memory.proofs.Reading.{peerFrom}
+use Rattle.slots.specs.declared.Gids.{Gids}
+
+-- the peer that the bytes of slot i say
+abbrev pub peerAt : List ℕ → ℕ → Peer Tail
+peerAt m i = peerFrom m (4 + 3292 * i)
+
+-- name j of slot i, whose length is a byte
+abbrev pub nameAt : List ℕ → ℕ → ℕ → List ℕ
+nameAt m i j = take (getD m (4 + 3292 * i + 212 + 256 * j) 0) (drop (4 + 3292 * i + 212 + 256 * j + 1) m)
+
+-- slot i of a memory of the right length
+pub record At (m : List ℕ) (i : ℕ) : Type 0 where
+  pub sized : length m ≡ 52676
+  pub below : i < 16
+
+-- the gids of slot i stand in front of the list
+pub record GidsOf (m : List ℕ) (i : ℕ) (r : Gids) : Type 0 where
+  pub few : r .count ≤ 16
+  pub are : take (r .count) (r .list) ≡ peerAt m i .gids
+
+-- r is the first of the pending calls of slot i from `from` on that is for this callee and serial, or how many there are
+pub record CallAt (m : List ℕ) (i callee serial from r : ℕ) : Type 0 where
+  pub inside : r ≤ length (peerAt m i .pending)
+  pub is : r ≡ from + firstBy (isCall callee serial) (drop from (peerAt m i .pending))

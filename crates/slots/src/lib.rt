@@ -1,0 +1,162 @@
+// Readings of the guard's memory: the words of a slot, and which slot a peer has.
+use wire::Order;
+ghost use mathlib.Core.Path.{_≡_};
+ghost use Prim.Native.Nat.{_+_, _*_, _≤_, _<_};
+ghost use lib.ListN.{length, drop, getD};
+ghost use Rattle.wire.specs.Words.{wordAt};
+ghost use Rattle.wire.specs.declared.Order.the-variants.{Little};
+ghost use Rattle.rules.specs.State.{isFree, isPeer};
+ghost use Rattle.rules.specs.Calls.{slotAt, isOwner};
+ghost use Rattle.wire.specs.Bytes.{same};
+ghost use Rattle.policy.specs.Names.{owns};
+ghost use Rattle.memory.specs.Encoding.{stateOf};
+ghost use Rattle.memory.proofs.Reading.{numberAt};
+ghost use Rattle.memory.proofs.Search.{Found};
+ghost use Rattle.slots.specs.Slots.{peerAt, nameAt, At, GidsOf, CallAt};
+
+// A peer's gids: the first `count` of the list.
+pub struct Gids {
+    pub list: [u32; 16],
+    pub count: usize,
+}
+
+// The word at a place of slot i.
+pub fn word_at(memory: &[u8], i: usize, place: usize) -> u32
+    requires { ⌜ (length (now memory) ≡ 52676) × (i < 16) × (place + 4 ≤ 3292) ⌝ }
+    ensures { λ r. ⌜ (r ≡ wordAt Little (now (memory .entry)) (4 + 3292 * i + place)) × (r < 4294967296) ⌝ }
+{
+    wire::u32_at(Order::Little, memory, 4 + 3292 * i + place)
+}
+
+// The number in slot i, 0 where it is free.
+pub fn number_at(memory: &[u8], i: usize) -> u32
+    requires { ⌜ (length (now memory) ≡ 52676) × (i < 16) ⌝ }
+    ensures { λ r. ⌜ (r ≡ numberAt (now (memory .entry)) i) × (r < 4294967296) ⌝ }
+{
+    wire::u32_at(Order::Little, memory, 4 + 3292 * i)
+}
+
+// The last number given.
+pub fn last_of(memory: &[u8]) -> u32
+    requires { ⌜ length (now memory) ≡ 52676 ⌝ }
+    ensures { λ r. ⌜ (r ≡ stateOf (now (memory .entry)) .last) × (r < 4294967296) ⌝ }
+{
+    wire::u32_at(Order::Little, memory, 0)
+}
+
+// The first slot from `from` on whose peer has this number, or 16.
+pub fn find(memory: &[u8], number: u32, from: usize) -> usize
+    requires { ⌜ (length (now memory) ≡ 52676) × (from ≤ 16) ⌝ }
+    ensures { λ r. ⌜ Found (isPeer number) (now (memory .entry)) from r ⌝ }
+{
+    if number == 0 {
+        return 16;
+    }
+    let mut i = from;
+    while i < 16 {
+        if number_at(memory, i) == number {
+            return i;
+        }
+        i += 1;
+    }
+    i
+}
+
+// The lowest free slot, or 16.
+pub fn find_free(memory: &[u8]) -> usize
+    requires { ⌜ length (now memory) ≡ 52676 ⌝ }
+    ensures { λ r. ⌜ Found isFree (now (memory .entry)) 0 r ⌝ }
+{
+    let mut i = 0;
+    while i < 16 {
+        if number_at(memory, i) == 0 {
+            return i;
+        }
+        i += 1;
+    }
+    i
+}
+
+// The gids of the peer in slot i.
+pub fn gids_at(memory: &[u8], i: usize) -> Gids
+    requires { ⌜ At (now memory) i ⌝ }
+    ensures { λ r. ⌜ GidsOf (now (memory .entry)) i r ⌝ }
+{
+    let mut list = [0u32; 16];
+    let count = wire::least(word_at(memory, i, 8) as usize, 16);
+    let mut k = 0;
+    while k < count {
+        list[k] = word_at(memory, i, 12 + 4 * k);
+        k += 1;
+    }
+    Gids { list, count }
+}
+
+// Name j of slot i is this one.
+fn is_name(memory: &[u8], i: usize, j: usize, name: &[u8]) -> bool
+    requires { ⌜ (length (now memory) ≡ 52676) × (i < 16) × (j < 4) ⌝ }
+    ensures { λ r. ⌜ (r ≡ same (nameAt (now (memory .entry)) i j) (now (name .entry))) × (getD (now (memory .entry)) (4 + 3292 * i + 212 + 256 * j) 0 < 256) ⌝ }
+{
+    let at = 4 + 3292 * i + 212 + 256 * j;
+    let from = at + 1;
+    let to = from + wire::wide(memory[at]) as usize;
+    wire::equal(&memory[from..to], name)
+}
+
+// The peer of slot i has the name among those from `from` on.
+pub fn owns_name(memory: &[u8], i: usize, name: &[u8], from: usize) -> bool
+    requires { ⌜ At (now memory) i ⌝ }
+    ensures { λ r. ⌜ r ≡ owns (drop from (peerAt (now (memory .entry)) i .names)) (now (name .entry)) ⌝ }
+{
+    let count = wire::least(word_at(memory, i, 208) as usize, 4);
+    let mut j = from;
+    while j < count {
+        if is_name(memory, i, j, name) {
+            return true;
+        }
+        j += 1;
+    }
+    false
+}
+
+// Slot i is a peer's that owns the name.
+fn is_owner(memory: &[u8], i: usize, name: &[u8]) -> bool
+    requires { ⌜ At (now memory) i ⌝ }
+    ensures { λ r. ⌜ r ≡ isOwner (now (name .entry)) (slotAt (stateOf (now (memory .entry))) i) ⌝ }
+{
+    if number_at(memory, i) == 0 {
+        return false;
+    }
+    owns_name(memory, i, name, 0)
+}
+
+// The first slot from `from` on whose peer owns the name, or 16.
+pub fn find_owner(memory: &[u8], name: &[u8], from: usize) -> usize
+    requires { ⌜ (length (now memory) ≡ 52676) × (from ≤ 16) ⌝ }
+    ensures { λ r. ⌜ Found (isOwner (now (name .entry))) (now (memory .entry)) from r ⌝ }
+{
+    let mut i = from;
+    while i < 16 {
+        if is_owner(memory, i, name) {
+            return i;
+        }
+        i += 1;
+    }
+    i
+}
+
+// The first pending call from `from` on of slot i that is for this callee and serial, or how many there are.
+pub fn find_pending(memory: &[u8], i: usize, callee: u32, serial: u32, from: usize) -> usize
+    requires { ⌜ (length (now memory) ≡ 52676) × (i < 16) × (from ≤ length (peerAt (now memory) i .pending)) ⌝ }
+    ensures { λ r. ⌜ CallAt (now (memory .entry)) i callee serial from r ⌝ }
+{
+    let count = wire::least(word_at(memory, i, 76) as usize, 16);
+    let mut j = from;
+    while j < count {
+        if (word_at(memory, i, 80 + 8 * j) == callee) & (word_at(memory, i, 84 + 8 * j) == serial) {
+            return j;
+        }
+        j += 1;
+    }
+    j
+}

@@ -1,0 +1,173 @@
+-- "an empty guard is good and every call keeps good memory good": each call keeps a sound state sound. Assumes nothing: what the streams give is named
+-- by the sections.
+use mathlib.Core.Path.{_≡_, refl, _∙_}
+use mathlib.Core.Bool.{true, false, cond}
+use mathlib.Core.List.{List, [], _∷_, _++_}
+use Prim.Native.Nat.{ℕ, _+_, _≤_, _<_}
+use native.Mathlib.Omega.{arith}
+use lib.Dec.{leb, ltb}
+use lib.ListN.{length, getD, set, length-set, length-map}
+use borrow.Author.Tests.{lt-ltb, ltb-true, ltb-false, leb-false, eq-eqb}
+use Rattle.header.specs.Header.{readHeader}
+use Rattle.header.specs.declared.Header.{Header}
+use Rattle.header.specs.declared.Reading.the-variants.{Whole}
+use Rattle.policy.specs.Names.{owns}
+use Rattle.policy.specs.Decisions.{mayConnect, mayOwn}
+use Rattle.stream.specs.Stream.{Verdict, more, broken, whole, offer, settled}
+use Rattle.stream.specs.Tail.{Tail, fresh, closed, tails, goodTail}
+use Rattle.rules.specs.State.{Peer, Slot, free, peer, State, isFree, isPeer, firstBy, putSlot, withNames, withStream}
+use Rattle.rules.specs.Addresses.{ownable}
+use Rattle.rules.specs.Pending.{awaits, bereft}
+use Rattle.rules.specs.Calls.{Step, stays, empty, noConnect, newcomer, seated, connectAt, connect, isOwner, ownNew, ownAt, slotAt, own, released}
+use Rattle.rules.specs.Calls.{releaseAt, release, noPiece, offered, offeredTo, pieceAt, piece, disconnectAt, disconnect}
+use Rattle.memory.specs.Good.{goodSlots}
+use Rattle.memory.proofs.Octets.{below-every}
+use Rattle.memory.specs.Sound.{every, word32, narrow, octet, headOctets, Sound}
+use Rattle.rules.proofs.Tests.{choice}
+use Rattle.sound.proofs.Slots.{first-none}
+use Rattle.rules.proofs.First.{first-passes, taken-below}
+use Rattle.sound.proofs.Names.{okNames}
+use Rattle.rules.proofs.Waits.{okPending}
+use Rattle.sound.proofs.Kept.{sound-kept, kept-sound}
+use Rattle.sound.proofs.Put.{peer-fine, put-there, New, new-kept, gone-kept}
+use Rattle.sound.proofs.Renew.{stream-sound, granted-sound, released-sound}
+use Rattle.sound.proofs.Octets.{taken-octets, offer-octets, whole-read}
+use Rattle.sound.proofs.Judged.{judged-sound}
+
+-- the call leaves a sound state
+abbrev Leaves : {R : Type 0} → Step Tail R → Type 0
+Leaves j = Sound (j .state)
+
+-- ---- start
+
+pub empty-sound : Sound empty
+unfolding goodSlots narrow headOctets
+empty-sound = record { sixteen = refl; fits = omega arith; slots = refl; narrows = refl; octets = refl }
+
+-- ---- connect
+
+module _ (fresh-good : goodTail fresh ≡ true) (s : State Tail) (uid : ℕ) (gids : List ℕ) (g : Sound s)
+    (user : uid < 4294967296) (groups : every word32 gids ≡ true) where
+  newcomer-new : length gids ≤ 16 → New (s .last) (newcomer tails (s .last + 1) uid gids)
+  unfolding okNames okPending owns awaits
+  newcomer-new l =
+      record {
+        number = refl;
+        fine =
+            record {
+              low = omega arith;
+              high = omega arith;
+              few-gids = l;
+              few-pending = omega arith;
+              few-names = omega arith;
+              waits = refl;
+              owned = refl;
+              tail = fresh-good;
+              user = lt-ltb uid 4294967296 user;
+              groups = groups;
+              serials = refl;
+              bytes = refl;
+            };
+        nameless = λ y. refl;
+        waitless = λ c r. refl;
+      }
+
+  seated-sound : length gids ≤ 16 → (i : ℕ) → i < length (s .slots) → isFree (getD (s .slots) i free) ≡ true → s .last < 4294967295
+      → Leaves (seated tails s i uid gids)
+  seated-sound l i h f n =
+      kept-sound (seated tails s i uid gids .state) (length-set (s .slots) i (peer (newcomer tails (s .last + 1) uid gids)) ∙ g .sixteen) (omega arith)
+      (new-kept (s .last) (s .slots) i (newcomer tails (s .last + 1) uid gids) h f (sound-kept g) (newcomer-new l))
+
+  connect-at : length gids ≤ 16 → (i : ℕ) → (i < length (s .slots) → isFree (getD (s .slots) i free) ≡ true) → Leaves (connectAt tails s i uid gids)
+  connect-at l i f =
+      let inner = cond (ltb (s .last) 4294967295) (seated tails s i uid gids) (stays s (noConnect 39)) in
+      choice Leaves (ltb i (length (s .slots))) inner (stays s (noConnect 38))
+      (λ a. let h = ltb-true i (length (s .slots)) a in
+      choice Leaves (ltb (s .last) 4294967295) (seated tails s i uid gids) (stays s (noConnect 39))
+      (λ b. seated-sound l i h (f h) (ltb-true (s .last) 4294967295 b)) (λ b. g))
+      (λ a. g)
+
+  pub connect-sound : (image : List ℕ) → Sound (connect tails image s uid gids .state)
+  unfolding connect
+  connect-sound image =
+      let at = connectAt tails s (firstBy isFree (s .slots)) uid gids in
+      let may = mayConnect image (record { 0 = uid }) gids in
+      choice Leaves (ltb 16 (length gids)) (stays s (noConnect 37)) (cond may at (stays s (noConnect 36))) (λ a. g)
+      (λ a. choice Leaves may at (stays s (noConnect 36)) (λ b. connect-at (ltb-false 16 (length gids) a) (firstBy isFree (s .slots))
+      (first-passes isFree (s .slots) free)) (λ b. g))
+
+-- ---- own and release
+
+module _ (s : State Tail) (g : Sound s) where
+  own-at : (image : List ℕ) (i : ℕ) (x : Slot Tail) (name : List ℕ) → getD (s .slots) i free ≡ x → Leaves (ownAt image s i x name)
+  own-at image i free name e = g
+  own-at image i (peer p) name e =
+      let put : Step Tail ℕ = stays (putSlot s i (peer (withNames p (p .names ++ (name ∷ []))))) 0 in
+      let full : Step Tail ℕ = cond (leb 4 (length (p .names))) (stays s 34) put in
+      let may = mayOwn image (record { 0 = p .uid }) (p .gids) name in
+      let mine : Step Tail ℕ = cond (owns (p .names) name) (stays s 0) (ownNew s i p name) in
+      choice Leaves (ownable name) (cond may mine (stays s 32)) (stays s 31)
+      (λ a. choice Leaves may mine (stays s 32)
+      (λ b. choice Leaves (owns (p .names) name) (stays s 0) (ownNew s i p name) (λ c. g)
+      (λ c. choice Leaves (ltb (firstBy (isOwner name) (s .slots)) (length (s .slots))) (stays s 33) full (λ d. g)
+      (λ d. choice Leaves (leb 4 (length (p .names))) (stays s 34) put (λ k. g)
+      (λ k. granted-sound s i p g e name a (first-none (isOwner name) (s .slots) d) (leb-false 4 (length (p .names)) k))))) (λ b. g)) (λ a. g)
+
+  pub own-sound : (image : List ℕ) (n : ℕ) (name : List ℕ) → Sound (own image s n name .state)
+  unfolding own
+  own-sound image n name = let i = firstBy (isPeer n) (s .slots) in own-at image i (slotAt s i) name refl
+
+  release-at : (i : ℕ) (x : Slot Tail) (name : List ℕ) → getD (s .slots) i free ≡ x → Leaves (releaseAt s i x name)
+  release-at i free name e = g
+  release-at i (peer p) name e =
+      let put : Step Tail ℕ = stays (putSlot s i (peer (withNames p (released name (p .names))))) 0 in
+      choice Leaves (ownable name) (cond (owns (p .names) name) put (stays s 35)) (stays s 31)
+      (λ a. choice Leaves (owns (p .names) name) put (stays s 35) (λ b. released-sound s i p g e name) (λ b. g)) (λ a. g)
+
+  pub release-sound : (n : ℕ) (name : List ℕ) → Sound (release s n name .state)
+  unfolding release
+  release-sound n name = let i = firstBy (isPeer n) (s .slots) in release-at i (slotAt s i) name refl
+
+-- ---- disconnect
+
+disconnect-at : (s : State Tail) → Sound s → (i : ℕ) (x : Slot Tail) → getD (s .slots) i free ≡ x → Leaves (disconnectAt tails s i x)
+disconnect-at s g i free e = g
+disconnect-at s g i (peer p) e =
+    kept-sound (disconnectAt tails s i (peer p) .state)
+    (length-map (set (s .slots) i free) (bereft (p .number)) ∙ length-set (s .slots) i free ∙ g .sixteen) (g .fits)
+    (gone-kept (s .last) (s .slots) i (p .number) (taken-below (s .slots) i p e) (sound-kept g) (rw e (eq-eqb (p .number) (p .number) refl)))
+
+pub disconnect-sound : (s : State Tail) → Sound s → (n : ℕ) → Sound (disconnect tails s n .state)
+unfolding disconnect
+disconnect-sound s g n = let i = firstBy (isPeer n) (s .slots) in disconnect-at s g i (slotAt s i) refl
+
+-- ---- piece
+
+module _
+    (offer-good : (t : Tail) (p : List ℕ) → goodTail t ≡ true → closed t ≡ false
+    → goodTail (settled tails (offer tails t p .verdict) (offer tails t p .stream)) ≡ true)
+    (header-serial : (h : List ℕ) (x : Header) → ((i : ℕ) → getD h i 0 < 256) → readHeader h ≡ Whole x → (1 ≤ x .serial) × (x .serial < 4294967296))
+    (s : State Tail) (g : Sound s) (bytes : List ℕ) (small : every octet bytes ≡ true) where
+  offered-sound : (image : List ℕ) (i : ℕ) (q : Peer Tail) (taken : ℕ) (v : Verdict) (z : State Tail) → Sound z → getD (z .slots) i free ≡ peer q
+      → ((h : List ℕ) (x : Header) → v ≡ whole h x → (1 ≤ x .serial) × (x .serial < 4294967296)) → Leaves (offered image z i q taken v)
+  offered-sound image i q taken more z k e w = k
+  offered-sound image i q taken (broken a) z k e w = k
+  offered-sound image i q taken (whole h x) z k e w = let r = w h x refl in judged-sound image z i q x k e (r .0) (r .1) h
+
+  piece-at : (image : List ℕ) (i : ℕ) (x : Slot Tail) → getD (s .slots) i free ≡ x → Leaves (pieceAt tails image s i x bytes)
+  piece-at image i free e = g
+  piece-at image i (peer p) e =
+      let o = offer tails (p .stream) bytes in
+      let q = withStream p (settled tails (o .verdict) (o .stream)) in
+      choice Leaves (closed (p .stream)) (stays s (noPiece 40)) (offeredTo tails image s i p o) (λ a. g)
+      (λ a. let f = peer-fine s i p g e in
+      offered-sound image i q (o .taken) (o .verdict) (putSlot s i (peer q))
+      (stream-sound s i p g e (settled tails (o .verdict) (o .stream)) (offer-good (p .stream) bytes (f .tail) a)
+      (offer-octets (p .stream) bytes (f .bytes) small))
+      (put-there s i p q e)
+      (λ h x v. header-serial (o .stream .head) x (below-every 256 (o .stream .head) (omega arith) (taken-octets (p .stream) bytes (f .bytes) small))
+      (whole-read (p .stream) bytes h x v)))
+
+  pub piece-sound : (image : List ℕ) (n : ℕ) → Sound (piece tails image s n bytes .state)
+  unfolding piece
+  piece-sound image n = let i = firstBy (isPeer n) (s .slots) in piece-at image i (slotAt s i) refl

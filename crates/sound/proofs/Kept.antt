@@ -1,0 +1,228 @@
+-- Good slots by place: each good by itself, a number and a name in one slot at most, and each callee in some slot. Assumes nothing.
+use mathlib.Core.Path.{_≡_, refl, subst}
+use mathlib.Core.Bool.{Bool, true, false, _&&_, false≢true}
+use mathlib.Core.List.{List, [], _∷_}
+use Prim.Native.Nat.{ℕ, zero, suc, _≤_, _<_}
+use lib.Dec.{leb}
+use lib.ListN.{length, getD}
+use borrow.Author.Tests.{leb-true, le-leb, eq-eqb, eqb-true}
+use Rattle.wire.proofs.Texts.{both-first, both-second, both-true}
+use Rattle.stream.specs.Tail.{Tail, goodTail}
+use Rattle.rules.specs.State.{Peer, Slot, free, peer, State, isPeer}
+use Rattle.rules.specs.Calls.{isOwner}
+use Rattle.memory.specs.Good.{nobody, goodNames, goodPending, goodPeer, goodSlot, goodSlots}
+use Rattle.memory.specs.Sound.{every, word32, narrow, octet, headOctets, Sound}
+use Rattle.sound.proofs.Slots.{nobody-at, nobody-of, somebody-at, somebody-of, every-of, Single, single-head, single-apart, single-rest}
+use Rattle.sound.proofs.Names.{okNames, names-ok, names-apart, names-good}
+use Rattle.rules.proofs.Replies.{isWaiting}
+use Rattle.rules.proofs.Waits.{okPending}
+use Rattle.sound.proofs.Pending.{narrowPending, pending-ok, pending-known, pending-good}
+
+-- ---- a peer by itself
+
+pub record Fine (last : ℕ) (p : Peer Tail) : Type 0 where
+  pub low : 1 ≤ p .number
+  pub high : p .number ≤ last
+  pub few-gids : length (p .gids) ≤ 16
+  pub few-pending : length (p .pending) ≤ 16
+  pub few-names : length (p .names) ≤ 4
+  pub waits : okPending (p .pending) ≡ true
+  pub owned : okNames (p .names) ≡ true
+  pub tail : goodTail (p .stream) ≡ true
+  pub user : word32 (p .uid) ≡ true
+  pub groups : every word32 (p .gids) ≡ true
+  pub serials : narrowPending (p .pending) ≡ true
+  pub bytes : every octet (p .stream .head) ≡ true
+
+abbrev pub Alone : ℕ → Slot Tail → Type 0
+Alone last free = Unit
+Alone last (peer p) = Fine last p
+
+-- ---- slots, whose callees are in `all`
+
+pub record Among (all : List (Slot Tail)) (last : ℕ) (l : List (Slot Tail)) : Type 0 where
+  pub each : (i : ℕ) → Alone last (getD l i free)
+  pub numbers : (n : ℕ) → Single (isPeer n) l
+  pub names : (y : List ℕ) → Single (isOwner y) l
+  pub callees : (i c s : ℕ) → isWaiting c s (getD l i free) ≡ true → (j : ℕ) × (isPeer c (getD all j free) ≡ true)
+
+abbrev pub Kept : ℕ → List (Slot Tail) → Type 0
+Kept last l = Among l last l
+
+-- ---- the first slot beside those after it
+
+record Beside (all : List (Slot Tail)) (last : ℕ) (x : Slot Tail) (later : List (Slot Tail)) : Type 0 where
+  alone : Alone last x
+  number : (n : ℕ) → isPeer n x ≡ true → (j : ℕ) → isPeer n (getD later j free) ≡ false
+  name : (y : List ℕ) → isOwner y x ≡ true → (j : ℕ) → isOwner y (getD later j free) ≡ false
+  callee : (c s : ℕ) → isWaiting c s x ≡ true → (j : ℕ) × (isPeer c (getD all j free) ≡ true)
+
+module _ (all : List (Slot Tail)) (last : ℕ) (p : Peer Tail) (later : List (Slot Tail)) where
+  abbrev range : Bool
+  range = leb 1 (p .number) && leb (p .number) last
+
+  abbrev apart : Bool
+  apart = range && nobody (isPeer (p .number)) later
+
+  abbrev gidsFit : Bool
+  gidsFit = apart && leb (length (p .gids)) 16
+
+  abbrev pendingFit : Bool
+  pendingFit = gidsFit && leb (length (p .pending)) 16
+
+  abbrev namesFit : Bool
+  namesFit = pendingFit && leb (length (p .names)) 4
+
+  abbrev pendingGood : Bool
+  pendingGood = namesFit && goodPending all (p .pending)
+
+  abbrev namesGood : Bool
+  namesGood = pendingGood && goodNames (p .names) later
+
+  peer-beside : goodPeer all last p later ≡ true → narrow (peer p) ≡ true → headOctets (peer p) ≡ true → Beside all last (peer p) later
+  unfolding goodPeer narrow headOctets
+  peer-beside e w o =
+      let h7 = both-first namesGood (goodTail (p .stream)) e in
+      let h6 = both-first pendingGood (goodNames (p .names) later) h7 in
+      let h5 = both-first namesFit (goodPending all (p .pending)) h6 in
+      let h4 = both-first pendingFit (leb (length (p .names)) 4) h5 in
+      let h3 = both-first gidsFit (leb (length (p .pending)) 16) h4 in
+      let h2 = both-first apart (leb (length (p .gids)) 16) h3 in
+      let h1 = both-first range (nobody (isPeer (p .number)) later) h2 in
+      let w1 = both-first (word32 (p .uid) && every word32 (p .gids)) (narrowPending (p .pending)) w in
+      record {
+        alone =
+            record {
+              low = leb-true 1 (p .number) (both-first (leb 1 (p .number)) (leb (p .number) last) h1);
+              high = leb-true (p .number) last (both-second (leb 1 (p .number)) (leb (p .number) last) h1);
+              few-gids = leb-true (length (p .gids)) 16 (both-second apart (leb (length (p .gids)) 16) h3);
+              few-pending = leb-true (length (p .pending)) 16 (both-second gidsFit (leb (length (p .pending)) 16) h4);
+              few-names = leb-true (length (p .names)) 4 (both-second pendingFit (leb (length (p .names)) 4) h5);
+              waits = pending-ok all (p .pending) (both-second namesFit (goodPending all (p .pending)) h6);
+              owned = names-ok later (p .names) (both-second pendingGood (goodNames (p .names) later) h7);
+              tail = both-second namesGood (goodTail (p .stream)) e;
+              user = both-first (word32 (p .uid)) (every word32 (p .gids)) w1;
+              groups = both-second (word32 (p .uid)) (every word32 (p .gids)) w1;
+              serials = both-second (word32 (p .uid) && every word32 (p .gids)) (narrowPending (p .pending)) w;
+              bytes = o;
+            };
+        number =
+            λ n q.
+            nobody-at (isPeer n) refl later
+            (subst (λ (k : ℕ). nobody (isPeer k) later ≡ true) (eqb-true (p .number) n q) (both-second range (nobody (isPeer (p .number)) later) h2));
+        name =
+            λ y q. nobody-at (isOwner y) refl later (names-apart later (p .names) (both-second pendingGood (goodNames (p .names) later) h7) y q);
+        callee =
+            λ c s q. somebody-at (isPeer c) all (pending-known all (p .pending) (both-second namesFit (goodPending all (p .pending)) h6) c s q);
+      }
+
+  peer-good : Beside all last (peer p) later → goodPeer all last p later ≡ true
+  unfolding goodPeer
+  peer-good b =
+      rw (
+        le-leb 1 (p .number) (b .alone .low),
+        le-leb (p .number) last (b .alone .high),
+        nobody-of (isPeer (p .number)) later (b .number (p .number) (eq-eqb (p .number) (p .number) refl)),
+        le-leb (length (p .gids)) 16 (b .alone .few-gids),
+        le-leb (length (p .pending)) 16 (b .alone .few-pending),
+        le-leb (length (p .names)) 4 (b .alone .few-names),
+        pending-good all (p .pending) (b .alone .waits) (λ c s q. let r = b .callee c s q in somebody-of (isPeer c) refl all (r .0) (r .1)),
+        names-good later (p .names) (b .alone .owned) (λ y q. nobody-of (isOwner y) later (b .name y q)),
+      )
+      (b .alone .tail)
+
+  peer-narrow : Fine last p → narrow (peer p) ≡ true
+  unfolding narrow
+  peer-narrow f = rw (f .user, f .groups) (f .serials)
+
+slot-beside : (all : List (Slot Tail)) (last : ℕ) (x : Slot Tail) (later : List (Slot Tail)) → goodSlot all last x later ≡ true → narrow x ≡ true
+    → headOctets x ≡ true
+    → Beside all last x later
+slot-beside all last free later e w o =
+    record { alone = tt; number = λ n q. absurd (false≢true q); name = λ y q. absurd (false≢true q); callee = λ c s q. absurd (false≢true q) }
+slot-beside all last (peer p) later e w o = peer-beside all last p later e w o
+
+slot-good : (all : List (Slot Tail)) (last : ℕ) (x : Slot Tail) (later : List (Slot Tail)) → Beside all last x later → goodSlot all last x later ≡ true
+slot-good all last free later b = refl
+slot-good all last (peer p) later b = peer-good all last p later b
+
+slot-narrow : (last : ℕ) (x : Slot Tail) → Alone last x → narrow x ≡ true
+unfolding narrow
+slot-narrow last free a = refl
+slot-narrow last (peer p) a = peer-narrow [] last p [] a
+
+slot-octets : (last : ℕ) (x : Slot Tail) → Alone last x → headOctets x ≡ true
+unfolding headOctets
+slot-octets last free a = refl
+slot-octets last (peer p) a = a .bytes
+
+-- ---- all of them
+
+among-cons : (all : List (Slot Tail)) (last : ℕ) (x : Slot Tail) (l : List (Slot Tail)) → Beside all last x l → Among all last l → Among all last (x ∷ l)
+among-cons all last x l b a =
+    record {
+      each = each;
+      numbers = λ n. single-head (isPeer n) x l (b .number n) (a .numbers n);
+      names = λ y. single-head (isOwner y) x l (b .name y) (a .names y);
+      callees = callees;
+    }
+  where
+    each : (i : ℕ) → Alone last (getD (x ∷ l) i free)
+    each zero = b .alone
+    each (suc i) = a .each i
+
+    callees : (i c s : ℕ) → isWaiting c s (getD (x ∷ l) i free) ≡ true → (j : ℕ) × (isPeer c (getD all j free) ≡ true)
+    callees zero c s q = b .callee c s q
+    callees (suc i) c s q = a .callees i c s q
+
+among-of : (all : List (Slot Tail)) (last : ℕ) (l : List (Slot Tail)) → goodSlots all last l ≡ true → every narrow l ≡ true → every headOctets l ≡ true
+    → Among all last l
+unfolding goodSlots
+among-of all last [] e w o =
+    record { each = λ i. tt; numbers = λ n i j q. absurd (false≢true q); names = λ y i j q. absurd (false≢true q); callees = λ i c s q. absurd (false≢true q) }
+among-of all last (x ∷ l) e w o =
+    among-cons all last x l
+    (slot-beside all last x l (both-first (goodSlot all last x l) (goodSlots all last l) e) (both-first (narrow x) (every narrow l) w)
+    (both-first (headOctets x) (every headOctets l) o))
+    (among-of all last l (both-second (goodSlot all last x l) (goodSlots all last l) e) (both-second (narrow x) (every narrow l) w)
+    (both-second (headOctets x) (every headOctets l) o))
+
+among-rest : (all : List (Slot Tail)) (last : ℕ) (x : Slot Tail) (l : List (Slot Tail)) → Among all last (x ∷ l) → Among all last l
+among-rest all last x l a =
+    record {
+      each = λ i. a .each (suc i);
+      numbers = λ n. single-rest (isPeer n) x l (a .numbers n);
+      names = λ y. single-rest (isOwner y) x l (a .names y);
+      callees = λ i. a .callees (suc i);
+    }
+
+among-beside : (all : List (Slot Tail)) (last : ℕ) (x : Slot Tail) (l : List (Slot Tail)) → Among all last (x ∷ l) → Beside all last x l
+among-beside all last x l a =
+    record {
+      alone = a .each 0;
+      number = λ n. single-apart (isPeer n) x l (a .numbers n);
+      name = λ y. single-apart (isOwner y) x l (a .names y);
+      callee = a .callees 0;
+    }
+
+among-good : (all : List (Slot Tail)) (last : ℕ) (l : List (Slot Tail)) → Among all last l → goodSlots all last l ≡ true
+unfolding goodSlots
+among-good all last [] a = refl
+among-good all last (x ∷ l) a =
+    both-true (goodSlot all last x l) (goodSlots all last l) (slot-good all last x l (among-beside all last x l a))
+    (among-good all last l (among-rest all last x l a))
+
+-- ---- a sound state is one whose slots are kept
+
+pub sound-kept : {s : State Tail} → Sound s → Kept (s .last) (s .slots)
+sound-kept {s} g = among-of (s .slots) (s .last) (s .slots) (g .slots) (g .narrows) (g .octets)
+
+pub kept-sound : (s : State Tail) → length (s .slots) ≡ 16 → s .last < 4294967296 → Kept (s .last) (s .slots) → Sound s
+kept-sound s l h k =
+    record {
+      sixteen = l;
+      fits = h;
+      slots = among-good (s .slots) (s .last) (s .slots) k;
+      narrows = every-of narrow (s .slots) (λ j. slot-narrow (s .last) (getD (s .slots) j free) (k .each j));
+      octets = every-of headOctets (s .slots) (λ j. slot-octets (s .last) (getD (s .slots) j free) (k .each j));
+    }

@@ -1,0 +1,9 @@
+pub mod Slots
+pub mod Names
+pub mod Pending
+pub mod Octets
+pub mod Kept
+pub mod Put
+pub mod Renew
+pub mod Judged
+pub mod Keep

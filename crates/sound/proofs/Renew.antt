@@ -1,0 +1,114 @@
+-- What the calls change of a peer: a name more or less, its stream, a pending call more or less. Each keeps a sound state sound. Assumes nothing.
+use mathlib.Core.Path.{_≡_, refl, sym, ap, _∙_, subst}
+use mathlib.Core.Logic.{_⊎_, inl, inr}
+use mathlib.Core.Bool.{true, false}
+use mathlib.Core.List.{List, [], _∷_, _++_}
+use Prim.Native.Nat.{ℕ, _≤_, _<_}
+use native.Mathlib.Omega.{arith}
+use lib.ListN.{length, getD, length-append}
+use Rattle.policy.specs.Names.{owns}
+use Rattle.stream.specs.Tail.{Tail, goodTail}
+use Rattle.rules.specs.State.{Pending, Peer, free, peer, State, isPeer, putSlot, withNames, withPending, withStream}
+use Rattle.rules.specs.Addresses.{ownable}
+use Rattle.rules.specs.Pending.{isCall, awaits, ended}
+use Rattle.rules.specs.Calls.{isOwner, released}
+use Rattle.memory.specs.Good.{nobody}
+use Rattle.memory.specs.Sound.{every, octet, Sound}
+use Rattle.sound.proofs.Slots.{nobody-at}
+use Rattle.rules.proofs.Fewer.{fewer-length, released-fewer, ended-fewer}
+use Rattle.sound.proofs.Names as names
+use Rattle.rules.proofs.Waits as waits
+use Rattle.sound.proofs.Pending.{fewer-every, narrowPending, narrow-snoc}
+use Rattle.rules.proofs.Waits.{call}
+use Rattle.sound.proofs.Kept.{Fine}
+use Rattle.sound.proofs.Put.{peer-fine, sound-renewed}
+
+-- the slot i of a sound state has the peer p
+module _ (s : State Tail) (i : ℕ) (p : Peer Tail) (g : Sound s) (e : getD (s .slots) i free ≡ peer p) where
+  abbrev fine : Fine (s .last) p
+  fine = peer-fine s i p g e
+
+  abbrev changed : List Pending → List (List ℕ) → Tail → Peer Tail
+  changed ws ns t = record { number = p .number; uid = p .uid; gids = p .gids; pending = ws; names = ns; stream = t }
+
+  -- pending calls whose callees are connected, names of which none is another's, and a good stream
+  renewed : (ws : List Pending) (ns : List (List ℕ)) (t : Tail) → length ws ≤ 16 → waits.okPending ws ≡ true → narrowPending ws ≡ true
+      → ((c r : ℕ) → awaits c r ws ≡ true → (awaits c r (p .pending) ≡ true) ⊎ (nobody (isPeer c) (s .slots) ≡ false)) → length ns ≤ 4 → names.okNames ns ≡ true
+      → ((y : List ℕ) → owns ns y ≡ true → (owns (p .names) y ≡ true) ⊎ (nobody (isOwner y) (s .slots) ≡ true)) → goodTail t ≡ true
+      → every octet (t .head) ≡ true
+      → Sound (putSlot s i (peer (changed ws ns t)))
+  renewed ws ns t lw ow nw hw ln on hn gt bt =
+      sound-renewed s i p (changed ws ns t) g e
+      (record {
+        number = refl;
+        fine =
+            record {
+              low = fine .low;
+              high = fine .high;
+              few-gids = fine .few-gids;
+              few-pending = lw;
+              few-names = ln;
+              waits = ow;
+              owned = on;
+              tail = gt;
+              user = fine .user;
+              groups = fine .groups;
+              serials = nw;
+              bytes = bt;
+            };
+        names = hn;
+        waits = hw;
+      })
+
+  names-renewed : (ns : List (List ℕ)) → length ns ≤ 4 → names.okNames ns ≡ true
+      → ((y : List ℕ) → owns ns y ≡ true → (owns (p .names) y ≡ true) ⊎ (nobody (isOwner y) (s .slots) ≡ true)) → Sound (putSlot s i (peer (withNames p ns)))
+  names-renewed ns l o h =
+      renewed (p .pending) ns (p .stream) (fine .few-pending) (fine .waits) (fine .serials) (λ c r q. inl q) l o h (fine .tail) (fine .bytes)
+
+  pending-renewed : (ws : List Pending) → length ws ≤ 16 → waits.okPending ws ≡ true → narrowPending ws ≡ true
+      → ((c r : ℕ) → awaits c r ws ≡ true → (awaits c r (p .pending) ≡ true) ⊎ (nobody (isPeer c) (s .slots) ≡ false))
+      → Sound (putSlot s i (peer (withPending p ws)))
+  pending-renewed ws l o n h = renewed ws (p .names) (p .stream) l o n h (fine .few-names) (fine .owned) (λ y q. inl q) (fine .tail) (fine .bytes)
+
+  pub stream-sound : (t : Tail) → goodTail t ≡ true → every octet (t .head) ≡ true → Sound (putSlot s i (peer (withStream p t)))
+  stream-sound t h b =
+      renewed (p .pending) (p .names) t (fine .few-pending) (fine .waits) (fine .serials) (λ c r q. inl q) (fine .few-names) (fine .owned) (λ y q. inl q) h b
+
+  pub granted-sound : (name : List ℕ) → ownable name ≡ true → nobody (isOwner name) (s .slots) ≡ true → length (p .names) < 4
+      → Sound (putSlot s i (peer (withNames p (p .names ++ (name ∷ [])))))
+  granted-sound name o n l =
+      names-renewed (p .names ++ (name ∷ [])) (omega (arith, length-append (p .names) (name ∷ [])))
+      (names.ok-snoc (p .names) name (fine .owned) o own)
+      (λ y q. go y (names.owns-snoc (p .names) name y q))
+    where
+      own : owns (p .names) name ≡ false
+      own = sym (ap (isOwner name) e) ∙ nobody-at (isOwner name) refl (s .slots) n i
+
+      go : (y : List ℕ) → (owns (p .names) y ≡ true) ⊎ (y ≡ name) → (owns (p .names) y ≡ true) ⊎ (nobody (isOwner y) (s .slots) ≡ true)
+      go y (inl q) = inl q
+      go y (inr q) = inr (subst (λ (z : List ℕ). nobody (isOwner z) (s .slots) ≡ true) (sym q) n)
+
+  pub released-sound : (name : List ℕ) → Sound (putSlot s i (peer (withNames p (released name (p .names)))))
+  released-sound name =
+      let f = released-fewer name (p .names) in
+      names-renewed (released name (p .names)) (omega (arith, fewer-length f, fine .few-names)) (names.ok-fewer f (fine .owned))
+      (λ y q. inl (names.owns-fewer f y q))
+
+  pub waits-sound : (c r : ℕ) → nobody (isPeer c) (s .slots) ≡ false → awaits c r (p .pending) ≡ false → length (p .pending) < 16 → 1 ≤ r → r < 4294967296
+      → Sound (putSlot s i (peer (withPending p (p .pending ++ (call c r ∷ [])))))
+  waits-sound c r k n l a b =
+      pending-renewed (p .pending ++ (call c r ∷ [])) (omega (arith, length-append (p .pending) (call c r ∷ [])))
+      (waits.ok-snoc (p .pending) c r (fine .waits) a n) (narrow-snoc (p .pending) c r (fine .serials) b)
+      (λ d q h. go d q (waits.awaits-snoc (p .pending) (call c r) d q h))
+    where
+      go : (d q : ℕ) → (awaits d q (p .pending) ≡ true) ⊎ (isCall d q (call c r) ≡ true)
+          → (awaits d q (p .pending) ≡ true) ⊎ (nobody (isPeer d) (s .slots) ≡ false)
+      go d q (inl h) = inl h
+      go d q (inr h) = inr (subst (λ (z : ℕ). nobody (isPeer z) (s .slots) ≡ false) (waits.call-callee d q (call c r) h) k)
+
+  pub ended-sound : (c r : ℕ) → Sound (putSlot s i (peer (withPending p (ended c r (p .pending)))))
+  ended-sound c r =
+      let f = ended-fewer c r (p .pending) in
+      pending-renewed (ended c r (p .pending)) (omega (arith, fewer-length f, fine .few-pending)) (waits.ok-fewer f (fine .waits))
+      (fewer-every _ f (fine .serials))
+      (λ d q h. inl (waits.awaits-fewer f d q h))

@@ -1,0 +1,130 @@
+-- Lists of slots by place, where a place past the last is free: what a test that refuses free slots says of them, and what setting a slot changes.
+-- Assumes nothing.
+use mathlib.Core.Path.{_≡_, refl, sym, ap, _∙_}
+use mathlib.Core.Logic.{_⊎_, inl, inr}
+use mathlib.Core.Bool.{Bool, true, false, cond, not, _&&_, false≢true}
+use mathlib.Core.List.{List, [], _∷_}
+use Prim.Native.Nat.{ℕ, zero, suc, _<_}
+use native.Mathlib.Omega.{arith}
+use native.Mathlib.Decide.{ℕ-discrete}
+use lib.Dec.{leb, ltb, leb·suc-suc, leb·suc-zero}
+use lib.ListN.{length, getD, set}
+use lib.Seq.{getD-set-same, getD-set-other}
+use borrow.Author.Tests.{le-leb, ltb-false}
+use Rattle.stream.specs.Tail.{Tail}
+use Rattle.rules.specs.State.{Slot, free, firstBy}
+use Rattle.memory.specs.Good.{nobody}
+use Rattle.memory.specs.Sound.{every}
+use Rattle.rules.proofs.Tests.{clash}
+
+-- ---- nobody passes a test
+
+nobody-cons : (t : Slot Tail → Bool) (x : Slot Tail) (l : List (Slot Tail)) → nobody t (x ∷ l) ≡ not (t x) && nobody t l
+unfolding firstBy
+nobody-cons t x l = go (t x)
+  where
+    go : (b : Bool) → leb (suc (length l)) (cond b 0 (suc (firstBy t l))) ≡ not b && nobody t l
+    go true = leb·suc-zero (length l)
+    go false = leb·suc-suc (length l) (firstBy t l)
+
+-- the test of each slot, where no free one passes
+pub nobody-at : (t : Slot Tail → Bool) → t free ≡ false → (l : List (Slot Tail)) → nobody t l ≡ true → (j : ℕ) → t (getD l j free) ≡ false
+nobody-at t f [] e j = f
+nobody-at t f (x ∷ l) e j = go (t x) refl (sym (nobody-cons t x l) ∙ e) j (nobody-at t f l)
+  where
+    go : (b : Bool) → t x ≡ b → not b && nobody t l ≡ true → (j : ℕ) → (nobody t l ≡ true → (k : ℕ) → t (getD l k free) ≡ false)
+        → t (getD (x ∷ l) j free) ≡ false
+    go true p h j ih = absurd (false≢true h)
+    go false p h zero ih = p
+    go false p h (suc k) ih = ih h k
+
+pub nobody-of : (t : Slot Tail → Bool) (l : List (Slot Tail)) → ((j : ℕ) → t (getD l j free) ≡ false) → nobody t l ≡ true
+unfolding firstBy
+nobody-of t [] h = refl
+nobody-of t (x ∷ l) h = nobody-cons t x l ∙ rw (h 0) (nobody-of t l (λ j. h (suc j)))
+
+-- somebody does
+pub somebody-at : (t : Slot Tail → Bool) (l : List (Slot Tail)) → nobody t l ≡ false → (j : ℕ) × (t (getD l j free) ≡ true)
+unfolding firstBy
+somebody-at t [] e = absurd (false≢true (sym e))
+somebody-at t (x ∷ l) e = go (t x) refl (sym (nobody-cons t x l) ∙ e) (somebody-at t l)
+  where
+    go : (b : Bool) → t x ≡ b → not b && nobody t l ≡ false → (nobody t l ≡ false → (j : ℕ) × (t (getD l j free) ≡ true))
+        → (j : ℕ) × (t (getD (x ∷ l) j free) ≡ true)
+    go true p h ih = (0, p)
+    go false p h ih = let r = ih h in (suc (r .0), r .1)
+
+pub somebody-of : (t : Slot Tail → Bool) → t free ≡ false → (l : List (Slot Tail)) (j : ℕ) → t (getD l j free) ≡ true → nobody t l ≡ false
+somebody-of t f l j h = go (nobody t l) refl
+  where
+    go : (b : Bool) → nobody t l ≡ b → b ≡ false
+    go true e = absurd (clash h (nobody-at t f l e j))
+    go false e = refl
+
+-- where no first one passes, nobody does
+pub first-none : (t : Slot Tail → Bool) (l : List (Slot Tail)) → ltb (firstBy t l) (length l) ≡ false → nobody t l ≡ true
+first-none t l e = le-leb (length l) (firstBy t l) (ltb-false (firstBy t l) (length l) e)
+
+-- ---- every slot passes a test
+
+pub every-at : (t : Slot Tail → Bool) → t free ≡ true → (l : List (Slot Tail)) → every t l ≡ true → (j : ℕ) → t (getD l j free) ≡ true
+every-at t f [] e j = f
+every-at t f (x ∷ l) e j = go (t x) refl e j (every-at t f l)
+  where
+    go : (b : Bool) → t x ≡ b → b && every t l ≡ true → (j : ℕ) → (every t l ≡ true → (k : ℕ) → t (getD l k free) ≡ true) → t (getD (x ∷ l) j free) ≡ true
+    go true p h zero ih = p
+    go true p h (suc k) ih = ih h k
+    go false p h j ih = absurd (false≢true h)
+
+pub every-of : (t : Slot Tail → Bool) (l : List (Slot Tail)) → ((j : ℕ) → t (getD l j free) ≡ true) → every t l ≡ true
+every-of t [] h = refl
+every-of t (x ∷ l) h = rw (h 0) (every-of t l (λ j. h (suc j)))
+
+-- ---- a slot set
+
+-- the slot that was set, or another
+pub put-cases : (P : Slot Tail → Type 0) (l : List (Slot Tail)) (i : ℕ) (x : Slot Tail) → i < length l
+    → (j : ℕ) → (j ≡ i → P x) → ((j ≡ i → ⊥) → P (getD l j free)) → P (getD (set l i x) j free)
+put-cases P l i x h j a b = go (ℕ-discrete j i)
+  where
+    go : Dec (j ≡ i) → P (getD (set l i x) j free)
+    go (yes e) = rw (e, getD-set-same l i x free h) (a e)
+    go (no n) = rw (getD-set-other l i j x free n) (b n)
+
+pub put-passes : (t : Slot Tail → Bool) (l : List (Slot Tail)) (i : ℕ) (x : Slot Tail) → i < length l
+    → (j : ℕ) → t (getD (set l i x) j free) ≡ true → ((j ≡ i) × (t x ≡ true)) ⊎ ((j ≡ i → ⊥) × (t (getD l j free) ≡ true))
+put-passes t l i x h j =
+    put-cases (λ y. t y ≡ true → ((j ≡ i) × (t x ≡ true)) ⊎ ((j ≡ i → ⊥) × (t (getD l j free) ≡ true))) l i x h j (λ e p. inl (e, p)) (λ n p. inr (n, p))
+
+-- ---- at most one slot passes
+
+abbrev pub Single : (Slot Tail → Bool) → List (Slot Tail) → Type 0
+Single t l = (i j : ℕ) → t (getD l i free) ≡ true → t (getD l j free) ≡ true → i ≡ j
+
+pub single-set : (t : Slot Tail → Bool) (l : List (Slot Tail)) (i : ℕ) (x : Slot Tail) → i < length l → Single t l
+    → ((j : ℕ) → t x ≡ true → t (getD l j free) ≡ true → j ≡ i) → Single t (set l i x)
+single-set t l i x h s o a b p q = go (put-passes t l i x h a p) (put-passes t l i x h b q)
+  where
+    go : ((a ≡ i) × (t x ≡ true)) ⊎ ((a ≡ i → ⊥) × (t (getD l a free) ≡ true)) → ((b ≡ i) × (t x ≡ true)) ⊎ ((b ≡ i → ⊥) × (t (getD l b free) ≡ true)) → a ≡ b
+    go (inl u) (inl v) = u .0 ∙ sym (v .0)
+    go (inl u) (inr v) = absurd (v .0 (o b (u .1) (v .1)))
+    go (inr u) (inl v) = absurd (u .0 (o a (v .1) (u .1)))
+    go (inr u) (inr v) = s a b (u .1) (v .1)
+
+-- the first of a list, beside those after it
+pub single-head : (t : Slot Tail → Bool) (x : Slot Tail) (l : List (Slot Tail)) → (t x ≡ true → (j : ℕ) → t (getD l j free) ≡ false) → Single t l
+    → Single t (x ∷ l)
+single-head t x l n s zero zero p q = refl
+single-head t x l n s zero (suc j) p q = absurd (clash q (n p j))
+single-head t x l n s (suc i) zero p q = absurd (clash p (n q i))
+single-head t x l n s (suc i) (suc j) p q = ap suc (s i j p q)
+
+pub single-apart : (t : Slot Tail → Bool) (x : Slot Tail) (l : List (Slot Tail)) → Single t (x ∷ l) → t x ≡ true → (j : ℕ) → t (getD l j free) ≡ false
+single-apart t x l s p j = go (t (getD l j free)) refl
+  where
+    go : (b : Bool) → t (getD l j free) ≡ b → b ≡ false
+    go true e = absurd (omega (arith, s zero (suc j) p e))
+    go false e = refl
+
+pub single-rest : (t : Slot Tail → Bool) (x : Slot Tail) (l : List (Slot Tail)) → Single t (x ∷ l) → Single t l
+single-rest t x l s i j p q = let e = s (suc i) (suc j) p q in omega arith

@@ -1,0 +1,1 @@
+// Every call keeps good memory good: proofs about states, and no code.

@@ -1,0 +1,157 @@
+-- `Stream::advance` up to 16 bytes, way by way, and what its fixed part then says. Assumes nothing.
+use mathlib.Core.Path.{_≡_, sym, ap, _∙_}
+use mathlib.Core.List.{List}
+use Prim.Native.Nat.{ℕ, _+_, _-_, _≤_, _<_, min}
+use native.Mathlib.Omega.{arith}
+use native.Mathlib.Nat.{zero-add, sub-zero}
+use lib.ListN.{length, take, drop, length-take}
+use lib.Seq.{length-take-le}
+use native.Mathlib.Decide.{decLt}
+use Rattle.header.specs.declared.Fixed.{Fixed}
+use Rattle.header.specs.declared.Fixed.the-variants as fixed
+use Rattle.header.specs.declared.Reading.the-variants as reading
+use Rattle.header.specs.Fixed.{headLength, fixedPart}
+use Rattle.header.specs.Header.{readHeader}
+use Rattle.header.proofs.Front.{head-low}
+use Rattle.header.proofs.Readings.{read-few, read-broken}
+use Rattle.stream.specs.declared.Stream.{Stream}
+use Rattle.stream.specs.declared.Event.the-variants.{More, Broken}
+use Rattle.stream.specs.declared.Advance.{Advance}
+use Rattle.stream.specs.Stream.{more, broken, offer}
+use Rattle.stream.specs.Tail.{tails}
+use Rattle.stream.specs.Contracts.{tailIn, Open, Advanced}
+use Rattle.stream.specs.Steps.{Resumed, resumed, Room, Stored, Begun, InHead}
+use Rattle.stream.proofs.Heads.{Sized, sized, whole-head}
+use Rattle.stream.proofs.Good.{Running, in-head, in-body, more-runs, kept, end-is}
+use Rattle.stream.proofs.Phases.{stored-fixed}
+use Rattle.stream.proofs.Regions.{fits, length-after, padded-after}
+use Rattle.stream.proofs.Gives.{gives, same-offer, open-resumes, plus, moved, used-up, broken-at, in-body-of}
+
+-- ---- `advance`: up to 16 bytes
+
+module _ {region : List ℕ} {s : Stream} (o : Open region s) where
+  head-is : length (take (s .stored) region) ≡ s .stored
+  head-is = length-take-le (s .stored) region (omega (arith, o .sized, o .stored))
+
+  -- below 16 bytes, all that were taken are kept
+  all-kept : s .stored < 16 → s .taken ≡ s .stored
+  all-kept l = go (more-runs (tailIn region s) (o .good) (o .running))
+    where
+      go : Running (tailIn region s) → s .taken ≡ s .stored
+      go (in-head e n) = n ∙ head-is
+      go (in-body x e q n k) = absurd (omega (arith, head-is, whole-head (take (s .stored) region) e .sizes .above))
+
+  pub begun-open : (piece : List ℕ) → 16 ≤ s .stored → Begun region s piece 0
+  begun-open piece l =
+      let a : 16 ≤ length (take (s .stored) region) = rw head-is l in
+      record {
+        sized = o .sized;
+        padded = o .padded;
+        above = l;
+        stored = o .stored;
+        within = omega arith;
+        kept = sym head-is ∙ kept (tailIn region s) (o .good) ∙ ap (min (s .taken)) (end-is (take (s .stored) region) a);
+        running = λ i. o .running;
+      }
+
+  pub from-open : {piece : List ℕ} {r : Advance} {last : List ℕ} → Resumed region s piece 0 r last → Advanced region s piece r last
+  from-open {piece} g = record { gives = same-offer (open-resumes (tailIn region s) piece (o .running)) (g .gives) }
+
+  pub room-fixed : (piece : List ℕ) → s .stored < 16 → Room region (s .stored) 16 piece 0
+  room-fixed piece l = record { sized = o .sized; up = omega arith; inside = omega arith; within = omega arith }
+
+  module _ {piece after : List ℕ} {k : ℕ} (l : s .stored < 16) (w : Stored region (s .stored) 16 piece 0 k after) where
+    room : Room region (s .stored) 16 piece 0
+    room = room-fixed piece l
+
+    many : (s .stored + k ≤ 16) × (0 + k ≤ length piece)
+    many = fits region (s .stored) 16 piece 0 k after room w
+
+    moved-fixed : offer tails (tailIn region s) piece ≡ resumed (tailIn after (plus s k)) piece k
+    moved-fixed =
+        open-resumes (tailIn region s) piece (o .running)
+        ∙ moved s room w (stored-fixed k (s .taken) (take (s .stored) region) piece (omega (arith, many)) (rw head-is (many .0)))
+        ∙ ap (resumed (tailIn after (plus s k)) piece) (zero-add k)
+
+    pub more-fixed : s .stored + k < 16 → Advanced region s piece (record { stream = record { taken = s .taken + k; stored = s .stored + k }; taken = k; event = More }) after
+    more-fixed h =
+        let q : length after ≡ 2048 = length-after region (s .stored) 16 piece 0 k after room w in
+        record {
+          gives =
+              gives (length piece) after (plus s k) k More
+              (moved-fixed ∙ used-up after (plus s k) piece k (omega (arith, w .many)) (read-few (take (s .stored + k) after) (rw (length-take (s .stored + k) after) (omega arith))))
+              (padded-after region (s .stored) 16 piece 0 k after room w (o .padded))
+              q
+              (omega arith)
+              (omega (arith, many))
+              (omega (arith, all-kept l));
+        }
+
+    pub begun-fixed : 16 ≤ s .stored + k → Begun after (record { taken = s .taken + k; stored = s .stored + k }) piece k
+    begun-fixed h =
+        let a : s .stored + k ≡ 16 = omega (arith, many) in
+        let b : s .taken + k ≡ 16 = omega (arith, all-kept l) in
+        let c : 16 ≤ headLength (take (s .stored + k) after) = head-low (take (s .stored + k) after) in
+        record {
+          sized = length-after region (s .stored) 16 piece 0 k after room w;
+          padded = padded-after region (s .stored) 16 piece 0 k after room w (o .padded);
+          above = h;
+          stored = omega arith;
+          within = omega (arith, many);
+          kept = omega arith;
+          running = λ i. absurd (omega arith);
+        }
+
+    pub from-fixed : {r : Advance} {last : List ℕ} → Resumed after (record { taken = s .taken + k; stored = s .stored + k }) piece k r last → Advanced region s piece r last
+    from-fixed g = record { gives = same-offer moved-fixed (g .gives) }
+
+-- ---- `after_fixed`: 1 to 6, or the lengths
+
+module _ {region : List ℕ} {s : Stream} {piece : List ℕ} {used : ℕ} (b : Begun region s piece used) where
+  begun-length : length (take (s .stored) region) ≡ s .stored
+  begun-length = length-take-le (s .stored) region (omega (arith, b .stored, b .sized))
+
+  pub long-fixed : 16 ≤ length (take (s .stored - 0) (drop 0 region))
+  long-fixed = rw (sub-zero, begun-length) (b .above)
+
+  module _ {f : Fixed} (e : f ≡ fixedPart (take (s .stored - 0) (drop 0 region))) where
+    is-fixed : fixedPart (take (s .stored) region) ≡ f
+    is-fixed = sym (rw sub-zero at e)
+
+    pub broken-fixed : {a : ℕ} → f ≡ fixed.Broken a → Resumed region s piece used (record { stream = s; taken = used; event = Broken a }) region
+    broken-fixed {a} q = broken-at r (b .padded) (b .sized) (b .stored) (b .within) (go (decLt (headLength (take (s .stored) region)) (s .taken)))
+      where
+        r : readHeader (take (s .stored) region) ≡ reading.Broken a
+        r = read-broken (take (s .stored) region) (omega (arith, begun-length, b .above)) (is-fixed ∙ q)
+
+        never : broken a ≡ more → ⊥
+        never q = let z : _≡_ {A = ℕ} 0 1 = cc in omega arith
+
+        go : Dec (headLength (take (s .stored) region) < s .taken) → s .taken ≤ 134217728
+        go (yes d) = absurd (never (rw r at (b .running d)))
+        go (no d) = omega (arith, b .kept, b .stored)
+
+    pub sizes-fixed : {end message : ℕ} → f ≡ fixed.Sizes end message → InHead region s piece used end message
+    sizes-fixed {end} {message} q =
+        let k : s .stored ≡ min (s .taken) end = rw (z .is-head) (b .kept) in
+        record {
+          sized = b .sized;
+          padded = b .padded;
+          sizes = is-fixed ∙ q;
+          above = b .above;
+          kept = k;
+          small = z .small;
+          below = go k (decLt end (s .taken));
+          few = z .fits;
+          within = b .within;
+          running = λ i. b .running (rw (← z .is-head) i);
+        }
+      where
+        z : Sized (take (s .stored) region) end message
+        z = sized (take (s .stored) region) (is-fixed ∙ q)
+
+        go : s .stored ≡ min (s .taken) end → Dec (end < s .taken) → s .taken ≤ message
+        go k (yes d) =
+            let w = in-body-of (s .taken) (take (s .stored) region) end message (omega (arith, begun-length, b .above)) (is-fixed ∙ q) (omega (arith, begun-length)) (b .running (rw (← z .is-head) d)) in
+            omega (arith, w .2)
+        go k (no d) = omega (arith, z .inside)

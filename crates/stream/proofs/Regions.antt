@@ -1,0 +1,87 @@
+-- A head kept in a region that is zero behind it, and bytes stored behind the head. Assumes nothing.
+use mathlib.Core.Path.{_≡_, refl, sym, ap, ap₂, _∙_}
+use mathlib.Core.List.{List, _∷_, _++_, append-assoc}
+use Prim.Native.Nat.{ℕ, zero, suc, _+_, _-_, _≤_, min}
+use native.Mathlib.Omega.{arith}
+use lib.ListN.{length, take, drop, replicate, length-append, length-take, length-drop}
+use lib.Seq.{take-append-add, take-at, drop-at, drop-drop, length-take-le}
+use Rattle.wire.specs.Bytes.{pad}
+use Rattle.wire.proofs.Words.{cut-at, put-at}
+use Rattle.stream.specs.Steps.{Room, Stored}
+
+take-zeros : (m n : ℕ) → m ≤ n → take m (replicate n 0) ≡ replicate {A = ℕ} m 0
+take-zeros zero n h = refl
+take-zeros (suc m) zero h = absurd (omega arith)
+take-zeros (suc m) (suc n) h = ap (λ (x : List ℕ). 0 ∷ x) (take-zeros m n (omega arith))
+
+drop-zeros : (m n : ℕ) → m ≤ n → drop m (replicate n 0) ≡ replicate {A = ℕ} (n - m) 0
+drop-zeros zero n h = let e : n ≡ n - 0 = omega arith in ap (λ (k : ℕ). replicate {A = ℕ} k 0) e
+drop-zeros (suc m) zero h = absurd (omega arith)
+drop-zeros (suc m) (suc n) h =
+    let e : n - m ≡ suc n - suc m = omega arith in
+    drop-zeros m n (omega arith) ∙ ap (λ (k : ℕ). replicate {A = ℕ} k 0) e
+
+-- what is padded, and the zeros
+pub pad-is : (n : ℕ) (h : List ℕ) → length h ≤ n → pad n h ≡ h ++ replicate (n - length h) 0
+unfolding pad
+pad-is n h l =
+    let e : n ≡ length h + (n - length h) = omega arith in
+    ap (λ (k : ℕ). take k (h ++ replicate n 0)) e ∙ take-append-add h (replicate n 0) (n - length h) ∙ ap (λ (x : List ℕ). h ++ x) (take-zeros (n - length h) n (omega arith))
+
+-- the first of a padded list
+pub take-pad : (n : ℕ) (h : List ℕ) → length h ≤ n → take (length h) (pad n h) ≡ h
+take-pad n h l = ap (take (length h)) (pad-is n h l) ∙ take-at h (replicate (n - length h) 0) (length h) refl
+
+-- ---- bytes stored
+
+module _ (region : List ℕ) (stored limit : ℕ) (piece : List ℕ) (used k : ℕ) (after : List ℕ) (r : Room region stored limit piece used) (s : Stored region stored limit piece used k after) where
+  pub fits : (stored + k ≤ limit) × (used + k ≤ length piece)
+  fits = (omega (arith, r .up, s .many), omega (arith, r .within, s .many))
+
+  head-length : length (take stored region) ≡ stored
+  head-length = length-take-le stored region (omega (arith, r .up, r .inside, r .sized))
+
+  bytes-length : length (take k (drop used piece)) ≡ k
+  bytes-length = length-take-le k (drop used piece) (rw (length-drop used piece) (omega (arith, fits)))
+
+  pub head-after : take (stored + k) after ≡ take stored region ++ take k (drop used piece)
+  head-after =
+      ap (take (stored + k)) (s .bytes ∙ sym (append-assoc (take stored region) (take k (drop used piece)) (drop (stored + k) region)))
+      ∙ take-at (take stored region ++ take k (drop used piece)) (drop (stored + k) region) (stored + k)
+      (length-append (take stored region) (take k (drop used piece)) ∙ ap₂ _+_ head-length bytes-length)
+
+  pub length-after : length after ≡ 2048
+  length-after =
+      rw (s .bytes, length-append (take stored region) (take k (drop used piece) ++ drop (stored + k) region), length-append (take k (drop used piece)) (drop (stored + k) region), head-length, bytes-length, length-drop (stored + k) region)
+      (omega (arith, fits, r .inside, r .sized))
+
+  pub padded-after : region ≡ pad 2048 (take stored region) → after ≡ pad 2048 (take (stored + k) after)
+  padded-after p =
+      let f = fits in
+      let i : limit ≤ 2048 = r .inside in
+      let l : length (take stored region ++ take k (drop used piece)) ≡ stored + k = length-append (take stored region) (take k (drop used piece)) ∙ ap₂ _+_ head-length bytes-length in
+      let e : 2048 - length (take stored region) - k ≡ 2048 - (stored + k) = omega (arith, head-length) in
+      let z : drop (stored + k) region ≡ replicate (2048 - (stored + k)) 0 =
+      sym (drop-drop k stored region)
+      ∙ ap (λ (x : List ℕ). drop k (drop stored x)) (p ∙ pad-is 2048 (take stored region) (omega (arith, head-length)))
+      ∙ ap (drop k) (drop-at (take stored region) (replicate (2048 - length (take stored region)) 0) stored head-length)
+      ∙ drop-zeros k (2048 - length (take stored region)) (omega (arith, head-length))
+      ∙ ap (λ (n : ℕ). replicate {A = ℕ} n 0) e in
+      s .bytes
+      ∙ sym (append-assoc (take stored region) (take k (drop used piece)) (drop (stored + k) region))
+      ∙ ap (λ (x : List ℕ). (take stored region ++ take k (drop used piece)) ++ x) z
+      ∙ ap (λ (n : ℕ). (take stored region ++ take k (drop used piece)) ++ replicate (2048 - n) 0) (sym l)
+      ∙ sym (pad-is 2048 (take stored region ++ take k (drop used piece)) (omega arith))
+      ∙ ap (pad 2048) (sym head-after)
+
+-- ---- what the code of `store` shows
+
+module _ (region : List ℕ) (stored limit : ℕ) (piece : List ℕ) (used : ℕ) (r : Room region stored limit piece used) (k : ℕ) (e : k ≡ min (limit - stored) (length piece - used)) where
+  pub same-lengths : length (take (stored + k - stored) (drop stored region)) ≡ length (take (used + k - used) (drop used piece))
+  same-lengths =
+      rw (cut-at stored k region, cut-at used k piece, length-take k (drop stored region), length-take k (drop used piece), length-drop stored region, length-drop used piece)
+      (omega (arith, r .up, r .inside, r .within, r .sized))
+
+  pub stores : (ys : List ℕ) → ys ≡ take (used + k - used) (drop used piece)
+      → Stored region stored limit piece used k (take stored region ++ (ys ++ drop (stored + k - stored) (drop stored region)))
+  stores ys q = record { many = e; bytes = put-at stored k region ys ∙ ap (λ (x : List ℕ). take stored region ++ (x ++ drop (stored + k) region)) (q ∙ cut-at used k piece) }

@@ -1,0 +1,4 @@
+pub mod Stream
+pub mod Tail
+pub mod Contracts
+pub mod Steps

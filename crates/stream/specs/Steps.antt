@@ -1,0 +1,97 @@
+-- What the functions on a stream require and ensure among themselves. Assumes nothing: these are definitions.
+use mathlib.Core.List.{List, _++_}
+use mathlib.Core.Path.{_≡_}
+use Prim.Native.Nat.{ℕ, _+_, _-_, _≤_, _<_, min}
+use lib.ListN.{length, take, drop}
+use Rattle.wire.specs.Bytes.{pad}
+use Rattle.header.specs.declared.Fixed.the-variants.{Sizes}
+use Rattle.header.specs.Fixed.{headLength, fixedPart}
+use Rattle.stream.specs.declared.Stream.{Stream}
+use Rattle.stream.specs.declared.Advance.{Advance}
+use Rattle.stream.specs.Stream.{Verdict, more, broken, whole, Offer, offer}
+use Rattle.stream.specs.Tail.{Tail, judge, tails}
+use Rattle.stream.specs.Contracts.{tailIn, Gives}
+
+-- what follows once the latest byte of a stream is judged: o where the message is unfinished, and else nothing
+abbrev pub follows : {S : Type 0} → Verdict → S → Offer S → Offer S
+follows more s o = o
+follows (broken a) s o = record { verdict = broken a; taken = 0; stream = s }
+follows (whole h x) s o = record { verdict = whole h x; taken = 0; stream = s }
+
+-- k bytes more were taken
+abbrev pub bumpBy : {S : Type 0} → ℕ → Offer S → Offer S
+bumpBy k o = record { verdict = o .verdict; taken = k + o .taken; stream = o .stream }
+
+-- what a piece comes to, of a stream whose latest byte is still to be judged
+unfoldable pub continued : Tail → List ℕ → Offer Tail
+continued t p = follows (judge t) t (offer tails t p)
+
+-- the same, of a piece of which the stream has the first `used` bytes
+abbrev pub resumed : Tail → List ℕ → ℕ → Offer Tail
+resumed t piece used = bumpBy used (continued t (drop used piece))
+
+pub record Resumed (region : List ℕ) (s : Stream) (piece : List ℕ) (used : ℕ) (r : Advance) (after : List ℕ) : Type 0 where
+  pub gives : Gives (resumed (tailIn region s) piece used) (length piece) r after
+
+-- a stream whose fixed part has come, perhaps with the latest byte
+pub record Begun (region : List ℕ) (s : Stream) (piece : List ℕ) (used : ℕ) : Type 0 where
+  pub sized : length region ≡ 2048
+  pub padded : region ≡ pad 2048 (take (s .stored) region)
+  pub above : 16 ≤ s .stored
+  pub stored : s .stored ≤ 2048
+  pub within : used ≤ length piece
+  pub kept : s .stored ≡ min (s .taken) (headLength (take (s .stored) region))
+  pub running : headLength (take (s .stored) region) < s .taken → judge (tailIn region s) ≡ more
+
+-- the same, with the lengths that its fixed part says
+pub record InHead (region : List ℕ) (s : Stream) (piece : List ℕ) (used head message : ℕ) : Type 0 where
+  pub sized : length region ≡ 2048
+  pub padded : region ≡ pad 2048 (take (s .stored) region)
+  pub sizes : fixedPart (take (s .stored) region) ≡ Sizes head message
+  pub above : 16 ≤ s .stored
+  pub kept : s .stored ≡ min (s .taken) head
+  pub small : head ≤ 2048
+  pub below : s .taken ≤ message
+  pub few : message ≤ 134217728
+  pub within : used ≤ length piece
+  pub running : head < s .taken → judge (tailIn region s) ≡ more
+
+-- the same in the body
+pub record InBody (region : List ℕ) (s : Stream) (piece : List ℕ) (used head message : ℕ) : Type 0 where
+  pub whole : InHead region s piece used head message
+  pub past : head < s .taken
+
+-- the head has come, perhaps with the latest byte
+pub record AtEnd (region : List ℕ) (s : Stream) (piece : List ℕ) (used head message : ℕ) : Type 0 where
+  pub sized : length region ≡ 2048
+  pub padded : region ≡ pad 2048 (take (s .stored) region)
+  pub sizes : fixedPart (take (s .stored) region) ≡ Sizes head message
+  pub above : 16 ≤ head
+  pub kept : s .stored ≡ head
+  pub small : head ≤ 2048
+  pub reached : head ≤ s .taken
+  pub below : s .taken ≤ message
+  pub few : message ≤ 134217728
+  pub within : used ≤ length piece
+
+-- ---- bytes stored
+
+pub record Room (region : List ℕ) (stored limit : ℕ) (piece : List ℕ) (used : ℕ) : Type 0 where
+  pub sized : length region ≡ 2048
+  pub up : stored ≤ limit
+  pub inside : limit ≤ 2048
+  pub within : used ≤ length piece
+
+-- the k bytes of the piece from `used` on that have room below the limit stand behind the first `stored`
+pub record Stored (region : List ℕ) (stored limit : ℕ) (piece : List ℕ) (used k : ℕ) (after : List ℕ) : Type 0 where
+  pub many : k ≡ min (limit - stored) (length piece - used)
+  pub bytes : after ≡ take stored region ++ (take k (drop used piece) ++ drop (stored + k) region)
+
+-- ---- a stream in memory
+
+-- the head has come, and just it is kept
+pub record WholeTail (region : List ℕ) (taken stored message : ℕ) : Type 0 where
+  pub inside : stored ≤ length region
+  pub above : 16 ≤ stored
+  pub sizes : fixedPart (take stored region) ≡ Sizes stored message
+  pub reached : stored ≤ taken

@@ -1,0 +1,10 @@
+pub mod Parts
+pub mod Words
+pub mod Cells
+pub mod Sweep
+pub mod Table
+pub mod Same
+pub mod Place
+pub mod Close
+pub mod Change
+pub mod Written

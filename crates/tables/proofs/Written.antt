@@ -1,0 +1,148 @@
+-- A table changed where it stands in longer bytes, write by write, as code changes it: its cell, then its count. Assumes nothing.
+use mathlib.Core.List.{List, [], _∷_, _++_, append-assoc, append-nil}
+use mathlib.Core.Path.{_≡_, refl, sym, ap, _∙_}
+use Prim.Native.Nat.{ℕ, suc, _+_, _-_, _*_, _≤_, _<_}
+use native.Mathlib.Omega.{arith}
+use native.Mathlib.Nat.{mul-le-mul-left}
+use lib.ListN.{length, take, drop, replicate, length-append, length-drop, drop-of-length-le}
+use lib.Seq.{take-at, drop-at, drop-drop, take-add, take-append-le, drop-append-le, length-take-le}
+use Rattle.wire.specs.Bytes.{pad}
+use Rattle.wire.specs.Words.{wordBytes}
+use Rattle.wire.proofs.Words.{word-length}
+use Rattle.tables.specs.Tables.{cells, tableBytes}
+use Rattle.tables.proofs.Parts.{drop-past, part-past, drop-take, cut-two}
+use Rattle.tables.proofs.Cells.{cells-length}
+use Rattle.tables.proofs.Table.{table-length, table-body, table-spread}
+use Rattle.tables.proofs.Change.{removed, without, table-append, table-remove}
+
+-- m with the bytes y for the c at a
+abbrev pub put : List ℕ → ℕ → ℕ → List ℕ → List ℕ
+put m a c y = take a m ++ (y ++ drop (a + c) m)
+
+-- the b in m, that begins at t and has l bytes: `pre` before it and `post` after it
+pub record Inside (m b pre post : List ℕ) (t l : ℕ) : Type 0 where
+  pub start : length pre ≡ t
+  pub long : length b ≡ l
+  pub is : m ≡ pre ++ (b ++ post)
+
+pub inside-of : (m b : List ℕ) (t l : ℕ) → t + l ≤ length m → take l (drop t m) ≡ b → Inside m b (take t m) (drop (t + l) m) t l
+inside-of m b t l h e =
+    record {
+      start = length-take-le t m (omega arith);
+      long = ap length (sym e) ∙ length-take-le l (drop t m) (omega (arith, length-drop t m));
+      is = rw (← e) (cut-two m t l);
+    }
+
+-- bytes put inside b leave the rest of m
+pub inside-put : (m b pre post y : List ℕ) (t l a c : ℕ) → Inside m b pre post t l → a + c ≤ l → length y ≡ c
+    → Inside (put m (t + a) c y) (put b a c y) pre post t l
+inside-put m b pre post y t l a c g h e =
+    let lb : length b ≡ l = g .long in
+    let p = take a b in
+    let r = drop (a + c) b in
+    let la : length p ≡ a = length-take-le a b (omega arith) in
+    let q : put (b ++ post) a c y ≡ put b a c y ++ post
+    = rw (take-append-le a b post (omega arith), drop-append-le (a + c) b post (omega arith))
+    (sym (append-assoc p (y ++ r) post ∙ ap (λ (z : List ℕ). p ++ z) (append-assoc y r post))) in
+    record {
+      start = g .start;
+      long = length-append p (y ++ r) ∙ omega (arith, length-append y r, length-drop (a + c) b);
+      is = rw (g .is) (part-past pre (b ++ post) y t a c (g .start) ∙ ap (λ (z : List ℕ). pre ++ z) q);
+    }
+
+-- bytes put past the count
+put-past-count : (b y : List ℕ) (a c : ℕ) → 4 ≤ length b → drop 4 (put b (4 + a) c y) ≡ put (drop 4 b) a c y
+put-past-count b y a c h =
+    let l : length (take 4 b) ≡ 4 = length-take-le 4 b h in
+    let e : 4 + a + c ≡ 4 + (a + c) = omega arith in
+    rw (e, take-add 4 a b, append-assoc (take 4 b) (take a (drop 4 b)) (y ++ drop (4 + (a + c)) b), drop-at (take 4 b) _ 4 l, drop-drop (a + c) 4 b)
+
+module _ {A : Type 0} (w k : ℕ) (enc : A → List ℕ) (sized : (x : A) → length (enc x) ≡ w) where
+  -- ---- a thing put at the end
+
+  table-appended : (xs : List A) (x : A) (b : List ℕ) (n : ℕ) → b ≡ tableBytes w k enc xs → n ≡ length xs → n < k
+      → put (put b (4 + w * n) w (enc x)) 0 4 (wordBytes (n + 1)) ≡ tableBytes w k enc (xs ++ (x ∷ []))
+  table-appended xs x b n e en h =
+      let l : length b ≡ 4 + w * k = ap length e ∙ table-length w k enc xs in
+      ap (λ (z : List ℕ). wordBytes (n + 1) ++ z) (put-past-count b (enc x) (w * n) w (omega arith))
+      ∙ sym (table-append w k enc sized xs x b n e en h)
+
+  pub append-written : (xs : List A) (x : A) (m m₁ m₂ : List ℕ) (t p n : ℕ) → t + (4 + w * k) ≤ length m
+      → take (4 + w * k) (drop t m) ≡ tableBytes w k enc xs → n ≡ length xs → n < k → p ≡ t + (4 + w * n)
+      → m₁ ≡ take p m ++ (enc x ++ drop (p + w) m) → m₂ ≡ take t m₁ ++ (wordBytes (n + 1) ++ drop (t + 4) m₁)
+      → m₂ ≡ take t m ++ (tableBytes w k enc (xs ++ (x ∷ [])) ++ drop (t + (4 + w * k)) m)
+  append-written xs x m m₁ m₂ t p n h e en l ep e₁ e₂ =
+      let b = tableBytes w k enc xs in
+      let pre = take t m in
+      let post = drop (t + (4 + w * k)) m in
+      let o : w * suc n ≤ w * k = mul-le-mul-left w l in
+      let q : m₁ ≡ put m (t + (4 + w * n)) w (enc x) = rw ep at e₁ in
+      let g = inside-of m b t (4 + w * k) h e in
+      let g₁ = inside-put m b pre post (enc x) t (4 + w * k) (4 + w * n) w g (omega arith) (sized x) in
+      let b₁ = put b (4 + w * n) w (enc x) in
+      let g₂ = inside-put (put m (t + (4 + w * n)) w (enc x)) b₁ pre post (wordBytes (n + 1)) t (4 + w * k) 0 4 g₁ (omega arith) (word-length (n + 1)) in
+      let z : t + 0 ≡ t = omega arith in
+      e₂
+      ∙ ap (λ (s : List ℕ). put s t 4 (wordBytes (n + 1))) q
+      ∙ (rw z at (g₂ .is))
+      ∙ ap (λ (s : List ℕ). pre ++ (s ++ post)) (table-appended xs x b n refl en l)
+
+  -- ---- a thing taken out
+
+  table-removed : (xs : List A) (i : ℕ) (b y : List ℕ) (n : ℕ) → b ≡ tableBytes w k enc xs → n ≡ length xs → n ≤ k → i < n
+      → y ≡ removed w n i (drop 4 b) → put (put b 4 (w * k) y) 0 4 (wordBytes (n - 1)) ≡ tableBytes w k enc (without i xs)
+  table-removed xs i b y n e en h l ey =
+      let lb : length b ≡ 4 + w * k = ap length e ∙ table-length w k enc xs in
+      let r = table-remove w k enc sized xs i b n e en h l in
+      let d : drop 4 (put b 4 (w * k) y) ≡ y
+      = put-past-count b y 0 (w * k) (omega arith) ∙ rw (drop-of-length-le (drop 4 b) {i = 0 + w * k} (omega (arith, length-drop 4 b))) (append-nil y) in
+      ap (λ (z : List ℕ). wordBytes (n - 1) ++ z) (d ∙ ey) ∙ sym r
+
+  pub remove-written : (xs : List A) (i : ℕ) (m m₁ m₂ y : List ℕ) (t n : ℕ) → t + (4 + w * k) ≤ length m
+      → take (4 + w * k) (drop t m) ≡ tableBytes w k enc xs → n ≡ length xs → n ≤ k → i < n
+      → y ≡ removed w n i (take (w * k) (drop (t + 4) m)) → m₁ ≡ take (t + 4) m ++ (y ++ drop (t + 4 + w * k) m)
+      → m₂ ≡ take t m₁ ++ (wordBytes (n - 1) ++ drop (t + 4) m₁)
+      → m₂ ≡ take t m ++ (tableBytes w k enc (without i xs) ++ drop (t + (4 + w * k)) m)
+  remove-written xs i m m₁ m₂ y t n h e en l o ey e₁ e₂ =
+      let b = tableBytes w k enc xs in
+      let pre = take t m in
+      let post = drop (t + (4 + w * k)) m in
+      let c : take (w * k) (drop (t + 4) m) ≡ drop 4 b = sym (ap (drop 4) (sym e) ∙ drop-take 4 (w * k) (drop t m) ∙ ap (take (w * k)) (drop-drop 4 t m)) in
+      let fy : y ≡ removed w n i (drop 4 b) = ey ∙ ap (removed w n i) c in
+      let r = table-remove w k enc sized xs i b n refl en l o in
+      let s = length-append (wordBytes (n - 1)) (removed w n i (drop 4 b)) in
+      let ly : length y ≡ w * k
+      = ap length fy ∙ omega (arith, ap length r, s, word-length (n - 1), table-length w k enc (without i xs)) in
+      let g = inside-of m b t (4 + w * k) h e in
+      let g₁ = inside-put m b pre post y t (4 + w * k) 4 (w * k) g (omega arith) ly in
+      let g₂ = inside-put (put m (t + 4) (w * k) y) (put b 4 (w * k) y) pre post (wordBytes (n - 1)) t (4 + w * k) 0 4 g₁ (omega arith) (word-length (n - 1)) in
+      let z : t + 0 ≡ t = omega arith in
+      e₂
+      ∙ ap (λ (q : List ℕ). put q t 4 (wordBytes (n - 1))) e₁
+      ∙ (rw z at (g₂ .is))
+      ∙ ap (λ (q : List ℕ). pre ++ (q ++ post)) (table-removed xs i b y n refl en l o fy)
+
+  -- ---- cells that are not in use are zero
+
+  pub table-unused : (xs : List A) (b : List ℕ) (n : ℕ) → b ≡ tableBytes w k enc xs → n ≡ length xs → n ≤ k
+      → drop (4 + w * n) b ≡ replicate (w * k - w * n) 0
+  table-unused xs b n e en h =
+      let c = cells enc xs in
+      let lc : length c ≡ w * n = cells-length w enc sized xs ∙ ap (λ (q : ℕ). w * q) (sym en) in
+      let s : pad (w * k) c ≡ c ++ replicate (w * k - w * n) 0 = rw (← en) at (table-spread w k enc sized xs (omega arith)) in
+      sym (drop-drop (w * n) 4 b)
+      ∙ ap (drop (w * n)) (ap (drop 4) e ∙ table-body w k enc xs ∙ s)
+      ∙ drop-at c (replicate (w * k - w * n) 0) (w * n) lc
+
+-- ---- two writes side by side
+
+pub put-joined : (m x y : List ℕ) (t p q : ℕ) → t + p ≤ length m → length x ≡ p
+    → take (t + p) (take t m ++ (x ++ drop (t + p) m)) ++ (y ++ drop (t + p + q) (take t m ++ (x ++ drop (t + p) m)))
+    ≡ take t m ++ ((x ++ y) ++ drop (t + (p + q)) m)
+put-joined m x y t p q h e =
+    let l : length (take t m) ≡ t = length-take-le t m (omega arith) in
+    let d = drop (t + p) m in
+    let f : t + p + q ≡ t + (p + q) = omega arith in
+    let g : drop (t + (p + q)) m ≡ drop q d = rw (← f) (sym (drop-drop q (t + p) m)) in
+    part-past (take t m) (x ++ d) y t p q l
+    ∙ rw (take-at x d p e, drop-past x d p q e, g) (ap (λ (z : List ℕ). take t m ++ z) (sym (append-assoc x y (drop q d))))

@@ -1,0 +1,25 @@
+-- Things of one width in bytes, one after the other; and a table: a count, then so many things, then zeros up to the room for k of them. A table is as
+-- long whatever it holds, so that putting one changes nothing else. Assumes nothing: these are definitions.
+use mathlib.Core.List.{List, [], _∷_, _++_, map}
+use Prim.Native.Nat.{ℕ, zero, suc, _*_, min}
+use lib.ListN.{length, take, drop}
+use Rattle.wire.specs.Bytes.{pad}
+use Rattle.wire.specs.Words.{wordAt, wordBytes}
+use Rattle.wire.specs.declared.Order.the-variants.{Little}
+
+unfoldable pub cells : {A : Type 0} → (A → List ℕ) → List A → List ℕ
+cells enc [] = []
+cells enc (x ∷ l) = enc x ++ cells enc l
+
+-- the first n parts of w bytes
+unfoldable pub parts : ℕ → ℕ → List ℕ → List (List ℕ)
+parts w zero m = []
+parts w (suc n) m = take w m ∷ parts w n (drop w m)
+
+-- a table with room for k things of w bytes
+unfoldable pub tableBytes : {A : Type 0} → ℕ → ℕ → (A → List ℕ) → List A → List ℕ
+tableBytes w k enc xs = wordBytes (length xs) ++ pad (w * k) (cells enc xs)
+
+-- what the bytes of a table say
+unfoldable pub tableOf : {A : Type 0} → ℕ → ℕ → (List ℕ → A) → List ℕ → List A
+tableOf w k dec b = map dec (parts w (min (wordAt Little b 0) k) (drop 4 b))

@@ -1,0 +1,1 @@
+// Tables of things of one width in bytes. There is no code here.
