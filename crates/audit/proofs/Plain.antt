@@ -24,6 +24,7 @@ use Rattle.stream.specs.Tail.{Tail}
 use Rattle.rules.specs.State.{Pending, Peer, Slot, free, peer}
 use Rattle.memory.specs.Encoding.{pendingBytes, headBytes, peerBytes, slotBytes, wordOf, pendingOf, slotOf}
 use Rattle.memory.proofs.Reading.{peerFrom, slot-take, peer-from}
+use Rattle.memory.proofs.Heads.{single, single-length, head-table, head-of, single-plain}
 use Rattle.memory.proofs.Frame.{pending-length, cell-length, head-length}
 use Rattle.audit.specs.Tests.{tableTest, cellsTest, shapeTest}
 use Rattle.audit.proofs.Shape.{drop-part}
@@ -84,36 +85,6 @@ module _ (m : List ℕ) (f : (i : ℕ) → getD m i 0 < 256) where
             )
         go (no b) = rw (lt-leb (wordAt Little m c) k (omega arith))
 
--- ---- the head, as a table of bytes
-
-single : ℕ → List ℕ
-single b = b ∷ []
-
-head-cells : (h : List ℕ) → cells single h ≡ h
-unfolding cells single
-head-cells [] = refl
-head-cells (b ∷ h) = ap (λ (r : List ℕ). b ∷ r) (head-cells h)
-
-head-parts : (n : ℕ) (d : List ℕ) → n ≤ length d → map front (parts 1 n d) ≡ take n d
-unfolding parts
-head-parts zero d h = refl
-head-parts (suc n) [] h = absurd (omega arith)
-head-parts (suc n) (x ∷ d) h = ap (λ (r : List ℕ). x ∷ r) (head-parts n d (omega arith))
-
-head-table : (h : List ℕ) → headBytes h ≡ tableBytes 1 2048 single h
-unfolding headBytes tableBytes
-head-table h = rw (head-cells h)
-
-single-length : (b : ℕ) → length (single b) ≡ 1
-unfolding single
-single-length b = refl
-
-single-again : (b : List ℕ) → length b ≡ 1 → ((i : ℕ) → getD b i 0 < 256) → single (front b) ≡ b
-unfolding single
-single-again [] l f = absurd (omega arith)
-single-again (x ∷ []) l f = refl
-single-again (x ∷ y ∷ b) l f = absurd (omega arith)
-
 pending-again : (b : List ℕ) → length b ≡ 8 → ((i : ℕ) → getD b i 0 < 256) → pendingBytes (pendingOf b) ≡ b
 pending-again b l f =
     let p : length (take 4 b) ≡ 4 = length-take-le 4 b (omega arith) in
@@ -129,17 +100,15 @@ word-again b l f = bytes-again b l f
 -- ---- a whole slot
 
 module _ (m : List ℕ) (f : (i : ℕ) → getD m i 0 < 256) (a : ℕ) (h : a + 3292 ≤ length m) where
-  head-of : tableOf 1 2048 front (drop (a + 1240) m) ≡ take (min (wordAt Little m (a + 1240)) 2048) (drop (a + 1244) m)
-  unfolding tableOf
-  head-of =
+  head-is : tableOf 1 2048 front (drop (a + 1240) m) ≡ take (min (wordAt Little m (a + 1240)) 2048) (drop (a + 1244) m)
+  head-is =
       let e : a + 1240 + 4 ≡ a + 1244 = omega arith in
-      rw (word-front m (a + 1240), drop-drop 4 (a + 1240) m, e)
-      (head-parts (min (wordAt Little m (a + 1240)) 2048) (drop (a + 1244) m) (omega (arith, length-drop (a + 1244) m)))
+      sym (head-of (drop (a + 1240) m) (omega (arith, length-drop (a + 1240) m))) ∙ rw (word-front m (a + 1240), drop-drop 4 (a + 1240) m, e)
 
   head-plain : same (headBytes (take (min (wordAt Little m (a + 1240)) 2048) (drop (a + 1244) m))) (take 2052 (drop (a + 1240) m)) ≡ tableTest m (a + 1240) 1 2048
   head-plain =
-      ap (λ (z : List ℕ). same z (take 2052 (drop (a + 1240) m))) (ap headBytes (sym head-of) ∙ head-table (tableOf 1 2048 front (drop (a + 1240) m)))
-      ∙ table-plain m f 1 2048 single single-length front single-again (a + 1240) (omega arith) (omega arith)
+      ap (λ (z : List ℕ). same z (take 2052 (drop (a + 1240) m))) (ap headBytes (sym head-is) ∙ head-table (tableOf 1 2048 front (drop (a + 1240) m)))
+      ∙ table-plain m f 1 2048 single single-length front single-plain (a + 1240) (omega arith) (omega arith)
 
   pub peer-plain : same (peerBytes (peerFrom m a)) (take 3292 (drop a m))
       ≡ tableTest m (a + 8) 4 16

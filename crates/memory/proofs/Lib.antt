@@ -12,9 +12,6 @@ pub mod Sound
 pub mod Sweep
 pub mod Removal
 pub mod Heads
-pub mod Plain
-pub mod NameCells
-pub mod Check
 pub mod Held
 pub mod Names
 pub mod Newcomer

@@ -3,7 +3,7 @@ use mathlib.Core.List.{List, [], _∷_}
 use mathlib.Core.Path.{_≡_, refl, sym, ap, _∙_}
 use Prim.Native.Nat.{ℕ, _+_, _*_, _<_, min}
 use native.Mathlib.Omega.{arith}
-use native.Mathlib.Nat.{min-le-right}
+use native.Mathlib.Nat.{add-zero, min-le-right}
 use lib.ListN.{length, getD, take, drop, length-map, List·getD-map}
 use lib.Seq.{drop-drop, take-take}
 use borrow.Author.Tests.{ne-eqb}
@@ -12,7 +12,7 @@ use Rattle.wire.specs.declared.Order.the-variants.{Little}
 use Rattle.wire.proofs.Words.{word-drop}
 use Rattle.tables.specs.Tables.{parts, tableOf}
 use Rattle.tables.proofs.Parts.{drop-take}
-use Rattle.tables.proofs.Words.{word-take, word-front}
+use Rattle.tables.proofs.Words.{word-take, word-part, word-front}
 use Rattle.tables.proofs.Cells.{parts-length, parts-at}
 use Rattle.tables.proofs.Table.{table-take, table-many, table-next}
 use Rattle.policy.specs.Names.{nameOf}
@@ -115,6 +115,10 @@ peer-from m a =
 -- the number that stands in slot i
 abbrev pub numberAt : List ℕ → ℕ → ℕ
 numberAt m i = wordAt Little m (slotStart i)
+
+-- the number that stands in the bytes of slot i
+pub part-number : (m : List ℕ) (i : ℕ) → wordAt Little (take 3292 (drop (slotStart i) m)) 0 ≡ numberAt m i
+part-number m i = word-part m (slotStart i) 3292 0 (omega arith) ∙ ap (wordAt Little m) (add-zero (slotStart i))
 
 pub slot-free : (m : List ℕ) (i : ℕ) → i < 16 → numberAt m i ≡ 0 → getD (stateOf m .slots) i free ≡ free
 slot-free m i h e =

@@ -15,10 +15,9 @@ use Rattle.tables.proofs.Table.{table-take}
 use Rattle.rules.specs.State.{Pending, peer}
 use Rattle.rules.specs.Pending.{endedAll, bereft}
 use Rattle.memory.specs.Encoding.{pendingBytes, pendingOf, slotBytes, peerOf, slotOf, memoryOf, stateOf}
-use Rattle.memory.proofs.Reading.{sixteen, slot-at, numberAt, part-peer}
+use Rattle.memory.proofs.Reading.{sixteen, slot-at, numberAt, part-peer, part-number}
 use Rattle.memory.proofs.Fields.{pending-bytes}
 use Rattle.memory.proofs.Frame.{slot-length, memory-at}
-use Rattle.memory.proofs.Check.{part-number}
 use Rattle.tables.proofs.Close.{cutOut as closed}
 use Rattle.memory.proofs.Ending.{Ending, ending-begins, ending-out, ending-stays, ending-ends}
 use Rattle.memory.proofs.Bereft.{bereft-free, bereft-peer, pending-of}

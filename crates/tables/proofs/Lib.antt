@@ -4,7 +4,6 @@ pub mod Cells
 pub mod Sweep
 pub mod Table
 pub mod Same
-pub mod Place
 pub mod Close
 pub mod Change
 pub mod Written
