@@ -1,4 +1,3 @@
-pub mod Serial
 pub mod Cut
 pub mod Tails
 pub mod Numbers

@@ -8,7 +8,6 @@ use lib.ListN.{length}
 use borrow.Author.Tests.{eq-eqb}
 use Rattle.image.specs.Good.{goodImage}
 use Rattle.stream.specs.Tail.{Tail, tails}
-use Rattle.stream.proofs.Good.{fresh-good}
 use Rattle.rules.specs.State.{State}
 use Rattle.rules.specs.Calls.{Step, stays, empty, connect, own, release, piece, disconnect, noConnect, noPiece, noGone}
 use Rattle.rules.specs.declared.Connected.{Connected}
@@ -28,7 +27,6 @@ use Rattle.sound.proofs.Keep.{empty-sound, connect-sound, own-sound, release-so
 use Rattle.book.specs.Book.{books, tailView}
 use Rattle.book.specs.Lists.{Call, starts, Answer, plain, connected, taken, gone, entry, answers, after, Below}
 use Rattle.book.specs.Lists.{Ran, ran-start, ran-connect, ran-own, ran-release, ran-piece, ran-leave, Run, done, then, Agrees}
-use Rattle.book.proofs.Serial.{header-serial, offer-keeps}
 use Rattle.book.proofs.Tails.{sees}
 use Rattle.book.proofs.Never.{nevers}
 
@@ -104,7 +102,7 @@ module _ {m : List ℕ} (b : State (List ℕ)) (h : Holds m b) where
   unfolding connectOn
   connect-meets image uid gids u w d =
       meets-image connected h noConnect (λ s. connect tails image s uid gids) (connect books image b uid gids) (connect-seen books tails tailView sees image b uid gids)
-      (connect-sound fresh-good v uid gids (h .sound) u (every-below 4294967296 gids w) image) image d
+      (connect-sound v uid gids (h .sound) u (every-below 4294967296 gids w) image) image d
 
   own-meets : (image : List ℕ) (n : ℕ) (name : List ℕ) {r : ℕ} {e : List ℕ} → Did (ownOn image m n name) r e
       → Meets plain (cond (goodImage image) (own image b n name) (stays b 50)) r e
@@ -122,7 +120,7 @@ module _ {m : List ℕ} (b : State (List ℕ)) (h : Holds m b) where
   unfolding pieceOn
   piece-meets image n bytes w d =
       meets-image taken h noPiece (λ s. piece tails image s n bytes) (piece books image b n bytes) (piece-seen books tails tailView sees image b n bytes)
-      (piece-sound offer-keeps header-serial v (h .sound) bytes (every-below 256 bytes w) image n) image d
+      (piece-sound v (h .sound) bytes (every-below 256 bytes w) image n) image d
 
   leave-meets : (n : ℕ) {r : Gone} {e : List ℕ} → Did (disconnectOn m n) r e → Meets gone (disconnect books b n) r e
   unfolding disconnectOn

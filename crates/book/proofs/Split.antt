@@ -26,7 +26,6 @@ use Rattle.sound.proofs.Keep.{piece-sound}
 use Rattle.book.specs.Book.{tailView}
 use Rattle.book.specs.Lists.{Call, starts, offers, Answer, plain, connected, taken, gone, Below, after, Ran, ran-start, ran-connect, ran-own, ran-release, ran-piece, ran-leave, Run, done, then}
 use Rattle.book.specs.Split.{isStop, said, Offers, ends, again, OffersAll, nothing, next, joined}
-use Rattle.book.proofs.Serial.{header-serial, offer-keeps}
 use Rattle.book.proofs.List.{on-image, Holds, started}
 use Rattle.book.proofs.Bytewise.{Heard, Refuses, Laws, idle-refuses, refuses, bytewise, bytewise-none, bytewise-append, call-first, call-last}
 use Rattle.book.proofs.Ways.{stepOf, piece-laws}
@@ -79,7 +78,7 @@ module _ (image : List ℕ) (n : ℕ) where
     step-sound b =
         subst (λ (z : Step Tail Taken). Sound (z .state)) (sym (step-is s p))
         (choice (λ (z : Step Tail Taken). Sound (z .state)) (goodImage image) (piece tails image s n p) (stays s (noPiece 50))
-        (λ e. piece-sound offer-keeps header-serial s g p (every-below 256 p b) image n) (λ e. g))
+        (λ e. piece-sound s g p (every-below 256 p b) image n) (λ e. g))
 
   -- ---- what the calls of an offering come to, from the bytes of a sound state
 

@@ -14,6 +14,7 @@ use Rattle.header.specs.declared.Reading.the-variants.{Whole}
 use Rattle.policy.specs.Names.{owns}
 use Rattle.policy.specs.Decisions.{mayConnect, mayOwn}
 use Rattle.stream.specs.Stream.{Verdict, more, broken, whole, offer, settled}
+use Rattle.stream.proofs.Good.{fresh-good}
 use Rattle.stream.specs.Tail.{Tail, fresh, closed, tails, goodTail}
 use Rattle.rules.specs.State.{Peer, Slot, free, peer, State, isFree, isPeer, firstBy, putSlot, withNames, withStream}
 use Rattle.rules.specs.Addresses.{ownable}
@@ -24,6 +25,7 @@ use Rattle.memory.specs.Good.{goodSlots}
 use Rattle.memory.proofs.Octets.{below-every}
 use Rattle.memory.specs.Sound.{every, word32, narrow, octet, headOctets, Sound}
 use Rattle.rules.proofs.Tests.{choice}
+use Rattle.sound.proofs.Serial.{header-serial, offer-keeps}
 use Rattle.sound.proofs.Slots.{first-none}
 use Rattle.rules.proofs.First.{first-passes, taken-below}
 use Rattle.sound.proofs.Names.{okNames}
@@ -46,7 +48,7 @@ empty-sound = record { sixteen = refl; fits = omega arith; slots = refl; narrows
 
 -- ---- connect
 
-module _ (fresh-good : goodTail fresh ≡ true) (s : State Tail) (uid : ℕ) (gids : List ℕ) (g : Sound s)
+module _ (s : State Tail) (uid : ℕ) (gids : List ℕ) (g : Sound s)
     (user : uid < 4294967296) (groups : every word32 gids ≡ true) where
   newcomer-new : length gids ≤ 16 → New (s .last) (newcomer tails (s .last + 1) uid gids)
   unfolding okNames okPending owns awaits
@@ -144,9 +146,6 @@ disconnect-sound s g n = let i = firstBy (isPeer n) (s .slots) in disconnect-at 
 -- ---- piece
 
 module _
-    (offer-good : (t : Tail) (p : List ℕ) → goodTail t ≡ true → closed t ≡ false
-    → goodTail (settled tails (offer tails t p .verdict) (offer tails t p .stream)) ≡ true)
-    (header-serial : (h : List ℕ) (x : Header) → ((i : ℕ) → getD h i 0 < 256) → readHeader h ≡ Whole x → (1 ≤ x .serial) × (x .serial < 4294967296))
     (s : State Tail) (g : Sound s) (bytes : List ℕ) (small : every octet bytes ≡ true) where
   offered-sound : (image : List ℕ) (i : ℕ) (q : Peer Tail) (taken : ℕ) (v : Verdict) (z : State Tail) → Sound z → getD (z .slots) i free ≡ peer q
       → ((h : List ℕ) (x : Header) → v ≡ whole h x → (1 ≤ x .serial) × (x .serial < 4294967296)) → Leaves (offered image z i q taken v)
@@ -162,7 +161,7 @@ module _
       choice Leaves (closed (p .stream)) (stays s (noPiece 40)) (offeredTo tails image s i p o) (λ a. g)
       (λ a. let f = peer-fine s i p g e in
       offered-sound image i q (o .taken) (o .verdict) (putSlot s i (peer q))
-      (stream-sound s i p g e (settled tails (o .verdict) (o .stream)) (offer-good (p .stream) bytes (f .tail) a)
+      (stream-sound s i p g e (settled tails (o .verdict) (o .stream)) (offer-keeps (p .stream) bytes (f .tail) a)
       (offer-octets (p .stream) bytes (f .bytes) small))
       (put-there s i p q e)
       (λ h x v. header-serial (o .stream .head) x (below-every 256 (o .stream .head) (omega arith) (taken-octets (p .stream) bytes (f .bytes) small))

@@ -1,3 +1,4 @@
+mod Serial
 pub mod Slots
 pub mod Names
 pub mod Pending
