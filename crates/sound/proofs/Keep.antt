@@ -1,5 +1,4 @@
--- "an empty guard is good and every call keeps good memory good": each call keeps a sound state sound. Assumes nothing: what the streams give is named
--- by the sections.
+-- "an empty guard is good and every call keeps good memory good": each call keeps a sound state sound. Assumes nothing.
 use mathlib.Core.Path.{_≡_, refl, _∙_}
 use mathlib.Core.Bool.{true, false, cond}
 use mathlib.Core.List.{List, [], _∷_, _++_}
