@@ -17,7 +17,9 @@ use Rattle.header.specs.declared.Element.the-variants.{At, Bad}
 use Rattle.wire.proofs.Texts.{both-first, both-second}
 use Rattle.header.specs.Codes.{letterOf}
 use Rattle.header.specs.Values.{below}
+use Rattle.header.specs.Fixed.{orderOf}
 use Rattle.header.specs.Fields.{textIn, valueAt, framed, elementAt}
+use Rattle.header.specs.Reader.{elementIn}
 
 -- a test that each number below n passes
 module _ (p : ℕ → Bool) where
@@ -131,3 +133,7 @@ module _ (o : Order) (h : List ℕ) (end from at : ℕ) (e : at ≡ roundUp8 fro
     element-framed t c g l k i = i ∙ rw (← e, ← p, ← q, not-false (z && f) t, k, g)
 
 pub ruleset elements = (a-frame, element-past, element-unframed, element-framed, needs)
+
+-- the same in the byte order of h
+pub in-order : (o : Order) (h : List ℕ) (end from : ℕ) → o ≡ orderOf h → {r : Element} → r ≡ elementAt o h end from → r ≡ elementIn h end from
+in-order o h end from e i = i ∙ rw e

@@ -92,10 +92,10 @@ module _ (h : List ℕ) (o : Order) (a : ℕ) (w : Head h) (p : o ≡ orderOf h)
     unfolding readHead fieldsOf
     unpadded t = rw (array-is, ← rest-at (16 + a) h, ← e, not-true z t)
 
-    module _ (t : not z ≡ false) (f : Found) (i : foundIn f ≡ walk (16 + a - 16 + 1) o h (16 + a) 16 noFields) where
+    module _ (t : not z ≡ false) (f : Found) (i : foundIn f ≡ walk (16 + a - 16 + 1) (orderOf h) h (16 + a) 16 noFields) where
       fields-are : fieldsOf h ≡ foundIn f
       unfolding fieldsOf
-      fields-are = rw (array-is, ← rest-at (16 + a) h, ← e, not-false z t, ← p, i, add-sub-cancel-left 16 a)
+      fields-are = rw (array-is, ← rest-at (16 + a) h, ← e, not-false z t, i, add-sub-cancel-left 16 a)
 
       pub malformed : not (f .good) ≡ true → Broken 7 ≡ readHead h
       unfolding readHead
@@ -104,7 +104,7 @@ module _ (h : List ℕ) (o : Order) (a : ℕ) (w : Head h) (p : o ≡ orderOf h)
       module _ (u : not (f .good) ≡ false) where
         pub places-fit : Fits h (f .places)
         places-fit =
-            walk-fits (16 + a - 16 + 1) o h (16 + a) 16 noFields (f .places) array-inside (fits-none h)
+            walk-fits (16 + a - 16 + 1) (orderOf h) h (16 + a) 16 noFields (f .places) array-inside (fits-none h)
             (sym i ∙ rw (not-false (f .good) u))
 
         pub places-read : Reads h o (f .places)

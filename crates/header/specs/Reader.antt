@@ -9,7 +9,8 @@ use Rattle.wire.specs.Words.{roundUp8}
 use Rattle.wire.specs.declared.Order.{Order}
 use Rattle.header.specs.declared.Found.{Found}
 use Rattle.header.specs.Fixed.{orderOf, arrayLength}
-use Rattle.header.specs.Fields.{Fields, placeOf}
+use Rattle.header.specs.declared.Element.{Element}
+use Rattle.header.specs.Fields.{Fields, placeOf, elementAt}
 
 -- h is a head as long as its array says
 pub record Head (h : List ℕ) : Type 0 where
@@ -22,6 +23,10 @@ pub record Inside (h : List ℕ) (end from : ℕ) : Type 0 where
   pub before : from ≤ end
   pub padded : roundUp8 end ≤ length h
   pub small : length h ≤ 2048
+
+-- the element that a reader of h at `from` finds, in the byte order of h
+abbrev pub elementIn : List ℕ → ℕ → ℕ → Element
+elementIn h end from = elementAt (orderOf h) h end from
 
 -- each value lies in h
 pub record Fits (h : List ℕ) (fs : Fields) : Type 0 where

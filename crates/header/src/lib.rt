@@ -1,4 +1,6 @@
 // The head of a D-Bus message: its fixed part, the array of header fields, their values, and the fields that a type requires.
+mod reader;
+
 use names::Form;
 use wire::Order;
 ghost use mathlib.Core.Path.{_≡_};
@@ -190,15 +192,15 @@ fn element_at(order: Order, head: &[u8], end: usize, from: usize) -> Element
 }
 
 // All elements, in one pass.
-fn walk_all(order: Order, head: &[u8], end: usize) -> Found
+fn walk_all(head: &[u8], end: usize) -> Found
     requires { ⌜ Inside (now head) end 16 ⌝ }
-    ensures { λ r. ⌜ foundIn r ≡ walk (end - 16 + 1) order (now (head .entry)) end 16 noFields ⌝ }
+    ensures { λ r. ⌜ foundIn r ≡ walk (end - 16 + 1) (orderOf (now (head .entry))) (now (head .entry)) end 16 noFields ⌝ }
 {
     let none = Place { at: 0, len: 0 };
     let mut places = [none; 10];
     let mut from = 16;
     while from != end {
-        match element_at(order, head, end, from) {
+        match reader::field_at(head, end, from) {
             Element::Bad => {
                 return Found {
                     good: false,
@@ -352,7 +354,7 @@ fn read_head(head: &[u8]) -> Reading
     if !wire::is_zero(head, end, head.len()) {
         return Reading::Broken(7);
     }
-    let found = walk_all(order, head, end);
+    let found = walk_all(head, end);
     if !found.good {
         return Reading::Broken(7);
     }

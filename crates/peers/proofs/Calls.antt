@@ -18,11 +18,11 @@ use Rattle.memory.specs.Encoding.{pendingBytes, pendingOf, slotBytes, peerOf, s
 use Rattle.memory.proofs.Reading.{sixteen, slot-at, numberAt, part-peer, part-number}
 use Rattle.memory.proofs.Fields.{pending-bytes}
 use Rattle.memory.proofs.Frame.{slot-length, memory-at}
-use Rattle.tables.proofs.Close.{cutOut as closed}
+use Rattle.tables.specs.Cut.{cutOut}
 use Rattle.memory.proofs.Ending.{Ending, ending-begins, ending-out, ending-stays, ending-ends}
 use Rattle.memory.proofs.Bereft.{bereft-free, bereft-peer, pending-of}
 use Rattle.memory.proofs.Sweep.{changed, Sweeping, sweeping-begins, sweeping-again, sweeping-ends}
-use Rattle.peers.specs.Writes.{cutOut, Table}
+use Rattle.peers.specs.Writes.{Table}
 use Rattle.peers.specs.Steps.{PlainSlot, Encoded, endedAt, endedFor}
 use Rattle.peers.proofs.Found.{Octets, below}
 
@@ -40,8 +40,7 @@ module _ {c : ℕ} {ws : List Pending} {t : List ℕ} {n j : ℕ} (g : Ending c 
       record { inside = omega arith; room = omega arith }
 
   module _ (k : ℕ) (e : k ≡ wordAt Little t (4 + 8 * j)) where
-    pub calls-out : k ≡ c → (t₂ : List ℕ) → t₂ ≡ wordBytes (n - 1) ++ cutOut (8 * j) 8 (8 * n) (drop 4 t) → Ending c ws t₂ (n - 1) j
-    unfolding cutOut closed
+    pub calls-out : k ≡ c → (t₂ : List ℕ) → t₂ ≡ wordBytes (n - 1) ++ cutOut 8 (8 * n) (8 * j) (drop 4 t) → Ending c ws t₂ (n - 1) j
     calls-out q t₂ e₂ = ending-out c ws t n j g h k e q t₂ (n - 1) e₂ refl
 
     pub calls-on : (k ≡ c → ⊥) → Ending c ws t n (j + 1)

@@ -14,7 +14,7 @@ use Rattle.wire.specs.Words.{wordAt, wordBytes}
 use Rattle.wire.specs.declared.Order.the-variants.{Little}
 use Rattle.wire.proofs.Words.{cut-at, put-at}
 use Rattle.tables.specs.Tables.{tableBytes}
-use Rattle.tables.proofs.Close.{cutOut as closed}
+use Rattle.tables.specs.Cut.{cutOut}
 use Rattle.tables.proofs.Change.{removed, without, table-remove}
 use Rattle.policy.specs.Names.{cellOf, owns}
 use Rattle.rules.specs.State.{isPeer, firstBy}
@@ -29,7 +29,7 @@ use Rattle.memory.proofs.Removal.{released-without}
 use Rattle.memory.proofs.Puts.{names-stand, names-put}
 use Rattle.slots.specs.Slots.{peerAt, nameAt}
 use Rattle.slots.proofs.Cells.{names-next, names-past}
-use Rattle.peers.specs.Writes.{cutOut, Table}
+use Rattle.peers.specs.Writes.{Table}
 use Rattle.peers.specs.Steps.{Seated, givenUp, NameAt}
 use Rattle.peers.proofs.Found.{Octets, below, did-stay, peer-none, peer-place, peer-some, peer-seated, names-counted}
 
@@ -141,10 +141,10 @@ module _ (m : List ℕ) (f : Octets m) (i : ℕ) (g : Seated m i) (name : List �
     pub give-done : (t : List ℕ)
         → t
         ≡ wordBytes (n - 1)
-        ++ cutOut (256 * j) 256 (256 * n) (drop 4 (take (4 + 3292 * i + 208 + 1028 - (4 + 3292 * i + 208)) (drop (4 + 3292 * i + 208) m)))
+        ++ cutOut 256 (256 * n) (256 * j) (drop 4 (take (4 + 3292 * i + 208 + 1028 - (4 + 3292 * i + 208)) (drop (4 + 3292 * i + 208) m)))
         → Did (stored (givenUp m i name)) 0
         (take (4 + 3292 * i + 208) m ++ (t ++ drop (4 + 3292 * i + 208 + 1028 - (4 + 3292 * i + 208)) (drop (4 + 3292 * i + 208) m)))
-    unfolding givenUp cutOut closed
+    unfolding givenUp
     give-done t et =
         let c = 4 + 3292 * i + 208 in
         let ns = peerAt m i .names in

@@ -6,16 +6,7 @@ use lib.ListN.{length, take, drop, replicate}
 use Rattle.wire.specs.Words.{wordBytes}
 use Rattle.tables.specs.Tables.{cells}
 
--- the w bytes at `at` taken out of the first `end`: the later ones move down, and the last w of them are zero
-unfoldable pub cutOut : ℕ → ℕ → ℕ → List ℕ → List ℕ
-cutOut at w end t = take at t ++ (drop (at + w) (take end t) ++ (replicate w 0 ++ drop end t))
-
--- w bytes at `at` stand in the first `end`
-pub record Cell (s : List ℕ) (at w end : ℕ) : Type 0 where
-  pub inside : at + w ≤ end
-  pub room : end ≤ length s
-
--- they stand in the cells of a table
+-- w bytes at `at` stand in the first `end` bytes of the cells of a table
 pub record Table (t : List ℕ) (at w end : ℕ) : Type 0 where
   pub inside : at + w ≤ end
   pub room : 4 + end ≤ length t

@@ -19,7 +19,8 @@ ghost use Rattle.memory.specs.Encoding.{pendingBytes, pendingOf, stateOf};
 ghost use Rattle.memory.specs.Sound.{Held};
 ghost use Rattle.memory.specs.Calls.{stored, Did};
 ghost use Rattle.slots.specs.Slots.{peerAt, nameAt};
-ghost use Rattle.peers.specs.Writes.{cutOut, Cell, Table, newBytes, Seating, nameBytes, Naming};
+ghost use Rattle.tables.specs.Cut.{cutOut};
+ghost use Rattle.peers.specs.Writes.{Table, newBytes, Seating, nameBytes, Naming};
 ghost use Rattle.peers.specs.Steps.{Free, admitted, entered, PlainSlot, Encoded, endedAt, endedFor, gone, Seated, granted, claimed, givenUp, NameAt};
 
 // ---- connect
@@ -110,35 +111,12 @@ pub fn connect(image: &[u8], memory: &mut [u8], uid: u32, gids: &[u32]) -> Conne
 
 // ---- a cell taken out of a table
 
-// Moves the bytes from `at` + w up to `end` down by w.
-fn shift(s: &mut [u8], at: usize, w: usize, end: usize)
-    requires { ⌜ Cell (now s) at w end ⌝ }
-    ensures { λ r. ⌜ now (s .exit) ≡ take at (now (s .entry)) ++ (take (end - (at + w)) (drop (at + w) (now (s .entry))) ++ drop (end - w) (now (s .entry))) ⌝ }
-{
-    let count = end - (at + w);
-    let mut i = 0;
-    while i < count {
-        s[at + i] = s[at + w + i];
-        i += 1;
-    }
-}
-
-// Takes the w bytes at `at` out of the first `end`: the later ones move down, and the last w of them are zero.
-fn cut_out(s: &mut [u8], at: usize, w: usize, end: usize)
-    requires { ⌜ Cell (now s) at w end ⌝ }
-    ensures { λ r. ⌜ now (s .exit) ≡ cutOut at w end (now (s .entry)) ⌝ }
-{
-    shift(s, at, w, end);
-    let from = end - w;
-    wire::wipe(&mut s[from..end]);
-}
-
-// Takes such bytes out of the cells of a table, which then has `left` things.
+// Takes the w bytes at `at` out of the first `end` bytes of the cells of a table, which then has `left` things.
 fn remove(table: &mut [u8], at: usize, w: usize, end: usize, left: u32)
     requires { ⌜ Table (now table) at w end ⌝ }
-    ensures { λ r. ⌜ now (table .exit) ≡ wordBytes left ++ cutOut at w end (drop 4 (now (table .entry))) ⌝ }
+    ensures { λ r. ⌜ now (table .exit) ≡ wordBytes left ++ cutOut w end at (drop 4 (now (table .entry))) ⌝ }
 {
-    cut_out(&mut table[4..], at, w, end);
+    tables::cut_out(&mut table[4..], at, w, end);
     wire::put_u32(table, 0, left);
 }
 

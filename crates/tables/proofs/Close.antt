@@ -8,10 +8,7 @@ use lib.ListN.{length, getD, take, drop, set, replicate, length-set, length-appe
 use lib.Seq.{drop-cons, take-suc-set, take-set-lt, drop-set-lt, getD-take, append-snoc, length-take-le}
 use Rattle.wire.proofs.Words.{cut-at, put-at}
 use borrow.Author.Needs.{needs}
-
--- the w bytes at q cut out of the first e bytes
-unfoldable pub cutOut : ℕ → ℕ → ℕ → List ℕ → List ℕ
-cutOut w e q t = take q t ++ (drop (q + w) (take e t) ++ (replicate w 0 ++ drop e t))
+use Rattle.tables.specs.Cut.{cutOut}
 
 -- the byte that is to stand at q is put there
 pub cut-more : (w e q : ℕ) (t : List ℕ) → q + w < e → e ≤ length t → cutOut w e q t ≡ cutOut w e (q + 1) (set t q (getD t (q + w) 0))

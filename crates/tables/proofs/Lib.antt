@@ -7,3 +7,4 @@ pub mod Same
 pub mod Close
 pub mod Change
 pub mod Written
+mod Cutting

@@ -1,14 +1,15 @@
 -- `header::walk_all` meets its contract. Assumes nothing.
 use Prim.Native.Nat.{_-_}
+use Rattle.header.specs.Fixed.{orderOf}
 use Rattle.header.proofs.Walk.{Walking, walking}
 use Rattle.header.proofs.walk_all.Statement.{statement}
 use Rattle.header.proofs.walk_all.Tie as tie
 
 abbrev Inv-loop : tie.InvT-loop
-Inv-loop order head end places₀ from₀ places from = Walking order head end places from
+Inv-loop head end places₀ from₀ places from = Walking (orderOf head) head end places from
 
 abbrev μ-loop : tie.MeasureT-loop
-μ-loop order head end places₀ from₀ places from = end - from
+μ-loop head end places₀ from₀ places from = end - from
 
 pub walk-all-spec : {M : Type 1} → statement M
 walk-all-spec =

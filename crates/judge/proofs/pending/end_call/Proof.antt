@@ -15,6 +15,8 @@ end-call-spec =
     (λ c. search ending)
     (λ c. search ending)
     (λ c. search ending)
+    (λ c. search ending)
+    (λ c. search ending)
     (λ c κs. search ending)
     (λ c. search ending)
     (λ c. search ending)

@@ -1,7 +1,7 @@
--- `peers::cut_out` meets its contract. Assumes nothing.
-use Rattle.peers.proofs.Cutting.{cutting}
-use Rattle.peers.proofs.cut_out.Statement.{statement}
-use Rattle.peers.proofs.cut_out.Tie as tie
+-- `tables::cut_out` meets its contract. Assumes nothing.
+use Rattle.tables.proofs.Cutting.{cutting}
+use Rattle.tables.proofs.cut_out.Statement.{statement}
+use Rattle.tables.proofs.cut_out.Tie as tie
 
 pub cut-out-spec : {M : Type 1} → statement M
 cut-out-spec =

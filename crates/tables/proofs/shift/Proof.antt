@@ -1,8 +1,8 @@
--- `peers::shift` meets its contract. Assumes nothing.
+-- `tables::shift` meets its contract. Assumes nothing.
 use Prim.Native.Nat.{_-_}
-use Rattle.peers.proofs.Cutting.{Shifting, shifting}
-use Rattle.peers.proofs.shift.Statement.{statement}
-use Rattle.peers.proofs.shift.Tie as tie
+use Rattle.tables.proofs.Cutting.{Shifting, shifting}
+use Rattle.tables.proofs.shift.Statement.{statement}
+use Rattle.tables.proofs.shift.Tie as tie
 
 abbrev Inv-loop : tie.InvT-loop
 Inv-loop s₀ at w end count i₀ s i = Shifting s₀ s at w count i
