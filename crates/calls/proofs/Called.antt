@@ -1,0 +1,190 @@
+-- Each call of an entry, and its report. Assumes nothing.
+use mathlib.Core.Path.{_≡_, refl, sym, ap, ap₂, _∙_}
+use mathlib.Core.Bool.{Bool, true, false}
+use mathlib.Core.List.{List, [], _∷_}
+use Prim.Native.Nat.{ℕ, _+_, _-_, _*_, _/_, _%_, _≤_, _<_, min}
+use native.Mathlib.Omega.{arith}
+use native.Mathlib.Nat.{sub-zero, add-mul-div-left, add-mul-mod-self-left}
+use lib.Dec.{leb}
+use lib.ListN.{length, take, drop, length-drop}
+use lib.Seq.{length-take-le}
+use borrow.Author.Needs.{needs}
+use borrow.Author.Tests.{eq-eqb, ne-eqb, lt-ltb, leb-true, leb-false}
+use Rattle.wire.specs.Words.{wordAt, wordBytes}
+use Rattle.wire.specs.declared.Order.the-variants.{Little}
+use Rattle.wire.proofs.Words.{rest-at, cut-at}
+use Rattle.tables.specs.Tables.{cells}
+use Rattle.rules.specs.Calls.{connect}
+use Rattle.rules.specs.declared.Connected.{Connected}
+use Rattle.rules.specs.declared.Taken.{Taken}
+use Rattle.rules.specs.declared.Gone.{Gone}
+use Rattle.rules.specs.declared.Receiver.the-variants as to
+use Rattle.memory.specs.Calls.{Did, Left, startOn, connectOn, ownOn, releaseOn, pieceOn, disconnectOn}
+use Rattle.book.specs.Lists.{plain, connected, taken, gone, connects, Ran, ran-start, ran-connect, ran-own, ran-release, ran-piece, ran-leave}
+use Rattle.calls.specs.declared.Report.{Report}
+use Rattle.calls.specs.declared.Gids.{Gids}
+use Rattle.calls.specs.Script.{sizeOf, wellSized, words, gidsOf, peerCall, callOf}
+use Rattle.calls.specs.Places.{placeOf}
+use Rattle.calls.specs.Steps.{reportWords, Shows, Reported, Stepped, GidsIn, Entry}
+use Rattle.calls.proofs.Words.{Octets, octets-drop, words-length, words-below}
+use Rattle.calls.proofs.Entries.{at-least}
+
+-- ---- reports
+
+-- four bytes hold no more of a number
+low-word : (n : ℕ) → wordBytes (n % 4294967296) ≡ wordBytes n
+unfolding wordBytes
+low-word n =
+    let m = n % 4294967296 in
+    let q = n / 4294967296 in
+    let e : n ≡ m + 256 * (16777216 * q) = omega arith in
+    let a : n % 256 ≡ m % 256 = ap (λ (x : ℕ). x % 256) e ∙ add-mul-mod-self-left m 256 (16777216 * q) in
+    let e₁ : n / 256 ≡ m / 256 + 256 * (65536 * q) = ap (λ (x : ℕ). x / 256) e ∙ add-mul-div-left m (16777216 * q) (omega arith) ∙ omega arith in
+    let b : n / 256 % 256 ≡ m / 256 % 256 = ap (λ (x : ℕ). x % 256) e₁ ∙ add-mul-mod-self-left (m / 256) 256 (65536 * q) in
+    let e₂ : n / 256 / 256 ≡ m / 256 / 256 + 256 * (256 * q) = ap (λ (x : ℕ). x / 256) e₁ ∙ add-mul-div-left (m / 256) (65536 * q) (omega arith) ∙ omega arith in
+    let c : n / 256 / 256 % 256 ≡ m / 256 / 256 % 256 = ap (λ (x : ℕ). x % 256) e₂ ∙ add-mul-mod-self-left (m / 256 / 256) 256 (256 * q) in
+    let e₃ : n / 256 / 256 / 256 ≡ m / 256 / 256 / 256 + 256 * q = ap (λ (x : ℕ). x / 256) e₂ ∙ add-mul-div-left (m / 256 / 256) (256 * q) (omega arith) in
+    let d : n / 256 / 256 / 256 % 256 ≡ m / 256 / 256 / 256 % 256 = ap (λ (x : ℕ). x % 256) e₃ ∙ add-mul-mod-self-left (m / 256 / 256 / 256) 256 q in
+    sym (ap₂ _∷_ a (ap₂ _∷_ b (ap₂ _∷_ c (ap (λ (x : ℕ). x ∷ []) d))))
+
+seven : (a t k n c u d : ℕ) → wordBytes t ≡ wordBytes u → wordBytes c ≡ wordBytes d
+    → cells wordBytes (a ∷ t ∷ k ∷ n ∷ c ∷ 0 ∷ 0 ∷ []) ≡ cells wordBytes (a ∷ u ∷ k ∷ n ∷ d ∷ 0 ∷ 0 ∷ [])
+unfolding cells
+seven a t k n c u d p q = rw (p, q)
+
+pub shows-plain : (a : ℕ) → Shows (plain a) (record { answer = a; taken = 0; kind = 0; number = 0; count = 0 })
+unfolding placeOf
+shows-plain a = record { are = refl }
+
+module _ (t : Taken) (w : ℕ) (e : w ≡ t .taken % 4294967296) where
+  low-taken : wordBytes w ≡ wordBytes (t .taken)
+  low-taken = rw e (low-word (t .taken))
+
+  pub shows-nobody : t .judgement .receiver ≡ to.Nobody → Shows (taken t) (record { answer = t .judgement .answer; taken = w; kind = 0; number = 0; count = 0 })
+  unfolding placeOf
+  shows-nobody q = record { are = rw q (seven (t .judgement .answer) w 0 0 0 (t .taken) 0 low-taken refl) }
+
+  pub shows-bus : t .judgement .receiver ≡ to.Bus → Shows (taken t) (record { answer = t .judgement .answer; taken = w; kind = 1; number = 0; count = 0 })
+  unfolding placeOf
+  shows-bus q = record { are = rw q (seven (t .judgement .answer) w 1 0 0 (t .taken) 0 low-taken refl) }
+
+  pub shows-peer : (n : ℕ) → t .judgement .receiver ≡ to.Peer n → Shows (taken t) (record { answer = t .judgement .answer; taken = w; kind = 2; number = n; count = 0 })
+  unfolding placeOf
+  shows-peer n q = record { are = rw q (seven (t .judgement .answer) w 2 n 0 (t .taken) 0 low-taken refl) }
+
+  pub shows-slots : (mask n : ℕ) → t .judgement .receiver ≡ to.Slots mask n → Shows (taken t) (record { answer = t .judgement .answer; taken = w; kind = 3; number = mask; count = n })
+  unfolding placeOf
+  shows-slots mask n q = record { are = rw q (seven (t .judgement .answer) w 3 mask n (t .taken) n low-taken refl) }
+
+pub ruleset showing = (shows-plain, shows-nobody, shows-bus, shows-peer, shows-slots, needs)
+
+-- ---- connect: more gids than sixteen are as many as seventeen
+
+many : (image m : List ℕ) (uid : ℕ) (g h : List ℕ) → 16 < length g → 16 < length h → connectOn image m uid g ≡ connectOn image m uid h
+unfolding connectOn connect
+many image m uid g h p q = rw (lt-ltb 16 (length g) p, lt-ltb 16 (length h) q)
+
+enough : (image m : List ℕ) (uid n : ℕ) (s : List ℕ) → connectOn image m uid (words (min n 17) s) ≡ connectOn image m uid (words n s)
+enough image m uid n s = go (leb n 17) refl
+  where
+    go : (b : Bool) → leb n 17 ≡ b → connectOn image m uid (words (min n 17) s) ≡ connectOn image m uid (words n s)
+    go true q = let l = leb-true n 17 q in let e : min n 17 ≡ n = omega arith in ap (λ (k : ℕ). connectOn image m uid (words k s)) e
+    go false q =
+        let l = leb-false n 17 q in
+        many image m uid (words (min n 17) s) (words n s) (omega (arith, words-length (min n 17) s)) (omega (arith, words-length n s))
+
+pub connect-front : (image m e gids : List ℕ) (uid count : ℕ) (r : Connected) → Did (connectOn image m uid (take (count - 0) gids)) r e
+    → Did (connectOn image m uid (take count gids)) r e
+connect-front image m e gids uid count r d = rw (sub-zero count) at d
+
+pub connect-reported : (image m a e : List ℕ) (uid : ℕ) (g : Gids) (c : Connected) (w : ℕ) → Octets a → uid ≡ wordAt Little a 0 → uid < 4294967296 → GidsIn a g
+    → Did (connectOn image m uid (take (g .count) (g .list))) c e
+    → w ≡ c .slot % 4294967296
+    → Reported (connects image (wordAt Little a 0) (gidsOf a)) m (record { answer = c .answer; taken = 0; kind = 0; number = c .number; count = w }) e
+unfolding placeOf
+connect-reported image m a e uid g c w f u l h d q =
+    let n = (length a - 4) / 4 in
+    let x : connectOn image m uid (take (g .count) (g .list)) ≡ connectOn image m (wordAt Little a 0) (gidsOf a)
+    = ap (connectOn image m uid) (h .are ∙ ap (λ (k : ℕ). words k (drop 4 a)) (h .count))
+    ∙ enough image m uid n (drop 4 a)
+    ∙ ap (λ (k : ℕ). connectOn image m k (gidsOf a)) u in
+    record {
+      answer = connected c;
+      ran =
+          ran-connect {uid = wordAt Little a 0} (rw (← u) l) (words-below n (drop 4 a) (octets-drop 4 a f))
+          (record { result = d .result ∙ ap (λ (o : Left Connected). o .result) x; memory = d .memory ∙ ap (λ (o : Left Connected). o .memory) x });
+      shows = record { are = seven (c .answer) 0 0 (c .number) w 0 (c .slot) refl (rw q (low-word (c .slot))) };
+    }
+
+pub ruleset connecting = (connect-front, connect-reported, needs)
+
+-- ---- a call with a peer's number and more
+
+module _ (image m rest e : List ℕ) (kind n : ℕ) (r : Report) where
+  pub own-reported : kind ≡ 2 → (a : ℕ) → Did (ownOn image m n rest) a e → Shows (plain a) r → Reported (peerCall image kind n rest) m r e
+  unfolding peerCall
+  own-reported k a d s = rw (eq-eqb kind 2 k) (record { answer = plain a; ran = ran-own d; shows = s })
+
+  pub release-reported : (kind ≡ 2 → ⊥) → kind ≡ 3 → (a : ℕ) → Did (releaseOn m n rest) a e → Shows (plain a) r → Reported (peerCall image kind n rest) m r e
+  unfolding peerCall
+  release-reported j k a d s = rw (ne-eqb kind 2 j, eq-eqb kind 3 k) (record { answer = plain a; ran = ran-release d; shows = s })
+
+  pub piece-reported : (kind ≡ 2 → ⊥) → (kind ≡ 3 → ⊥) → (t : Taken) → Octets rest → Did (pieceOn image m n rest) t e → Shows (taken t) r
+      → Reported (peerCall image kind n rest) m r e
+  unfolding peerCall
+  piece-reported j k t f d s = rw (ne-eqb kind 2 j, ne-eqb kind 3 k) (record { answer = taken t; ran = ran-piece (λ i. f i .fits) d; shows = s })
+
+pub ruleset peering = (own-reported, release-reported, piece-reported, needs)
+
+-- ---- any call
+
+pub long-enough : (kind : ℕ) (a : List ℕ) → (kind ≡ 0 → ⊥) → wellSized kind (length a) ≡ true → 4 ≤ length a
+long-enough kind a h w = at-least kind (length a) h w
+
+module _ (image m a e : List ℕ) (kind : ℕ) where
+  pub start-called : (r : Report) → kind ≡ 0 → (x : ℕ) → Did (startOn m) x e → Shows (plain x) r → Reported (callOf image kind a) m r e
+  unfolding callOf
+  start-called r k x d s = rw (eq-eqb kind 0 k) (record { answer = plain x; ran = ran-start d; shows = s })
+
+  module _ (h : kind ≡ 0 → ⊥) where
+    pub connect-called : (r : Report) → kind ≡ 1 → Reported (connects image (wordAt Little a 0) (gidsOf a)) m r e → Reported (callOf image kind a) m r e
+    unfolding callOf
+    connect-called r k s = rw (ne-eqb kind 0 h, eq-eqb kind 1 k) s
+
+    module _ (j : kind ≡ 1 → ⊥) (n : ℕ) (p : n ≡ wordAt Little a 0) where
+      pub leave-called : kind ≡ 5 → (g : Gone) → Did (disconnectOn m n) g e
+          → Reported (callOf image kind a) m (record { answer = g .answer; taken = 0; kind = 0; number = g .bytes; count = 0 }) e
+      unfolding callOf placeOf
+      leave-called k g d =
+          rw (ne-eqb kind 0 h, ne-eqb kind 1 j, eq-eqb kind 5 k) (record { answer = gone g; ran = ran-leave (rw p at d); shows = record { are = refl } })
+
+      pub peer-called : (r : Report) → (kind ≡ 5 → ⊥) → Reported (peerCall image kind n (take (length a - 4) (drop 4 a))) m r e → Reported (callOf image kind a) m r e
+      unfolding callOf
+      peer-called r k s = rw (ne-eqb kind 0 h, ne-eqb kind 1 j, ne-eqb kind 5 k, ← p) (rw (rest-at 4 a) at s)
+
+pub ruleset calling = (long-enough, start-called, connect-called, leave-called, peer-called, needs)
+
+-- ---- the entry in front
+
+module _ (s : List ℕ) (g : Entry s) (k n : ℕ) (p : k ≡ wordAt Little s 0) (q : n ≡ wordAt Little s 4) where
+  pub step-end : 8 + n ≤ length s
+  step-end =
+      let l : 8 ≤ length s = g .long in
+      let i : sizeOf s ≤ length s - 8 = g .inside in
+      omega arith
+
+  pub step-sized : wellSized k (length (take (8 + n - 8) (drop 8 s))) ≡ true
+  step-sized =
+      let l : 8 ≤ length s = g .long in
+      let i : sizeOf s ≤ length s - 8 = g .inside in
+      let e : length (take (8 + n - 8) (drop 8 s)) ≡ sizeOf s
+      = ap length (cut-at 8 n s) ∙ length-take-le n (drop 8 s) (omega (arith, length-drop 8 s)) ∙ q in
+      rw (e, p) (g .sized)
+
+  pub step-done : (image m e y : List ℕ) (r : Report) → Reported (callOf image k (take (8 + n - 8) (drop 8 s))) m r e → y ≡ cells wordBytes (reportWords r)
+      → Stepped image s m e y
+  step-done image m e y r o w =
+      let x : Ran m e (callOf image k (take (8 + n - 8) (drop 8 s))) (o .answer) = o .ran in
+      record { answer = o .answer; ran = rw (cut-at 8 n s, p, q) at x; written = w ∙ o .shows .are }
+
+pub ruleset stepping = (step-end, step-sized, step-done, needs)

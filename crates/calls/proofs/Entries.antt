@@ -1,0 +1,170 @@
+-- The entries of a script: their lengths, and the layout to its end. Assumes nothing.
+use mathlib.Core.Path.{_≡_, refl, sym, ap, _∙_}
+use mathlib.Core.Bool.{Bool, true, false, not, cond, _&&_, false≢true}
+use mathlib.Core.List.{List, [], _∷_}
+use Prim.Native.Nat.{ℕ, zero, suc, _+_, _-_, _%_, _≤_, _<_}
+use native.Mathlib.Omega.{arith}
+use lib.Dec.{eqb, leb, ltb}
+use lib.ListN.{length, take, drop, length-drop}
+use borrow.Author.Needs.{needs}
+use borrow.Author.Tests.{eq-eqb, ne-eqb, lt-ltb, le-ltb, eqb-true, ltb-false, leb-true, not-true, not-false}
+use Rattle.wire.specs.Words.{wordAt}
+use Rattle.wire.specs.declared.Order.the-variants.{Little}
+use Rattle.wire.proofs.Texts.{both-first, both-second}
+use Rattle.wire.proofs.Words.{rest-at}
+use Rattle.calls.specs.Script.{kindOf, sizeOf, argumentOf, wellSized, entrySize, layout, calls, callOf}
+use Rattle.calls.specs.Steps.{Sized, Entry, Counted}
+
+-- ---- the length that a kind may have
+
+module _ (kind n : ℕ) where
+  pub sized-start : kind ≡ 0 → eqb n 0 ≡ wellSized kind n
+  unfolding wellSized
+  sized-start e = rw (eq-eqb kind 0 e)
+
+  module _ (h : kind ≡ 0 → ⊥) where
+    pub sized-connect : kind ≡ 1 → leb 4 n && eqb (n % 4) 0 ≡ wellSized kind n
+    unfolding wellSized
+    sized-connect e = rw (ne-eqb kind 0 h, eq-eqb kind 1 e)
+
+    module _ (k : kind ≡ 1 → ⊥) where
+      pub sized-leave : kind ≡ 5 → eqb n 4 ≡ wellSized kind n
+      unfolding wellSized
+      sized-leave e = rw (ne-eqb kind 0 h, ne-eqb kind 1 k, eq-eqb kind 5 e)
+
+      pub sized-peer : (kind ≡ 5 → ⊥) → ltb kind 5 && leb 4 n ≡ wellSized kind n
+      unfolding wellSized
+      sized-peer e = rw (ne-eqb kind 0 h, ne-eqb kind 1 k, ne-eqb kind 5 e)
+
+    -- all but a start begin with a word
+    pub at-least : wellSized kind n ≡ true → 4 ≤ n
+    unfolding wellSized
+    at-least w = go (eqb kind 1) refl (eqb kind 5) refl (rw (ne-eqb kind 0 h) at w)
+      where
+        go : (x : Bool) → eqb kind 1 ≡ x → (y : Bool) → eqb kind 5 ≡ y
+            → cond x (leb 4 n && eqb (n % 4) 0) (cond y (eqb n 4) (ltb kind 5 && leb 4 n)) ≡ true → 4 ≤ n
+        go true p y q e = leb-true 4 n (both-first (leb 4 n) (eqb (n % 4) 0) e)
+        go false p true q e = omega (arith, eqb-true n 4 e)
+        go false p false q e = leb-true 4 n (both-second (ltb kind 5) (leb 4 n) e)
+
+pub ruleset kinds = (sized-start, sized-connect, sized-leave, sized-peer, needs)
+
+-- ---- the first entry
+
+pub size-short : (s : List ℕ) → length s < 8 → Sized s 0
+unfolding entrySize
+size-short s h = record { is = rw (lt-ltb (length s) 8 h); inside = omega arith }
+
+module _ (s : List ℕ) (h : 8 ≤ length s) (k n : ℕ) (p : k ≡ wordAt Little s 0) (q : n ≡ wordAt Little s 4) (b : Bool) (e : b ≡ wellSized k n) where
+  pub size-bad : not b ≡ true → Sized s 0
+  unfolding entrySize
+  size-bad t = let w : wellSized (kindOf s) (sizeOf s) ≡ false = rw (← p, ← q) (sym e ∙ not-true b t) in record { is = rw (le-ltb (length s) 8 h, w); inside = omega arith }
+
+  module _ (t : not b ≡ false) where
+    pub size-cut : length s - 8 < n → Sized s 0
+    unfolding entrySize
+    size-cut l =
+        let w : wellSized (kindOf s) (sizeOf s) ≡ true = rw (← p, ← q) (sym e ∙ not-false b t) in
+        let x : ltb (length s - 8) (sizeOf s) ≡ true = rw (← q) (lt-ltb (length s - 8) n l) in
+        record { is = rw (le-ltb (length s) 8 h, w, x); inside = omega arith }
+
+    pub size-good : n ≤ length s - 8 → Sized s (8 + n)
+    unfolding entrySize
+    size-good l =
+        let w : wellSized (kindOf s) (sizeOf s) ≡ true = rw (← p, ← q) (sym e ∙ not-false b t) in
+        let x : ltb (length s - 8) (sizeOf s) ≡ false = rw (← q) (le-ltb (length s - 8) n l) in
+        record { is = rw (le-ltb (length s) 8 h, w, x, q); inside = omega arith }
+
+pub ruleset sizes = (size-short, size-bad, size-cut, size-good, needs)
+
+-- an entry of some length stands there
+pub entry-of : (s : List ℕ) → (entrySize s ≡ 0 → ⊥) → Entry s
+unfolding entrySize
+entry-of s h = go (ltb (length s) 8) refl (wellSized (kindOf s) (sizeOf s)) refl (ltb (length s - 8) (sizeOf s)) refl
+  where
+    go : (x : Bool) → ltb (length s) 8 ≡ x → (y : Bool) → wellSized (kindOf s) (sizeOf s) ≡ y → (z : Bool) → ltb (length s - 8) (sizeOf s) ≡ z → Entry s
+    go true p y q z r = absurd (h (rw p))
+    go false p false q z r = absurd (h (rw (p, q)))
+    go false p true q true r = absurd (h (rw (p, q, r)))
+    go false p true q false r = record { long = ltb-false (length s) 8 p; inside = ltb-false (length s - 8) (sizeOf s) r; sized = q }
+
+-- ---- one entry on
+
+pub layout-step : (f : ℕ) (s : List ℕ) → 0 < length s → (entrySize s ≡ 0 → ⊥) → layout (suc f) s ≡ layout f (drop (entrySize s) s)
+unfolding layout
+layout-step f s h k = rw (layout, ne-eqb (length s) 0 (λ e. omega arith), ne-eqb (entrySize s) 0 k)
+
+pub layout-stuck : (f : ℕ) (s : List ℕ) → 0 < length s → entrySize s ≡ 0 → layout f s ≡ false
+unfolding layout
+layout-stuck zero s h k = ne-eqb (length s) 0 (λ e. omega arith)
+layout-stuck (suc f) s h k = rw (layout, ne-eqb (length s) 0 (λ e. omega arith), eq-eqb (entrySize s) 0 k)
+
+pub layout-end : (f : ℕ) (s : List ℕ) → length s ≤ 0 → layout f s ≡ true
+unfolding layout
+layout-end zero s h = eq-eqb (length s) 0 (omega arith)
+layout-end (suc f) s h = let e : length s ≡ 0 = omega arith in rw (layout, eq-eqb (length s) 0 e)
+
+pub calls-step : (image : List ℕ) (f : ℕ) (s : List ℕ) → 0 < length s
+    → calls image (suc f) s ≡ callOf image (kindOf s) (argumentOf s) ∷ calls image f (drop (entrySize s) s)
+unfolding calls
+calls-step image f s h = rw (calls, ne-eqb (length s) 0 (λ e. omega arith))
+
+pub calls-end : (image : List ℕ) (f : ℕ) (s : List ℕ) → length s ≤ 0 → calls image f s ≡ []
+unfolding calls
+calls-end image zero s h = refl
+calls-end image (suc f) s h = let e : length s ≡ 0 = omega arith in rw (calls, eq-eqb (length s) 0 e)
+
+-- what is left behind an entry, as the code cuts it
+pub behind : {s : List ℕ} {k : ℕ} → Sized s k → take (length s - k) (drop k s) ≡ drop (entrySize s) s
+behind {s} {k} z = rest-at k s ∙ rw (z .is)
+
+-- a layout that holds has an entry in front
+pub front-entry : (f : ℕ) (s : List ℕ) → 0 < length s → layout f s ≡ true → entrySize s ≡ 0 → ⊥
+front-entry f s h w e = false≢true (sym (layout-stuck f s h e) ∙ w)
+
+-- ---- the count
+
+pub record Counting (s rest : List ℕ) (n : ℕ) : Type 0 where
+  pub fuel : ℕ
+  pub enough : length rest ≤ fuel
+  pub few : n + length rest ≤ length s
+  pub same : layout (length s) s ≡ layout fuel rest
+  pub many : (image : List ℕ) → length (calls image (length s) s) ≡ n + length (calls image fuel rest)
+
+pub counting-begins : (s : List ℕ) → Counting s s 0
+counting-begins s = record { fuel = length s; enough = omega arith; few = omega arith; same = refl; many = λ image. omega arith }
+
+module _ {s rest : List ℕ} {n : ℕ} (c : Counting s rest n) where
+  module _ (h : 0 < length rest) {k : ℕ} (z : Sized rest k) where
+    pub counting-more : (k ≡ 0 → ⊥) → Counting s (take (length rest - k) (drop k rest)) (n + 1)
+    counting-more e = go (c .fuel) (c .enough) (c .same) (c .many)
+      where
+        go : (f : ℕ) → length rest ≤ f → layout (length s) s ≡ layout f rest → ((image : List ℕ) → length (calls image (length s) s) ≡ n + length (calls image f rest))
+            → Counting s (take (length rest - k) (drop k rest)) (n + 1)
+        go zero l q m = absurd (omega arith)
+        go (suc f) l q m =
+            let w : n + length rest ≤ length s = c .few in
+            let i : k ≤ length rest = z .inside in
+            let j : k ≡ entrySize rest = z .is in
+            let d : length (drop (entrySize rest) rest) ≡ length rest - k = length-drop (entrySize rest) rest ∙ ap (λ (x : ℕ). length rest - x) (sym j) in
+            rw (behind z)
+            (record {
+              fuel = f;
+              enough = omega (arith, d);
+              few = omega (arith, d);
+              same = q ∙ layout-step f rest h (λ x. e (j ∙ x));
+              many = λ image. m image ∙ omega (arith, ap length (calls-step image f rest h));
+            })
+
+    pub counting-broken : k ≡ 0 → Counted s (record { whole = false; calls = 0 })
+    counting-broken e =
+        record { whole = sym (c .same ∙ layout-stuck (c .fuel) rest h (sym (z .is) ∙ e)); many = λ x. absurd (false≢true x) }
+
+  pub counting-ends : length rest ≤ 0 → Counted s (record { whole = true; calls = n })
+  counting-ends h =
+      record {
+        whole = sym (c .same ∙ layout-end (c .fuel) rest h);
+        many = λ x image. c .many image ∙ omega (arith, ap length (calls-end image (c .fuel) rest h));
+      }
+
+pub ruleset counting = (counting-begins, counting-more, counting-broken, counting-ends, needs)

@@ -1,0 +1,228 @@
+-- How far a script has been run, and that it ends as the model says. Assumes nothing.
+use mathlib.Core.Path.{_≡_, refl, sym, ap, _∙_}
+use mathlib.Core.Bool.{Bool, true, false, not}
+use mathlib.Core.List.{List, [], _∷_, _++_, append-assoc, append-nil}
+use Prim.Native.Nat.{ℕ, zero, suc, _+_, _-_, _*_, _/_, _≤_, _<_}
+use native.Mathlib.Omega.{arith}
+use lib.Dec.{eqb, ltb}
+use lib.ListN.{length, take, drop, length-append, length-drop}
+use lib.Seq.{take-at, drop-at, drop-drop}
+use borrow.Author.Needs.{needs}
+use borrow.Author.Tests.{eq-eqb, ne-eqb, lt-ltb, le-ltb, eqb-true, eqb-false, not-true, not-false}
+use Rattle.wire.specs.Words.{wordBytes}
+use Rattle.wire.proofs.Words.{word-length, rest-at, put-at}
+use Rattle.tables.specs.Tables.{cells}
+use Rattle.tables.proofs.Cells.{cells-length, cells-append}
+use Rattle.rules.specs.Calls.{empty}
+use Rattle.rules.specs.declared.Receiver.{Receiver}
+use Rattle.rules.specs.declared.Receiver.the-variants as to
+use Rattle.memory.specs.Layout.{memoryLength}
+use Rattle.memory.specs.Encoding.{memoryOf}
+use Rattle.memory.specs.Calls.{Did, startOn}
+use Rattle.book.specs.Lists.{Call, Answer, plain, connected, taken, gone, Ran, Run, done, then}
+use Rattle.book.specs.Bench.{receiver}
+use Rattle.book.proofs.List.{empty-claim}
+use Rattle.calls.specs.declared.Count.{Count}
+use Rattle.calls.specs.Script.{kindOf, argumentOf, entrySize, layout, calls, callOf, decode}
+use Rattle.calls.specs.Places.{wordsOf, placeOf, outcome, Ended}
+use Rattle.calls.specs.Steps.{Stepped, Sized, Entry, Counted, Ready, Replayed}
+use Rattle.calls.proofs.Entries.{entry-of, front-entry, layout-step, calls-step, calls-end, behind}
+
+-- ---- one call more at the end of a run
+
+run-more : {m d e : List ℕ} {cs : List Call} {given : List Answer} {c : Call} {a : Answer} → Run m cs given d → Ran d e c a
+    → Run m (cs ++ (c ∷ [])) (given ++ (a ∷ [])) e
+run-more done r = then r done
+run-more (then q qs) r = then q (run-more qs r)
+
+run-length : {m d : List ℕ} {cs : List Call} {given : List Answer} → Run m cs given d → length cs ≡ length given
+run-length done = refl
+run-length (then q qs) = ap suc (run-length qs)
+
+-- ---- places
+
+place-length : (a : Answer) → length (placeOf a) ≡ 28
+unfolding placeOf
+place-length a = cells-length 4 wordBytes word-length (wordsOf a) ∙ omega (arith, seven a)
+  where
+    to-three : (r : Receiver) → length (receiver r) ≡ 3
+    to-three to.Nobody = refl
+    to-three to.Bus = refl
+    to-three (to.Peer n) = refl
+    to-three (to.Slots mask n) = refl
+
+    seven : (x : Answer) → length (wordsOf x) ≡ 7
+    seven (plain n) = refl
+    seven (connected r) = refl
+    seven (taken r) = omega (arith, length-append (receiver (r .judgement .receiver)) (0 ∷ 0 ∷ []), to-three (r .judgement .receiver))
+    seven (gone r) = refl
+
+places-more : (given : List Answer) (a : Answer) → cells placeOf (given ++ (a ∷ [])) ≡ cells placeOf given ++ placeOf a
+unfolding cells
+places-more given a = cells-append placeOf given (a ∷ []) ∙ ap (λ (l : List ℕ). cells placeOf given ++ l) (append-nil (placeOf a))
+
+-- ---- the entries behind `rest` are to come; those before it have run
+
+pub record Going (image s m₀ x m y rest : List ℕ) (at : ℕ) : Type 0 where
+  pub fuel : ℕ
+  pub enough : length rest ≤ fuel
+  pub whole : layout fuel rest ≡ true
+  pub past : List Call
+  pub given : List Answer
+  pub ran : Run (memoryOf empty) past given m
+  pub all : calls image (length s) s ≡ past ++ calls image fuel rest
+  pub place : at ≡ 28 * length past
+  pub text : y ≡ cells placeOf given ++ drop at x
+  pub room : at + 28 * length (calls image fuel rest) ≤ length x
+  pub sized : length y ≡ length x
+  pub fits : length m ≡ length m₀
+
+pub going-begins : (image s m x : List ℕ) → Ready image s m x → Going image s m x m x s 0
+unfolding cells
+going-begins image s m x r =
+    let k : 28 * length (calls image (length s) s) ≤ length x = r .room in
+    record {
+      fuel = length s;
+      enough = omega arith;
+      whole = r .whole;
+      past = [];
+      given = [];
+      ran = rw (r .started) done;
+      all = refl;
+      place = refl;
+      text = refl;
+      room = omega arith;
+      sized = refl;
+      fits = refl;
+    }
+
+module _ {image s m₀ x m y rest : List ℕ} {at : ℕ} (g : Going image s m₀ x m y rest at) where
+  written : length (cells placeOf (g .given)) ≡ at
+  written = cells-length 28 placeOf place-length (g .given) ∙ omega (arith, run-length (g .ran), g .place)
+
+  module _ (h : 0 < length rest) where
+    pub going-room : at + 28 ≤ length y
+    going-room = go (g .fuel) (g .enough) (g .room)
+      where
+        go : (f : ℕ) → length rest ≤ f → at + 28 * length (calls image f rest) ≤ length x → at + 28 ≤ length y
+        go zero l r = absurd (omega arith)
+        go (suc f) l r = let z : length y ≡ length x = g .sized in omega (arith, ap length (calls-step image f rest h))
+
+    pub going-entry : Entry rest
+    going-entry = entry-of rest (front-entry (g .fuel) rest h (g .whole))
+
+    pub going-less : {k : ℕ} → Sized rest k → length (take (length rest - k) (drop k rest)) < length rest
+    going-less {k} z =
+        let p : 0 < k = go k (z .is) in
+        omega (arith, ap length (rest-at k rest), length-drop k rest)
+      where
+        go : (j : ℕ) → j ≡ entrySize rest → 0 < j
+        go zero q = absurd (front-entry (g .fuel) rest h (g .whole) (sym q))
+        go (suc j) q = omega arith
+
+    module _ {k : ℕ} (z : Sized rest k) (e w : List ℕ) (t : Stepped image rest m e w) (same : length e ≡ length m) where
+      goes : (f : ℕ) → length rest ≤ suc f → layout (suc f) rest ≡ true → calls image (length s) s ≡ g .past ++ calls image (suc f) rest
+          → at + 28 * length (calls image (suc f) rest) ≤ length x
+          → Going image s m₀ x e (take at y ++ (w ++ drop (at + 28) y)) (drop (entrySize rest) rest) (at + 28)
+      goes f l q a r =
+          let n : entrySize rest ≡ 0 → ⊥ = front-entry (suc f) rest h q in
+          let c = callOf image (kindOf rest) (argumentOf rest) in
+          let o = cells placeOf (g .given) in
+          let lw : length w ≡ 28 = ap length (t .written) ∙ place-length (t .answer) in
+          let ty : take at y ≡ o = ap (take at) (g .text) ∙ take-at o (drop at x) at written in
+          let dy : drop (at + 28) y ≡ drop (at + 28) x
+          = sym (drop-drop 28 at y) ∙ ap (λ (v : List ℕ). drop 28 (drop at v)) (g .text) ∙ ap (drop 28) (drop-at o (drop at x) at written) ∙ drop-drop 28 at x in
+          let b : cells placeOf (g .given ++ (t .answer ∷ [])) ≡ o ++ w = places-more (g .given) (t .answer) ∙ ap (λ (v : List ℕ). o ++ v) (sym (t .written)) in
+          let text : take at y ++ (w ++ drop (at + 28) y) ≡ cells placeOf (g .given ++ (t .answer ∷ [])) ++ drop (at + 28) x
+          = rw (ty, dy, b) (sym (append-assoc o w (drop (at + 28) x))) in
+          let lo : length (cells placeOf (g .given ++ (t .answer ∷ []))) ≡ at + 28 = ap length b ∙ length-append o w ∙ omega (arith, written) in
+          let d : length (drop (entrySize rest) rest) ≡ length rest - entrySize rest = length-drop (entrySize rest) rest in
+          let cs : length (calls image (suc f) rest) ≡ suc (length (calls image f (drop (entrySize rest) rest))) = ap length (calls-step image f rest h) in
+          record {
+            fuel = f;
+            enough = omega (arith, d);
+            whole = sym (layout-step f rest h n) ∙ q;
+            past = g .past ++ (c ∷ []);
+            given = g .given ++ (t .answer ∷ []);
+            ran = run-more (g .ran) (t .ran);
+            all =
+                a
+                ∙ ap (λ (v : List Call). g .past ++ v) (calls-step image f rest h)
+                ∙ sym (append-assoc (g .past) (c ∷ []) (calls image f (drop (entrySize rest) rest)));
+            place = omega (arith, g .place, length-append (g .past) (c ∷ []));
+            text = text;
+            room = omega arith;
+            sized = ap length text ∙ length-append (cells placeOf (g .given ++ (t .answer ∷ []))) (drop (at + 28) x) ∙ omega (arith, lo, length-drop (at + 28) x);
+            fits = same ∙ g .fits;
+          }
+
+      pub going-on : Going image s m₀ x e (take at y ++ (w ++ drop (at + 28 - at) (drop at y))) (take (length rest - k) (drop k rest)) (at + 28)
+      going-on = rw (behind z, put-at at 28 y w) (go (g .fuel) (g .enough) (g .whole) (g .all) (g .room))
+        where
+          go : (f : ℕ) → length rest ≤ f → layout f rest ≡ true → calls image (length s) s ≡ g .past ++ calls image f rest
+              → at + 28 * length (calls image f rest) ≤ length x
+              → Going image s m₀ x e (take at y ++ (w ++ drop (at + 28) y)) (drop (entrySize rest) rest) (at + 28)
+          go zero l q a r = absurd (omega arith)
+          go (suc f) l q a r = goes f l q a r
+
+  pub going-ends : length rest ≤ 0 → Replayed image s x m y
+  going-ends h =
+      let c : calls image (length s) s ≡ g .past = g .all ∙ ap (λ (v : List Call). g .past ++ v) (calls-end image (g .fuel) rest h) ∙ append-nil (g .past) in
+      let a = empty-claim (g .ran) in
+      record { memory = rw c (a .memory); room = rw (c, ← a .answered, ← g .place) (g .text) }
+
+pub ruleset going = (going-begins, going-room, going-entry, going-less, going-on, going-ends, needs)
+
+-- ---- the whole
+
+start-refused : (m e : List ℕ) (r : ℕ) → Did (startOn m) r e → (r ≡ 0 → ⊥) → (length m ≡ memoryLength → ⊥) × (e ≡ m)
+unfolding startOn
+start-refused m e r d h = go (eqb (length m) memoryLength) refl
+  where
+    go : (b : Bool) → eqb (length m) memoryLength ≡ b → (length m ≡ memoryLength → ⊥) × (e ≡ m)
+    go true q = absurd (h (rw q at (d .result)))
+    go false q = (eqb-false (length m) memoryLength q, rw q at (d .memory))
+
+start-done : (m e : List ℕ) (r : ℕ) → Did (startOn m) r e → r ≡ 0 → (length m ≡ memoryLength) × (e ≡ memoryOf empty)
+unfolding startOn
+start-done m e r d h = go (eqb (length m) memoryLength) refl
+  where
+    go : (b : Bool) → eqb (length m) memoryLength ≡ b → (length m ≡ memoryLength) × (e ≡ memoryOf empty)
+    go true q = (eqb-true (length m) memoryLength q, rw q at (d .memory))
+    go false q = let z : r ≡ 51 = rw q at (d .result) in absurd (omega arith)
+
+module _ (image s m x : List ℕ) (c : Count) (o : Counted s c) where
+  pub run-broken : not (c .whole) ≡ true → Ended (outcome image s m x) 67 m x
+  unfolding outcome decode
+  run-broken t =
+      let b : layout (length s) s ≡ false = sym (o .whole) ∙ not-true (c .whole) t in rw b (record { answer = refl; memory = refl; room = refl })
+
+  module _ (t : not (c .whole) ≡ false) where
+    laid : layout (length s) s ≡ true
+    laid = sym (o .whole) ∙ not-false (c .whole) t
+
+    counted : length (calls image (length s) s) ≡ c .calls
+    counted = o .many (not-false (c .whole) t) image
+
+    pub run-full : length x / 28 < c .calls → Ended (outcome image s m x) 68 m x
+    unfolding outcome decode
+    run-full l = rw (laid, counted, lt-ltb (length x / 28) (c .calls) l) (record { answer = refl; memory = refl; room = refl })
+
+    module _ (l : c .calls ≤ length x / 28) (e : List ℕ) (r : ℕ) (d : Did (startOn m) r e) where
+      pub run-unfit : (r ≡ 0 → ⊥) → Ended (outcome image s m x) 51 e x
+      unfolding outcome decode
+      run-unfit h =
+          let z = start-refused m e r d h in
+          rw (laid, counted, le-ltb (length x / 28) (c .calls) l, ne-eqb (length m) memoryLength (z .0)) (record { answer = refl; memory = z .1; room = refl })
+
+      module _ (h : r ≡ 0) where
+        pub run-ready : Ready image s e x
+        run-ready = record { whole = laid; started = start-done m e r d h .1; room = omega (arith, counted) }
+
+        pub run-done : (f y : List ℕ) → Replayed image s x f y → Ended (outcome image s m x) 0 f y
+        unfolding outcome decode
+        run-done f y p =
+            let z : ltb (length x / 28) (length (calls image (length s) s)) ≡ false = rw counted (le-ltb (length x / 28) (c .calls) l) in
+            rw (laid, z, eq-eqb (length m) memoryLength (start-done m e r d h .0)) (record { answer = refl; memory = p .memory; room = p .room })
+
+pub ruleset running = (run-broken, run-full, run-unfit, run-ready, run-done, needs)

@@ -1,0 +1,5 @@
+pub mod Entries
+pub mod Words
+pub mod Called
+pub mod Going
+pub mod Fuel

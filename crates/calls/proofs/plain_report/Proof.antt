@@ -1,0 +1,7 @@
+-- `calls::plain_report` meets its contract. Assumes nothing.
+use Rattle.calls.proofs.Called.{showing}
+use Rattle.calls.proofs.plain_report.Statement.{statement}
+use Rattle.calls.proofs.plain_report.Tie as tie
+
+pub plain-report-spec : {M : Type 1} → statement M
+plain-report-spec = tie.close (tie.spec (λ c. search showing))

@@ -1,0 +1,21 @@
+-- `calls::step` meets its contract. Assumes nothing.
+use Rattle.calls.proofs.Called.{stepping}
+use Rattle.calls.proofs.step.Statement.{statement}
+use Rattle.calls.proofs.step.Tie as tie
+
+pub step-spec : {M : Type 1} → statement M
+step-spec =
+    tie.close
+    (tie.spec
+    (λ c κs. search stepping)
+    (λ c κs. search stepping)
+    (λ c. search stepping)
+    (λ c. search stepping)
+    (λ c. search stepping)
+    (λ c. search stepping)
+    (λ c. search stepping)
+    (λ c κs. search stepping)
+    (λ c κs. search stepping)
+    (λ c. search stepping)
+    (λ c. search stepping)
+    (λ c. search stepping))

@@ -1,0 +1,63 @@
+-- What a script comes to: the model's answers, each in a place of seven little-endian words, and the bytes of what the model holds. Assumes nothing: these
+-- are definitions.
+use mathlib.Core.Bool.{cond}
+use mathlib.Core.List.{List, [], _∷_, _++_}
+use mathlib.Core.Option.{Option, none, some}
+use mathlib.Core.Path.{_≡_}
+use Prim.Native.Nat.{ℕ, _*_, _/_}
+use lib.Dec.{eqb, ltb}
+use lib.ListN.{length, drop}
+use Rattle.wire.specs.Words.{wordBytes}
+use Rattle.tables.specs.Tables.{cells}
+use Rattle.rules.specs.Calls.{empty}
+use Rattle.rules.proofs.View.{seen}
+use Rattle.memory.specs.Layout.{memoryLength}
+use Rattle.memory.specs.Encoding.{memoryOf}
+use Rattle.book.specs.Book.{tailView}
+use Rattle.book.specs.Lists.{Call, Answer, plain, connected, taken, gone, answers, after}
+use Rattle.book.specs.Bench.{receiver}
+use Rattle.calls.specs.Script.{decode}
+
+-- answer, taken, receiver kind, peer or mask or number or bytes, set slots or slot, 0, 0
+abbrev pub wordsOf : Answer → List ℕ
+wordsOf (plain a) = a ∷ 0 ∷ 0 ∷ 0 ∷ 0 ∷ 0 ∷ 0 ∷ []
+wordsOf (connected r) = r .answer ∷ 0 ∷ 0 ∷ r .number ∷ r .slot ∷ 0 ∷ 0 ∷ []
+wordsOf (taken r) = r .judgement .answer ∷ r .taken ∷ (receiver (r .judgement .receiver) ++ (0 ∷ 0 ∷ []))
+wordsOf (gone r) = r .answer ∷ 0 ∷ 0 ∷ r .bytes ∷ 0 ∷ 0 ∷ 0 ∷ []
+
+unfoldable pub placeOf : Answer → List ℕ
+placeOf a = cells wordBytes (wordsOf a)
+
+-- an answer, memory and the room for answers
+pub record Outcome : Type 0 where
+  pub answer : ℕ
+  pub memory : List ℕ
+  pub room : List ℕ
+
+-- a refusal changes nothing
+abbrev pub refused : ℕ → List ℕ → List ℕ → Outcome
+refused a m x = record { answer = a; memory = m; room = x }
+
+-- the model's answers to the calls from an empty guard on, in front of what stood behind them
+abbrev pub ran : List Call → List ℕ → Outcome
+ran cs x =
+    record {
+      answer = 0;
+      memory = memoryOf (seen tailView (after empty cs));
+      room = cells placeOf (answers empty cs) ++ drop (28 * length cs) x;
+    }
+
+-- 67 is a broken layout, 68 room for fewer answers than calls, 51 memory of another length
+abbrev pub told : Option (List Call) → List ℕ → List ℕ → Outcome
+told none m x = refused 67 m x
+told (some cs) m x =
+    cond (ltb (length x / 28) (length cs)) (refused 68 m x) (cond (eqb (length m) memoryLength) (ran cs x) (refused 51 m x))
+
+unfoldable pub outcome : List ℕ → List ℕ → List ℕ → List ℕ → Outcome
+outcome image s m x = told (decode image s) m x
+
+-- the whole contract
+pub record Ended (o : Outcome) (r : ℕ) (m x : List ℕ) : Type 0 where
+  pub answer : r ≡ o .answer
+  pub memory : m ≡ o .memory
+  pub room : x ≡ o .room
