@@ -1,0 +1,130 @@
+// A piece of any length, fed to the guard in the parts in which it is read.
+use crate::reader::Reader;
+use rules::Receiver;
+
+// What one part came to: how many bytes were offered, and how many were taken.
+struct Part {
+    reader: Reader,
+    offered: usize,
+    taken: usize,
+    answer: u8,
+    receiver: Receiver,
+}
+
+pub struct Fed {
+    pub reader: Reader,
+    pub taken: u64,
+    pub answer: u8,
+    pub receiver: Receiver,
+}
+
+// A receiver in numbers: 0 nobody, 1 the bus, 2 a peer, 3 a mask of slots.
+pub struct Shown {
+    pub kind: u64,
+    pub value: u64,
+    pub count: u64,
+}
+
+pub fn show(receiver: Receiver) -> Shown {
+    match receiver {
+        Receiver::Nobody => Shown {
+            kind: 0,
+            value: 0,
+            count: 0,
+        },
+        Receiver::Bus => Shown {
+            kind: 1,
+            value: 0,
+            count: 0,
+        },
+        Receiver::Peer(number) => Shown {
+            kind: 2,
+            value: number as u64,
+            count: 0,
+        },
+        Receiver::Slots(mask, count) => Shown {
+            kind: 3,
+            value: mask as u64,
+            count: count as u64,
+        },
+    }
+}
+
+// The part of the bytes that are in the buffer, or no bytes where the file is at its end.
+fn feed_part(
+    reader: Reader,
+    buffer: &mut [u8],
+    image: &[u8],
+    memory: &mut [u8],
+    peer: u32,
+    left: usize,
+) -> Part {
+    let filled = crate::reader::fill(reader, buffer);
+    let n = crate::reader::ready(filled, left);
+    let at = filled.at;
+    let taken = offer(buffer, at, n, image, memory, peer);
+    let judgement = taken.judgement;
+    let receiver = judgement.receiver;
+    Part {
+        reader: crate::reader::advance(filled, n),
+        offered: n,
+        taken: taken.taken,
+        answer: judgement.answer,
+        receiver,
+    }
+}
+
+fn offer(
+    buffer: &[u8],
+    at: usize,
+    n: usize,
+    image: &[u8],
+    memory: &mut [u8],
+    peer: u32,
+) -> rules::Taken {
+    if n <= buffer.len() {
+        if at <= buffer.len() - n {
+            let end = at + n;
+            return guard::piece(image, memory, peer, &buffer[at..end]);
+        }
+    }
+    guard::piece(image, memory, peer, &buffer[0..0])
+}
+
+// The last part, with the sum of those before it. What it left of the piece is read past.
+fn finish(last: Part, buffer: &mut [u8], before: u64, left: usize) -> Fed {
+    let offered = wire::least(last.offered, left);
+    let receiver = last.receiver;
+    Fed {
+        reader: crate::reader::skip(last.reader, buffer, left - offered),
+        taken: std::num::wrapping_add_u64(before, last.taken as u64),
+        answer: last.answer,
+        receiver,
+    }
+}
+
+// Feeds parts until one answers other than 10. The answer is that of a single call on the whole piece.
+pub fn feed(
+    reader: Reader,
+    buffer: &mut [u8],
+    image: &[u8],
+    memory: &mut [u8],
+    peer: u32,
+    length: usize,
+) -> Fed {
+    let mut left = length;
+    let mut taken = 0;
+    let mut now = feed_part(reader, buffer, image, memory, peer, left);
+    while now.answer == 10 {
+        if now.offered == 0 {
+            break;
+        }
+        if now.offered >= left {
+            break;
+        }
+        left -= now.offered;
+        taken = std::num::wrapping_add_u64(taken, now.taken as u64);
+        now = feed_part(now.reader, buffer, image, memory, peer, left);
+    }
+    finish(now, buffer, taken, left)
+}

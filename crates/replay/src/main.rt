@@ -1,0 +1,262 @@
+// Replays a capture: the file that the argument names holds an image and calls, and each call's answer is a line of standard output.
+// All numbers are little-endian u32s: the image's length, the image, then for each call its kind, its length and so many bytes. Kinds: 0 start, with nothing;
+// 1 connect, with uid and gids; 2 own and 3 release, with peer and name; 4 piece, with peer and bytes; 5 disconnect, with peer.
+// A line has the call's word, the answer and what the call reports. The last line is `bad capture` where the file cannot be read or its layout is broken.
+mod feed;
+mod reader;
+mod writer;
+
+use libc::STDOUT_FILENO;
+use reader::Reader;
+
+// What a replay carries from call to call: the file, and how much of the output's buffer is used.
+struct Run {
+    reader: Reader,
+    used: usize,
+}
+
+// The lengths that a call of each kind can have.
+fn is_call(kind: u32, length: u32) -> bool {
+    match kind {
+        0 => length == 0,
+        1 => (length >= 4) & (length % 4 == 0),
+        2..=4 => length >= 4,
+        5 => length == 4,
+        _ => false,
+    }
+}
+
+// The bytes of a call behind its first number.
+fn behind(length: u32) -> usize {
+    if length < 4 { 0 } else { (length - 4) as usize }
+}
+
+fn start(run: Run, memory: &mut [u8], out: &mut [u8]) -> Run {
+    let answer = guard::start(memory);
+    let reader = run.reader;
+    Run {
+        reader,
+        used: writer::line(out, run.used, b"start", &[answer as u64]),
+    }
+}
+
+fn ask_connect(
+    image: &[u8],
+    memory: &mut [u8],
+    uid: u32,
+    gids: &[u32],
+    out: &mut [u8],
+    used: usize,
+) -> usize {
+    let r = guard::connect(image, memory, uid, gids);
+    writer::line(
+        out,
+        used,
+        b"connect",
+        &[r.answer as u64, r.number as u64, r.slot as u64],
+    )
+}
+
+// Of the gids the first 17 are kept: one more than a peer can have, so that too many stay too many.
+fn connect(
+    run: Run,
+    length: u32,
+    buffer: &mut [u8],
+    image: &[u8],
+    memory: &mut [u8],
+    out: &mut [u8],
+) -> Run {
+    let uid = reader::next_word(run.reader, buffer);
+    let count = behind(length) / 4;
+    let mut gids = [0u32; 17];
+    let reader = reader::keep_words(uid.reader, buffer, &mut gids, count);
+    let used = run.used;
+    if !reader.is_sound {
+        return Run { reader, used };
+    }
+    let n = wire::least(count, 17);
+    let used = ask_connect(image, memory, uid.value, &gids[0..n], out, used);
+    Run { reader, used }
+}
+
+fn piece(
+    run: Run,
+    length: u32,
+    buffer: &mut [u8],
+    image: &[u8],
+    memory: &mut [u8],
+    out: &mut [u8],
+) -> Run {
+    let peer = reader::next_word(run.reader, buffer);
+    let fed = feed::feed(
+        peer.reader,
+        buffer,
+        image,
+        memory,
+        peer.value,
+        behind(length),
+    );
+    let reader = fed.reader;
+    let used = run.used;
+    if !reader.is_sound {
+        return Run { reader, used };
+    }
+    let receiver = fed.receiver;
+    let shown = feed::show(receiver);
+    let used = writer::line(
+        out,
+        used,
+        b"piece",
+        &[
+            fed.answer as u64,
+            fed.taken,
+            shown.kind,
+            shown.value,
+            shown.count,
+        ],
+    );
+    Run { reader, used }
+}
+
+fn ask(
+    kind: u32,
+    image: &[u8],
+    memory: &mut [u8],
+    peer: u32,
+    name: &[u8],
+    out: &mut [u8],
+    used: usize,
+) -> usize {
+    if kind == 2 {
+        let answer = guard::own(image, memory, peer, name);
+        return writer::line(out, used, b"own", &[answer as u64]);
+    }
+    if kind == 3 {
+        let answer = guard::release(memory, peer, name);
+        return writer::line(out, used, b"release", &[answer as u64]);
+    }
+    let gone = guard::disconnect(memory, peer);
+    writer::line(
+        out,
+        used,
+        b"disconnect",
+        &[gone.answer as u64, gone.bytes as u64],
+    )
+}
+
+// Own, release and disconnect. Of a name the first 256 bytes are kept: one more than a name can have, so that too long stays too long.
+fn named(
+    run: Run,
+    kind: u32,
+    length: u32,
+    buffer: &mut [u8],
+    image: &[u8],
+    memory: &mut [u8],
+    out: &mut [u8],
+) -> Run {
+    let peer = reader::next_word(run.reader, buffer);
+    let mut name = [0u8; 256];
+    let reader = reader::keep(peer.reader, buffer, &mut name, behind(length));
+    let used = run.used;
+    if !reader.is_sound {
+        return Run { reader, used };
+    }
+    let n = wire::least(behind(length), 256);
+    let used = ask(kind, image, memory, peer.value, &name[0..n], out, used);
+    Run { reader, used }
+}
+
+fn call(run: Run, buffer: &mut [u8], image: &[u8], memory: &mut [u8], out: &mut [u8]) -> Run {
+    let kind = reader::next_word(run.reader, buffer);
+    let length = reader::next_word(kind.reader, buffer);
+    let reader = length.reader;
+    let used = run.used;
+    let number = kind.value;
+    if !is_call(number, length.value) {
+        return Run {
+            reader: reader::broken(reader),
+            used,
+        };
+    }
+    let now = Run { reader, used };
+    if !reader.is_sound {
+        return now;
+    }
+    match number {
+        0 => start(now, memory, out),
+        1 => connect(now, length.value, buffer, image, memory, out),
+        4 => piece(now, length.value, buffer, image, memory, out),
+        _ => named(now, number, length.value, buffer, image, memory, out),
+    }
+}
+
+// The calls to the file's end or its first fault. Nothing says that a file ends, so the turns are counted down from a number that no run uses up.
+fn calls(first: Reader, buffer: &mut [u8], image: &[u8], memory: &mut [u8], out: &mut [u8]) -> Run {
+    let mut reader = reader::fill(first, buffer);
+    let mut used = 0;
+    let mut turns = u64::MAX;
+    while turns > 0 {
+        if reader::is_ended(reader) {
+            break;
+        }
+        let run = call(Run { reader, used }, buffer, image, memory, out);
+        reader = run.reader;
+        used = run.used;
+        if !reader.is_sound {
+            break;
+        }
+        reader = reader::fill(reader, buffer);
+        turns -= 1;
+    }
+    Run { reader, used }
+}
+
+// The image, then the calls. Of an image 65,537 bytes are kept at most: one more than an image can have, so that too long stays too long.
+fn replay(fd: i32, buffer: &mut [u8], image: &mut [u8], memory: &mut [u8], out: &mut [u8]) {
+    let first = Reader {
+        fd,
+        at: 0,
+        end: 0,
+        is_sound: true,
+    };
+    let length = reader::next_word(first, buffer);
+    let reader = reader::keep(length.reader, buffer, image, length.value as usize);
+    let n = wire::least(length.value as usize, image.len());
+    finish(reader, buffer, &image[0..n], memory, out);
+}
+
+fn finish(reader: Reader, buffer: &mut [u8], image: &[u8], memory: &mut [u8], out: &mut [u8]) {
+    if !reader.is_sound {
+        io::write_all(STDOUT_FILENO, b"bad capture\n");
+        return;
+    }
+    let run = calls(reader, buffer, image, memory, out);
+    let last = run.reader;
+    let used = run.used;
+    if last.is_sound {
+        writer::flush(out, used);
+        return;
+    }
+    let used = writer::line(out, used, b"bad capture", &[]);
+    writer::flush(out, used);
+}
+
+fn open(fd: i32) {
+    let mut buffer = [0u8; 65536];
+    let mut image = [0u8; 65537];
+    let mut memory = [0u8; 52676];
+    let mut out = [0u8; 65536];
+    replay(fd, &mut buffer, &mut image, &mut memory, &mut out);
+}
+
+fn main() {
+    let mut path = io::buffer();
+    let length = os::arg(1, &mut path);
+    let fd = os::open_read(&path[..length]);
+    if fd < 0 {
+        io::write_all(STDOUT_FILENO, b"bad capture\n");
+        return;
+    }
+    open(fd);
+    libc::close(fd);
+}

@@ -1,0 +1,134 @@
+//! Counting what a set of captures reaches: answers by call, and the cases of 7, 8, 9 and 50.
+
+use crate::answer::{Receiver, ANSWERS_OF_CALLS};
+use crate::capture;
+use crate::guard::Guard;
+use crate::header::{required_fields, HeadFault, Malformed};
+use crate::image::{self, Breach};
+use crate::replay::{run, Outcome};
+use std::collections::BTreeMap;
+
+#[derive(Default)]
+pub struct Coverage {
+    answers: BTreeMap<(u32, &'static str), u64>,
+    cases: BTreeMap<String, u64>,
+    calls: u64,
+    captures: u64,
+}
+
+fn case_of_fault(fault: HeadFault) -> Option<String> {
+    match fault {
+        HeadFault::Malformed(how) => Some(format!("7 {how:?}")),
+        HeadFault::BadValue(code) => Some(format!("8 field {code}")),
+        HeadFault::Missing(code) => Some(format!("9 field {code}")),
+        _ => None,
+    }
+}
+
+fn case_of_receiver(receiver: Receiver) -> Option<&'static str> {
+    match receiver {
+        Receiver::Nobody => None,
+        Receiver::Bus => Some("0 to the bus"),
+        Receiver::Peer(_) => Some("0 to one peer"),
+        Receiver::Slots(0) => Some("0 to an empty mask"),
+        Receiver::Slots(u16::MAX) => Some("0 to all 16 slots"),
+        Receiver::Slots(_) => Some("0 to a mask"),
+    }
+}
+
+/// Every case that a good set of captures meets. Number 39 needs more connects than a
+/// test can make, so it is not among the answers wanted.
+fn wanted_cases() -> Vec<String> {
+    let mut wanted: Vec<String> = Malformed::ALL.iter().map(|how| format!("7 {how:?}")).collect();
+    wanted.extend((1..=8).map(|code| format!("8 field {code}")));
+    for message_type in 1..=4 {
+        wanted.extend(required_fields(message_type).iter().map(|code| format!("9 field {code}")));
+    }
+    wanted.extend(Breach::ALL.iter().map(|breach| format!("50 {breach:?}")));
+    let receivers = ["the bus", "one peer", "an empty mask", "all 16 slots", "a mask"];
+    wanted.extend(receivers.iter().map(|who| format!("0 to {who}")));
+    let waits = ["begins", "ends by a reply", "ends by a disconnect"];
+    wanted.extend(waits.iter().map(|what| format!("wait {what}")));
+    wanted.push("bad capture".to_string());
+    wanted
+}
+
+impl Coverage {
+    fn count_case(&mut self, case: String) {
+        *self.cases.entry(case).or_default() += 1;
+    }
+
+    /// Adds the calls of a capture file.
+    pub fn add(&mut self, file: &[u8]) {
+        let reading = capture::read(file);
+        let policy = image::read(&reading.capture.image);
+        if let Err(bad) = &policy {
+            self.count_case(format!("50 {:?}", bad.breach));
+        }
+        if !reading.is_whole {
+            self.count_case("bad capture".to_string());
+        }
+        let mut guard = Guard::default();
+        for call in &reading.capture.calls {
+            let waits = guard.waits().len();
+            let outcome = run(&mut guard, policy.as_ref().ok(), call);
+            self.count(outcome);
+            self.count_waits(outcome, waits, guard.waits().len());
+        }
+        self.captures += 1;
+    }
+
+    fn count(&mut self, outcome: Outcome) {
+        self.calls += 1;
+        *self.answers.entry((outcome.answer().number(), outcome.call_name())).or_default() += 1;
+        if let Outcome::Piece(judged) = outcome {
+            if let Some(case) = judged.fault.and_then(case_of_fault) {
+                self.count_case(case);
+            }
+            if let Some(case) = case_of_receiver(judged.receiver) {
+                self.count_case(case.to_string());
+            }
+        }
+    }
+
+    fn count_waits(&mut self, outcome: Outcome, before: usize, after: usize) {
+        let case = match outcome {
+            Outcome::Piece(_) if after > before => "wait begins",
+            Outcome::Piece(_) if after < before => "wait ends by a reply",
+            Outcome::Disconnect(_) if after < before => "wait ends by a disconnect",
+            _ => return,
+        };
+        self.count_case(case.to_string());
+    }
+
+    /// What was never met, one line each.
+    pub fn never(&self) -> Vec<String> {
+        let mut never = Vec::new();
+        for (call, answers) in ANSWERS_OF_CALLS {
+            for &answer in answers.iter().filter(|answer| **answer != 39) {
+                if !self.answers.contains_key(&(answer, call)) {
+                    never.push(format!("answer {answer} from {call}"));
+                }
+            }
+        }
+        never.extend(wanted_cases().into_iter().filter(|case| !self.cases.contains_key(case)));
+        never
+    }
+
+    pub fn report(&self) -> String {
+        let mut text = format!("{} captures, {} calls\n", self.captures, self.calls);
+        let mut totals: BTreeMap<u32, (u64, String)> = BTreeMap::new();
+        for ((answer, call), count) in &self.answers {
+            let (total, calls) = totals.entry(*answer).or_default();
+            *total += count;
+            calls.push_str(&format!(" {call} {count}"));
+        }
+        for (answer, (total, calls)) in totals {
+            text += &format!("answer {answer}: {total} ({})\n", calls.trim_start());
+        }
+        for (case, count) in &self.cases {
+            text += &format!("case {case}: {count}\n");
+        }
+        text
+    }
+}

@@ -1,0 +1,127 @@
+//! Seeded captures that reach every answer a test can reach.
+
+mod faults;
+mod full;
+mod images;
+mod messages;
+mod policies;
+pub mod random;
+mod split;
+mod vocabulary;
+mod world;
+
+use crate::capture::{self, Capture};
+use crate::replay::lent_policy;
+use random::Random;
+use world::World;
+
+/// What kind of capture is wanted.
+#[derive(Clone, Copy, Debug, PartialEq, Eq)]
+pub enum Mode {
+    /// A good policy and all kinds of calls.
+    Mixed,
+    /// An open policy and a guard that is filled to its limits again and again.
+    Full,
+    /// A policy image that breaks a rule.
+    BadImage,
+    /// A capture whose layout is broken.
+    BadLayout,
+}
+
+impl Mode {
+    pub fn of_word(word: &str) -> Option<Mode> {
+        match word {
+            "mixed" => Some(Mode::Mixed),
+            "full" => Some(Mode::Full),
+            "image" => Some(Mode::BadImage),
+            "layout" => Some(Mode::BadLayout),
+            _ => None,
+        }
+    }
+}
+
+/// The bytes of the capture file that `seed` stands for.
+pub fn generate(seed: u64, calls: usize, mode: Mode) -> Vec<u8> {
+    let mut random = Random::new(seed);
+    let (policy, image) = match mode {
+        Mode::BadImage => {
+            let image = images::broken(&mut random);
+            (lent_policy(&image), image)
+        }
+        Mode::Full => {
+            let (policy, image) = policies::open_image(&mut random);
+            (Some(policy), image)
+        }
+        Mode::Mixed | Mode::BadLayout => {
+            let (policy, image) = policies::policy_and_image(&mut random);
+            (Some(policy), image)
+        }
+    };
+    let mut world = World::new(random, policy);
+    let mut next_fill = 0;
+    while world.calls.len() < calls {
+        if mode == Mode::Full && world.calls.len() >= next_fill {
+            full::fill(&mut world);
+            next_fill = world.calls.len() + 300;
+            continue;
+        }
+        if let Some(peer) = world.step() {
+            world.send_piece(peer);
+        }
+    }
+    let file = capture::write(&Capture { image, calls: world.calls });
+    match mode {
+        Mode::BadLayout => loop {
+            // A file that is cut just between two calls is whole.
+            let broken = break_layout(&mut world.random, file.clone());
+            if !capture::read(&broken).is_whole {
+                break broken;
+            }
+        },
+        Mode::Mixed | Mode::Full | Mode::BadImage => file,
+    }
+}
+
+/// The captures of mode `split`: offered whole, and cut at other places.
+pub fn generate_pair(seed: u64, calls: usize) -> (Vec<u8>, Vec<u8>) {
+    let mut random = Random::new(seed);
+    let (policy, image) = policies::policy_and_image(&mut random);
+    let pair = split::generate(random, &policy, calls);
+    let file = |calls| capture::write(&Capture { image: image.clone(), calls });
+    (file(pair.whole), file(pair.split))
+}
+
+/// Breaks the layout: a file cut short, or a call that no capture may have.
+fn break_layout(random: &mut Random, mut file: Vec<u8>) -> Vec<u8> {
+    let image_length = u32::from_le_bytes([file[0], file[1], file[2], file[3]]);
+    match random.below(10) {
+        0 => file.truncate(random.below(8)),
+        1 => file[..4].copy_from_slice(&u32::MAX.to_le_bytes()),
+        2 => file.truncate(4 + image_length as usize - 1),
+        3..=5 => file.truncate(random.between(file.len() / 2, file.len() - 1)),
+        _ => {
+            let (kind, length): (u32, u32) = random.pick(&[
+                (0, 1),
+                (1, 0),
+                (1, 3),
+                (1, 7),
+                (2, 3),
+                (3, 0),
+                (4, 3),
+                (5, 0),
+                (5, 5),
+                (6, 4),
+                (u32::MAX, 0),
+                (4, u32::MAX),
+            ]);
+            file.extend(kind.to_le_bytes());
+            file.extend(length.to_le_bytes());
+            file.extend(random.bytes(length.min(100) as usize));
+            if random.chance(50) {
+                // A good start call behind the fault must not be run any more.
+                file.extend([0; 8]);
+            }
+        }
+    }
+    file
+}

@@ -1,0 +1,135 @@
+//! Random policies, from wide open to full sections.
+
+use super::random::Random;
+use super::vocabulary;
+use crate::image::{MAX_CONNECT, MAX_LENGTH, MAX_OWN, MAX_TRANSACTION};
+use crate::image_write;
+use crate::policy::{
+    ConnectRule, Context, Direction, Gid, NameMatcher, OwnRule, Policy, TransactionRule, Uid, Verdict, Who,
+};
+
+/// A random policy and its image, whose string area may hold bytes that no rule cites.
+pub fn policy_and_image(random: &mut Random) -> (Policy, Vec<u8>) {
+    let policy = policy(random);
+    let mut image = image_write::write(&policy).unwrap_or_default();
+    let spare = MAX_LENGTH.saturating_sub(image.len());
+    let uncited = match random.below(20) {
+        0 => spare,
+        1..=3 => random.below(30).min(spare),
+        _ => 0,
+    };
+    image.extend(random.bytes(uncited));
+    let total = image.len() as u32;
+    image[..4].copy_from_slice(&total.to_le_bytes());
+    (policy, image)
+}
+
+fn policy(random: &mut Random) -> Policy {
+    let (opens, connect, own, transaction) = match random.below(20) {
+        0..=7 => (true, random.below(3), random.below(4), random.below(5)),
+        8..=14 => (true, random.below(6), random.below(12), random.between(4, 30)),
+        15..=17 => (false, random.between(2, 8), random.between(4, 20), random.between(8, 60)),
+        18 => (true, 3, 8, 20),
+        _ => (true, MAX_CONNECT - 1, MAX_OWN - 1, MAX_TRANSACTION - 2),
+    };
+    let mut policy = open();
+    if !opens {
+        // Somebody must connect, or nothing would happen; the rest is up to the rules.
+        policy.own.clear();
+        policy.transaction.clear();
+    }
+    policy.connect.extend((0..connect).map(|_| connect_rule(random)));
+    policy.own.extend((0..own).map(|_| own_rule(random)));
+    policy.transaction.extend((0..transaction).map(|_| transaction_rule(random)));
+    policy
+}
+
+/// A policy that lets everything pass, in the shortest form or with full sections.
+pub fn open_image(random: &mut Random) -> (Policy, Vec<u8>) {
+    let mut policy = open();
+    if random.chance(50) {
+        // The rules that decide stand first or last among many that never match.
+        let first = random.chance(50);
+        let (own, transaction) = (policy.own.clone(), policy.transaction.clone());
+        policy.own = vec![own_rule(random); MAX_OWN - 1];
+        policy.transaction = vec![transaction_rule(random); MAX_TRANSACTION - 2];
+        let no_peer = Context::User(Uid(77));
+        policy.own.iter_mut().for_each(|rule| rule.context = no_peer);
+        policy.transaction.iter_mut().for_each(|rule| rule.context = no_peer);
+        let at = |length: usize| if first { 0 } else { length };
+        policy.own.splice(at(MAX_OWN - 1)..at(MAX_OWN - 1), own);
+        policy.transaction.splice(at(MAX_TRANSACTION - 2)..at(MAX_TRANSACTION - 2), transaction);
+    }
+    let image = image_write::write(&policy).unwrap_or_default();
+    (policy, image)
+}
+
+/// A default allow for everything; the random rules then cut holes into it.
+pub fn open() -> Policy {
+    let (context, verdict) = (Context::Default, Verdict::Allow);
+    let pass = |direction| TransactionRule {
+        context,
+        verdict,
+        direction,
+        message_type: None,
+        name: None,
+        path: None,
+        interface: None,
+        member: None,
+    };
+    Policy {
+        connect: vec![ConnectRule { context, verdict, who: Who::Any }],
+        own: vec![OwnRule { context, verdict, name: NameMatcher::Any }],
+        transaction: vec![pass(Direction::Send), pass(Direction::Receive)],
+    }
+}
+
+fn context(random: &mut Random) -> Context {
+    match random.below(10) {
+        0..=3 => Context::Default,
+        4..=5 => Context::Group(Gid(vocabulary::id(random))),
+        6..=7 => Context::User(Uid(vocabulary::id(random))),
+        _ => Context::Mandatory,
+    }
+}
+
+fn verdict(random: &mut Random) -> Verdict {
+    match random.chance(55) {
+        true => Verdict::Allow,
+        false => Verdict::Deny,
+    }
+}
+
+fn connect_rule(random: &mut Random) -> ConnectRule {
+    let context = if random.chance(70) { Context::Default } else { Context::Mandatory };
+    let who = match random.below(10) {
+        0 => Who::Any,
+        1..=5 => Who::Uid(Uid(vocabulary::id(random))),
+        _ => Who::Gid(Gid(vocabulary::id(random))),
+    };
+    ConnectRule { context, verdict: verdict(random), who }
+}
+
+fn own_rule(random: &mut Random) -> OwnRule {
+    let name = match random.below(10) {
+        0 => NameMatcher::Any,
+        1..=5 => NameMatcher::Name(vocabulary::name(random)),
+        _ => NameMatcher::Prefix(vocabulary::name(random)),
+    };
+    OwnRule { context: context(random), verdict: verdict(random), name }
+}
+
+fn transaction_rule(random: &mut Random) -> TransactionRule {
+    let direction = if random.chance(50) { Direction::Send } else { Direction::Receive };
+    let message_type = random.pick(&[None, None, Some(1), Some(4)]);
+    TransactionRule {
+        context: context(random),
+        verdict: verdict(random),
+        direction,
+        message_type,
+        name: random.chance(50).then(|| vocabulary::name(random)),
+        path: random.chance(20).then(|| vocabulary::path(random)),
+        interface: random.chance(20).then(|| vocabulary::interface(random)),
+        member: random.chance(20).then(|| vocabulary::member(random)),
+    }
+}

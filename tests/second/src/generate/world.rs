@@ -1,0 +1,248 @@
+//! The peers of a generated capture: what they do next, and what they still have to send.
+
+use super::random::Random;
+use super::{faults, messages, vocabulary};
+use crate::capture::Call;
+use crate::guard::Guard;
+use crate::message::Message;
+use crate::names::unique_name_of;
+use crate::policy::{Gid, Policy, Uid};
+use crate::replay::{run, Outcome};
+use std::collections::BTreeMap;
+
+/// Beyond this many missing bytes a peer would swallow the rest of the capture.
+const ENDLESS: u64 = 2_000;
+
+/// How a stretch of the capture behaves; it changes now and then.
+#[derive(Clone, Copy)]
+struct Phase {
+    peers: usize,
+    cut: Cut,
+    faults: usize,
+}
+
+#[derive(Clone, Copy)]
+enum Cut {
+    Whole,
+    EachByte,
+    Anywhere,
+    Borders,
+}
+
+pub struct World {
+    pub random: Random,
+    pub guard: Guard,
+    policy: Option<Policy>,
+    /// Bytes that a peer has not yet offered.
+    unsent: BTreeMap<u32, Vec<u8>>,
+    phase: Phase,
+    pub calls: Vec<Call>,
+}
+
+impl World {
+    pub fn new(mut random: Random, policy: Option<Policy>) -> World {
+        let phase = new_phase(&mut random);
+        World { random, guard: Guard::default(), policy, unsent: BTreeMap::new(), phase, calls: Vec::new() }
+    }
+
+    /// Makes a call on the generator's own guard, so that the next steps can aim well.
+    pub fn call(&mut self, call: Call) -> Outcome {
+        let outcome = run(&mut self.guard, self.policy.as_ref(), &call);
+        self.calls.push(call);
+        outcome
+    }
+
+    /// One step of the world: a call that is not a piece, or a peer to send something.
+    pub fn step(&mut self) -> Option<u32> {
+        if self.random.chance(1) {
+            self.phase = new_phase(&mut self.random);
+        }
+        let peers = self.guard.peers().count();
+        let connect = if peers < self.phase.peers { 20 } else { 2 };
+        let disconnect = if peers > self.phase.peers { 8 } else { 1 };
+        match self.random.below(1000) {
+            0 => self.start(),
+            1..=15 => self.call_for_a_stranger(),
+            16..=75 => self.own_or_release(),
+            76..=77 => self.own_too_much(),
+            _ if peers == 0 && self.random.chance(30) => self.call_for_a_stranger(),
+            _ if peers == 0 || self.random.chance(connect) => self.connect(),
+            _ if self.random.chance(disconnect) => self.disconnect_someone(),
+            _ => return self.choose_sender(),
+        }
+        None
+    }
+
+    fn start(&mut self) {
+        self.unsent.clear();
+        self.call(Call::Start);
+    }
+
+    fn connect(&mut self) {
+        let count = match self.random.below(20) {
+            0 => 16,
+            1 => 17,
+            2 => self.random.between(18, 30),
+            _ => self.random.below(4),
+        };
+        let gids = (0..count).map(|_| Gid(vocabulary::id(&mut self.random))).collect();
+        let uid = Uid(vocabulary::id(&mut self.random));
+        self.call(Call::Connect { uid, gids });
+    }
+
+    fn disconnect(&mut self, peer: u32) {
+        self.unsent.remove(&peer);
+        self.call(Call::Disconnect { peer });
+    }
+
+    fn disconnect_someone(&mut self) {
+        let peer = self.any_peer();
+        self.disconnect(peer);
+    }
+
+    /// A connected peer, the oldest more often, so that a few of them meet a lot.
+    fn any_peer(&mut self) -> u32 {
+        let peers: Vec<u32> = self.guard.peers().map(|peer| peer.number).collect();
+        match peers.len() {
+            0 => 1,
+            length if self.random.chance(50) => peers[self.random.below(length.min(3))],
+            length => peers[self.random.below(length)],
+        }
+    }
+
+    fn call_for_a_stranger(&mut self) {
+        let given = self.guard.last_number();
+        let peer = self.random.pick(&[0, given.wrapping_add(1), u32::MAX, given.saturating_sub(17)]);
+        let name = vocabulary::name(&mut self.random).into_bytes();
+        let call = match self.random.below(4) {
+            0 => Call::Own { peer, name },
+            1 => Call::Release { peer, name },
+            2 => Call::Piece { peer, bytes: self.random.bytes(3) },
+            _ => Call::Disconnect { peer },
+        };
+        self.call(call);
+    }
+
+    fn own_or_release(&mut self) {
+        let peer = self.any_peer();
+        let held: Vec<String> = self.guard.peer(peer).map(|peer| peer.names.clone()).unwrap_or_default();
+        let owns = self.random.chance(70);
+        let held_again = if owns { 2 } else { 6 };
+        let name = match self.random.below(10) {
+            0 => vocabulary::not_well_known(&mut self.random),
+            choice if choice <= held_again && !held.is_empty() => self.random.pick(&held),
+            _ => vocabulary::name(&mut self.random),
+        };
+        let name = name.into_bytes();
+        let call = match owns {
+            true => Call::Own { peer, name },
+            false => Call::Release { peer, name },
+        };
+        self.call(call);
+    }
+
+    /// One name more than a peer may hold, none of which is likely to be taken.
+    fn own_too_much(&mut self) {
+        let peer = self.any_peer();
+        for index in 0..5 {
+            self.call(Call::Own { peer, name: format!("org.foo.p{peer}.n{index}").into_bytes() });
+        }
+    }
+
+    /// A peer that may go on sending. Broken and endless streams end soon.
+    fn choose_sender(&mut self) -> Option<u32> {
+        let peer = self.any_peer();
+        let stream = &self.guard.peer(peer)?.stream;
+        let is_stuck = stream.is_closed() || stream.wanted().is_some_and(|wanted| wanted > ENDLESS);
+        if is_stuck && self.random.chance(60) {
+            self.disconnect(peer);
+            return None;
+        }
+        Some(peer)
+    }
+
+    /// Bytes that the peer offers when its turn comes.
+    pub fn send_later(&mut self, peer: u32, bytes: Vec<u8>) {
+        self.unsent.insert(peer, bytes);
+    }
+
+    /// Offers the next bytes of a peer in one call.
+    pub fn send_piece(&mut self, peer: u32) {
+        if self.random.chance(2) {
+            self.call(Call::Piece { peer, bytes: Vec::new() });
+            return;
+        }
+        if self.random.chance(2) {
+            // Something else than what the peer began comes next.
+            self.unsent.remove(&peer);
+        }
+        let mut unsent = self.unsent.remove(&peer).unwrap_or_default();
+        if unsent.is_empty() {
+            unsent = self.new_bytes(peer);
+        }
+        let length = self.cut_length(peer, unsent.len());
+        let outcome = self.call(Call::Piece { peer, bytes: unsent[..length].to_vec() });
+        let Outcome::Piece(judged) = outcome else { return };
+        if !judged.answer.ends_an_offer() {
+            unsent.drain(..judged.taken);
+            self.unsent.insert(peer, unsent);
+        }
+    }
+
+    /// How much of the unsent bytes goes into the next piece.
+    fn cut_length(&mut self, peer: u32, unsent: usize) -> usize {
+        let to_the_end = self.guard.peer(peer).and_then(|peer| peer.stream.wanted()).unwrap_or(16) as usize;
+        let length = match self.phase.cut {
+            Cut::Whole => unsent,
+            Cut::EachByte => 1,
+            Cut::Anywhere => self.random.between(1, unsent),
+            Cut::Borders => (to_the_end + self.random.below(3)).saturating_sub(1).max(1),
+        };
+        length.min(unsent)
+    }
+
+    /// One message or several, good or broken, or plain noise.
+    pub fn new_bytes(&mut self, peer: u32) -> Vec<u8> {
+        match self.random.below(100) {
+            0 => {
+                let length = self.random.between(1, 40);
+                self.random.bytes(length)
+            }
+            1 => self.burst_of_calls(),
+            2..=12 => {
+                let count = self.random.between(2, 5);
+                (0..count).flat_map(|_| self.one_message(peer)).collect()
+            }
+            _ => self.one_message(peer),
+        }
+    }
+
+    fn one_message(&mut self, peer: u32) -> Vec<u8> {
+        if self.random.chance(2) {
+            return messages::at_limit(&mut self.random).bytes();
+        }
+        let message = messages::good(&mut self.random, &self.guard, peer);
+        match self.random.chance(self.phase.faults) {
+            true => faults::broken(&mut self.random, &message),
+            false => message.bytes(),
+        }
+    }
+
+    /// More calls to one peer than may wait for a reply.
+    fn burst_of_calls(&mut self) -> Vec<u8> {
+        let to = unique_name_of(self.any_peer());
+        let first = self.random.pick(&[1_u32, 3, 50, u32::MAX - 17]);
+        let count = self.random.between(15, 18) as u32;
+        (0..count).flat_map(|more| Message::call(first + more, "/", "M").to(&to).bytes()).collect()
+    }
+}
+
+fn new_phase(random: &mut Random) -> Phase {
+    let cut = match random.below(20) {
+        0..=8 => Cut::Whole,
+        9 => Cut::EachByte,
+        10..=14 => Cut::Anywhere,
+        _ => Cut::Borders,
+    };
+    Phase { peers: random.pick(&[1, 2, 3, 3, 5, 8, 16, 16]), cut, faults: random.pick(&[0, 2, 10, 25]) }
+}

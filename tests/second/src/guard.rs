@@ -1,0 +1,320 @@
+//! The guard: its peers, the names they own, their streams and the waiting calls.
+
+use crate::answer::{Answer, Receiver};
+use crate::header::{HeadFault, Header, ERROR, METHOD_CALL, METHOD_RETURN, SIGNAL};
+use crate::names::{is_well_known, unique_name_of, BUS_NAME};
+use crate::policy::{Credentials, Gid, Policy, Uid};
+use crate::stream::{Step, Stream};
+
+pub const SLOTS: usize = 16;
+pub const MAX_GIDS: usize = 16;
+pub const MAX_NAMES: usize = 4;
+pub const MAX_WAITS: usize = 16;
+
+#[derive(Clone, Debug)]
+pub struct Peer {
+    pub number: u32,
+    pub uid: Uid,
+    pub gids: Vec<Gid>,
+    pub names: Vec<String>,
+    pub stream: Stream,
+}
+
+impl Peer {
+    fn credentials(&self) -> Credentials<'_> {
+        Credentials { uid: self.uid, gids: &self.gids }
+    }
+}
+
+/// A call that passed and awaits its reply.
+#[derive(Clone, Copy, Debug, PartialEq, Eq)]
+pub struct Wait {
+    pub caller: u32,
+    pub callee: u32,
+    pub serial: u32,
+}
+
+#[derive(Clone, Copy, Debug, PartialEq, Eq)]
+pub struct Connected {
+    pub answer: Answer,
+    pub number: u32,
+    pub slot: usize,
+}
+
+#[derive(Clone, Copy, Debug, PartialEq, Eq)]
+pub struct Disconnected {
+    pub answer: Answer,
+    pub bytes: u64,
+}
+
+/// What a piece call says. The fault tells why 1 to 9 came, for people and tests.
+#[derive(Clone, Copy, Debug, PartialEq, Eq)]
+pub struct Judged {
+    pub answer: Answer,
+    pub taken: usize,
+    pub receiver: Receiver,
+    pub fault: Option<HeadFault>,
+}
+
+impl Judged {
+    fn refused(answer: Answer, taken: usize) -> Judged {
+        Judged { answer, taken, receiver: Receiver::Nobody, fault: None }
+    }
+}
+
+/// Where a destination leads.
+#[derive(Clone, Copy, Debug, PartialEq, Eq)]
+enum Resolved<'a> {
+    Absent,
+    Bus,
+    Peer(&'a str),
+}
+
+/// A policy is lent to each call that needs one; `None` stands for a bad image.
+pub type LentPolicy<'a> = Option<&'a Policy>;
+
+/// A refusal leaves everything as it was, apart from the bytes taken.
+type Verdict = Result<Receiver, Answer>;
+
+#[derive(Clone, Debug, Default)]
+pub struct Guard {
+    last_number: u32,
+    slots: [Option<Peer>; SLOTS],
+    waits: Vec<Wait>,
+}
+
+impl Guard {
+    /// Start empties everything, the last number too.
+    pub fn start(&mut self) -> Answer {
+        *self = Guard::default();
+        Answer::Done
+    }
+
+    pub fn peers(&self) -> impl Iterator<Item = &Peer> {
+        self.slots.iter().flatten()
+    }
+
+    pub fn peer(&self, number: u32) -> Option<&Peer> {
+        self.peers().find(|peer| peer.number == number)
+    }
+
+    pub fn waits(&self) -> &[Wait] {
+        &self.waits
+    }
+
+    pub fn last_number(&self) -> u32 {
+        self.last_number
+    }
+
+    /// For tests of the last number only: no run could connect so many peers.
+    pub fn with_last_number(last_number: u32) -> Guard {
+        Guard { last_number, ..Guard::default() }
+    }
+
+    fn peer_mut(&mut self, number: u32) -> Option<&mut Peer> {
+        self.slots.iter_mut().flatten().find(|peer| peer.number == number)
+    }
+
+    pub fn connect(&mut self, policy: LentPolicy, uid: Uid, gids: &[Gid]) -> Connected {
+        match self.try_connect(policy, uid, gids) {
+            Ok((number, slot)) => Connected { answer: Answer::Done, number, slot },
+            Err(answer) => Connected { answer, number: 0, slot: 0 },
+        }
+    }
+
+    fn try_connect(&mut self, policy: LentPolicy, uid: Uid, gids: &[Gid]) -> Result<(u32, usize), Answer> {
+        let policy = policy.ok_or(Answer::BadImage)?;
+        if gids.len() > MAX_GIDS {
+            return Err(Answer::TooManyGids);
+        }
+        if !policy.allows_connect(Credentials { uid, gids }) {
+            return Err(Answer::ConnectDenied);
+        }
+        let slot = self.slots.iter().position(Option::is_none).ok_or(Answer::SlotsFull)?;
+        let number = self.last_number.checked_add(1).ok_or(Answer::NumbersUsedUp)?;
+        self.last_number = number;
+        let (gids, names, stream) = (gids.to_vec(), Vec::new(), Stream::default());
+        self.slots[slot] = Some(Peer { number, uid, gids, names, stream });
+        Ok((number, slot))
+    }
+
+    pub fn own(&mut self, policy: LentPolicy, number: u32, name: &[u8]) -> Answer {
+        self.try_own(policy, number, name).err().unwrap_or(Answer::Done)
+    }
+
+    fn try_own(&mut self, policy: LentPolicy, number: u32, name: &[u8]) -> Result<(), Answer> {
+        let policy = policy.ok_or(Answer::BadImage)?;
+        let peer = self.peer(number).ok_or(Answer::NoSuchPeer)?;
+        let name = ownable(name).ok_or(Answer::NotAName)?;
+        if !policy.allows_own(peer.credentials(), &name) {
+            return Err(Answer::OwnDenied);
+        }
+        match self.owner_of(&name) {
+            Some(owner) if owner.number == number => return Ok(()),
+            Some(_) => return Err(Answer::OwnedByAnother),
+            None => {}
+        }
+        if peer.names.len() == MAX_NAMES {
+            return Err(Answer::TooManyNames);
+        }
+        self.peer_mut(number).ok_or(Answer::NoSuchPeer)?.names.push(name);
+        Ok(())
+    }
+
+    pub fn release(&mut self, number: u32, name: &[u8]) -> Answer {
+        self.try_release(number, name).err().unwrap_or(Answer::Done)
+    }
+
+    fn try_release(&mut self, number: u32, name: &[u8]) -> Result<(), Answer> {
+        let peer = self.peer_mut(number).ok_or(Answer::NoSuchPeer)?;
+        let name = ownable(name).ok_or(Answer::NotAName)?;
+        let place = peer.names.iter().position(|own| *own == name).ok_or(Answer::NotItsName)?;
+        peer.names.remove(place);
+        Ok(())
+    }
+
+    /// Names go with their peer; waits go where it is caller or callee.
+    pub fn disconnect(&mut self, number: u32) -> Disconnected {
+        let holds_it = |slot: &Option<Peer>| slot.as_ref().is_some_and(|peer| peer.number == number);
+        let Some(slot) = self.slots.iter().position(holds_it) else {
+            return Disconnected { answer: Answer::NoSuchPeer, bytes: 0 };
+        };
+        let bytes = self.slots[slot].take().map_or(0, |peer| peer.stream.count());
+        self.waits.retain(|wait| wait.caller != number && wait.callee != number);
+        Disconnected { answer: Answer::Done, bytes }
+    }
+
+    /// Takes bytes up to the first that breaks a head or ends a message, or all.
+    pub fn piece(&mut self, policy: LentPolicy, number: u32, bytes: &[u8]) -> Judged {
+        let Some(policy) = policy else {
+            return Judged::refused(Answer::BadImage, 0);
+        };
+        let Some(peer) = self.peer_mut(number) else {
+            return Judged::refused(Answer::NoSuchPeer, 0);
+        };
+        if peer.stream.is_closed() {
+            return Judged::refused(Answer::StreamClosed, 0);
+        }
+        for (index, &byte) in bytes.iter().enumerate() {
+            let taken = index + 1;
+            match peer.stream.take(byte) {
+                Step::Continues => {}
+                Step::Broke(fault) => {
+                    return Judged { fault: Some(fault), ..Judged::refused(fault.answer(), taken) };
+                }
+                Step::Ended(header) => return self.judged(policy, number, &header, taken),
+            }
+        }
+        Judged::refused(Answer::Unfinished, bytes.len())
+    }
+
+    fn judged(&mut self, policy: &Policy, sender: u32, message: &Header, taken: usize) -> Judged {
+        match self.judge(policy, sender, message) {
+            Ok(receiver) => Judged { answer: Answer::Done, taken, receiver, fault: None },
+            Err(answer) => Judged::refused(answer, taken),
+        }
+    }
+
+    /// Judges a whole message by the peers, names and waits of this moment.
+    fn judge(&mut self, policy: &Policy, sender: u32, message: &Header) -> Verdict {
+        let destination = match message.destination.as_deref() {
+            None => Resolved::Absent,
+            Some(BUS_NAME) => Resolved::Bus,
+            Some(name) => Resolved::Peer(name),
+        };
+        match (message.fixed.message_type, destination) {
+            (METHOD_CALL, Resolved::Absent | Resolved::Bus) => self.judge_to_bus(policy, sender, message),
+            (METHOD_CALL, Resolved::Peer(name)) => self.judge_call(policy, sender, name, message),
+            (METHOD_RETURN | ERROR, Resolved::Peer(name)) => self.judge_reply(sender, name, message),
+            (METHOD_RETURN | ERROR, _) => Err(Answer::ReplyNotAwaited),
+            (SIGNAL, Resolved::Absent) => self.judge_broadcast(policy, sender, message),
+            (SIGNAL, Resolved::Bus) => self.judge_to_bus(policy, sender, message),
+            (SIGNAL, Resolved::Peer(name)) => {
+                self.judge_directed(policy, sender, name, message).map(Receiver::Peer)
+            }
+            _ => Err(Answer::UnknownType),
+        }
+    }
+
+    fn judge_to_bus(&self, policy: &Policy, sender: u32, message: &Header) -> Verdict {
+        let sender = self.peer(sender).ok_or(Answer::NoSuchPeer)?;
+        match policy.allows_send(sender.credentials(), &[BUS_NAME.to_string()], message) {
+            true => Ok(Receiver::Bus),
+            false => Err(Answer::SendDenied),
+        }
+    }
+
+    /// A call or signal to one peer: 21, 22, 23, or the receiver's number.
+    fn judge_directed(&self, policy: &Policy, from: u32, to: &str, message: &Header) -> Result<u32, Answer> {
+        let sender = self.peer(from).ok_or(Answer::NoSuchPeer)?;
+        let receiver = self.resolve(to).ok_or(Answer::DestinationIsNobody)?;
+        if !policy.allows_send(sender.credentials(), &receiver.names, message) {
+            return Err(Answer::SendDenied);
+        }
+        if !policy.allows_receive(receiver.credentials(), &sender.names, message) {
+            return Err(Answer::ReceiveDenied);
+        }
+        Ok(receiver.number)
+    }
+
+    fn judge_call(&mut self, policy: &Policy, caller: u32, to: &str, message: &Header) -> Verdict {
+        let callee = self.judge_directed(policy, caller, to, message)?;
+        if message.fixed.expects_reply() {
+            let wait = Wait { caller, callee, serial: message.fixed.serial };
+            if self.waits.contains(&wait) {
+                return Err(Answer::AlreadyWaits);
+            }
+            if self.waits.iter().filter(|other| other.caller == caller).count() == MAX_WAITS {
+                return Err(Answer::TooManyWaits);
+            }
+            self.waits.push(wait);
+        }
+        Ok(Receiver::Peer(callee))
+    }
+
+    /// A reply passes exactly when it is awaited, whatever the policy, and ends the wait.
+    fn judge_reply(&mut self, callee: u32, to: &str, message: &Header) -> Verdict {
+        let caller = self.resolve(to).ok_or(Answer::ReplyNotAwaited)?.number;
+        let serial = message.reply_serial.ok_or(Answer::ReplyNotAwaited)?;
+        let wait = Wait { caller, callee, serial };
+        let place = self.waits.iter().position(|other| *other == wait).ok_or(Answer::ReplyNotAwaited)?;
+        self.waits.remove(place);
+        Ok(Receiver::Peer(caller))
+    }
+
+    /// A broadcast reaches every peer for whom send and receive both allow.
+    fn judge_broadcast(&self, policy: &Policy, sender: u32, message: &Header) -> Verdict {
+        let sender = self.peer(sender).ok_or(Answer::NoSuchPeer)?;
+        let mut mask = 0_u16;
+        for (slot, peer) in self.slots.iter().enumerate() {
+            if let Some(peer) = peer {
+                if policy.allows_send(sender.credentials(), &peer.names, message)
+                    && policy.allows_receive(peer.credentials(), &sender.names, message)
+                {
+                    mask |= 1 << slot;
+                }
+            }
+        }
+        Ok(Receiver::Slots(mask))
+    }
+
+    fn owner_of(&self, name: &str) -> Option<&Peer> {
+        self.peers().find(|peer| peer.names.iter().any(|own| own == name))
+    }
+
+    /// A unique name leads to a peer only as the exact text that the peer was given.
+    fn resolve(&self, destination: &str) -> Option<&Peer> {
+        match destination.starts_with(':') {
+            true => self.peers().find(|peer| unique_name_of(peer.number) == destination),
+            false => self.owner_of(destination),
+        }
+    }
+}
+
+/// A name that a peer may ask for: well-known, and not the bus's own.
+fn ownable(name: &[u8]) -> Option<String> {
+    match is_well_known(name) && name != BUS_NAME.as_bytes() {
+        true => Some(String::from_utf8_lossy(name).into_owned()),
+        false => None,
+    }
+}

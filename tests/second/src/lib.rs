@@ -1,0 +1,25 @@
+//! An independent second reading of the guard's written rules.
+//!
+//! The guard's state is kept in ordinary structs, so nothing here knows how the
+//! guard proper lays out its memory. The modules follow the paper: what stands on
+//! the wire, the name rules, the message head, the policy image, the rules of
+//! precedence, and the guard's six calls.
+
+pub mod answer;
+pub mod capture;
+pub mod coverage;
+pub mod generate;
+pub mod guard;
+pub mod header;
+pub mod image;
+pub mod image_write;
+pub mod message;
+pub mod names;
+pub mod policy;
+pub mod policy_text;
+pub mod replay;
+pub mod script;
+pub mod script_show;
+pub mod signature;
+pub mod stream;
+pub mod wire;

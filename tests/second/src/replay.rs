@@ -1,0 +1,97 @@
+//! Running calls on a guard, and the one line that each of them prints.
+
+use crate::answer::{Answer, Receiver};
+use crate::capture::{self, Call};
+use crate::guard::{Connected, Disconnected, Guard, Judged, LentPolicy};
+use crate::image;
+use crate::policy::Policy;
+
+/// What one call came back with.
+#[derive(Clone, Copy, Debug, PartialEq, Eq)]
+pub enum Outcome {
+    Start(Answer),
+    Connect(Connected),
+    Own(Answer),
+    Release(Answer),
+    Piece(Judged),
+    Disconnect(Disconnected),
+}
+
+pub const BAD_CAPTURE: &str = "bad capture";
+
+pub fn run(guard: &mut Guard, policy: LentPolicy, call: &Call) -> Outcome {
+    match call {
+        Call::Start => Outcome::Start(guard.start()),
+        Call::Connect { uid, gids } => Outcome::Connect(guard.connect(policy, *uid, gids)),
+        Call::Own { peer, name } => Outcome::Own(guard.own(policy, *peer, name)),
+        Call::Release { peer, name } => Outcome::Release(guard.release(*peer, name)),
+        Call::Piece { peer, bytes } => Outcome::Piece(guard.piece(policy, *peer, bytes)),
+        Call::Disconnect { peer } => Outcome::Disconnect(guard.disconnect(*peer)),
+    }
+}
+
+impl Outcome {
+    pub fn answer(&self) -> Answer {
+        match self {
+            Outcome::Start(answer) | Outcome::Own(answer) | Outcome::Release(answer) => *answer,
+            Outcome::Connect(connected) => connected.answer,
+            Outcome::Piece(judged) => judged.answer,
+            Outcome::Disconnect(disconnected) => disconnected.answer,
+        }
+    }
+
+    pub fn call_name(&self) -> &'static str {
+        match self {
+            Outcome::Start(_) => "start",
+            Outcome::Connect(_) => "connect",
+            Outcome::Own(_) => "own",
+            Outcome::Release(_) => "release",
+            Outcome::Piece(_) => "piece",
+            Outcome::Disconnect(_) => "disconnect",
+        }
+    }
+
+    pub fn line(&self) -> String {
+        let start = format!("{} {}", self.call_name(), self.answer().number());
+        match self {
+            Outcome::Start(_) | Outcome::Own(_) | Outcome::Release(_) => start,
+            Outcome::Connect(connected) => format!("{start} {} {}", connected.number, connected.slot),
+            Outcome::Piece(judged) => {
+                let (kind, value, count) = receiver_numbers(judged.receiver);
+                format!("{start} {} {kind} {value} {count}", judged.taken)
+            }
+            Outcome::Disconnect(disconnected) => format!("{start} {}", disconnected.bytes),
+        }
+    }
+}
+
+fn receiver_numbers(receiver: Receiver) -> (u32, u32, u32) {
+    match receiver {
+        Receiver::Nobody => (0, 0, 0),
+        Receiver::Bus => (1, 0, 0),
+        Receiver::Peer(number) => (2, number, 0),
+        Receiver::Slots(mask) => (3, u32::from(mask), mask.count_ones()),
+    }
+}
+
+/// The policy that a capture lends to its calls; none for a bad image.
+pub fn lent_policy(image: &[u8]) -> Option<Policy> {
+    image::read(image).ok()
+}
+
+/// All lines for a capture file's bytes.
+pub fn replay(file: &[u8]) -> String {
+    let reading = capture::read(file);
+    let policy = lent_policy(&reading.capture.image);
+    let mut guard = Guard::default();
+    let mut lines = String::new();
+    for call in &reading.capture.calls {
+        lines.push_str(&run(&mut guard, policy.as_ref(), call).line());
+        lines.push('\n');
+    }
+    if !reading.is_whole {
+        lines.push_str(BAD_CAPTURE);
+        lines.push('\n');
+    }
+    lines
+}

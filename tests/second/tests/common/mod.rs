@@ -1,0 +1,83 @@
+//! What several tests share: policies as text, and a guard with peers in it.
+#![allow(dead_code)]
+
+use second::answer::{Answer, Receiver};
+use second::guard::{Guard, Judged};
+use second::message::Message;
+use second::policy::{Gid, Policy, Uid};
+use second::{image, image_write, policy_text};
+
+pub const OPEN: &str = "connect default allow any
+    own default allow any
+    transaction default allow send any
+    transaction default allow receive any";
+
+/// A policy by way of its image, so that the image's writer and reader are tested too.
+pub fn policy(text: &str) -> Policy {
+    let written = policy_text::parse(text).expect("the policy text is good");
+    let image = image_write::write(&written).expect("the policy has an image");
+    let read = image::read(&image).expect("the image is good");
+    assert_eq!(read, written);
+    read
+}
+
+/// The image of a policy text.
+pub fn image_of(text: &str) -> Vec<u8> {
+    image_write::write(&policy_text::parse(text).expect("the policy text is good")).expect("it has an image")
+}
+
+/// A guard under one policy; its peers have uid 1000 and gid 5 unless said otherwise.
+pub struct Bench {
+    pub guard: Guard,
+    pub policy: Policy,
+}
+
+impl Bench {
+    pub fn new(text: &str) -> Bench {
+        Bench { guard: Guard::default(), policy: policy(text) }
+    }
+
+    pub fn with_peers(text: &str, peers: u32) -> Bench {
+        let mut bench = Bench::new(text);
+        for number in 1..=peers {
+            assert_eq!(bench.connect(1000, &[5]), number);
+        }
+        bench
+    }
+
+    pub fn connect(&mut self, uid: u32, gids: &[u32]) -> u32 {
+        let gids: Vec<Gid> = gids.iter().map(|&gid| Gid(gid)).collect();
+        let connected = self.guard.connect(Some(&self.policy), Uid(uid), &gids);
+        assert_eq!(connected.answer, Answer::Done);
+        connected.number
+    }
+
+    pub fn own(&mut self, peer: u32, name: &str) -> u32 {
+        self.guard.own(Some(&self.policy), peer, name.as_bytes()).number()
+    }
+
+    pub fn piece(&mut self, peer: u32, bytes: &[u8]) -> Judged {
+        self.guard.piece(Some(&self.policy), peer, bytes)
+    }
+
+    /// The answer and taken count of one piece.
+    pub fn answers(&mut self, peer: u32, bytes: &[u8]) -> (u32, usize) {
+        let judged = self.piece(peer, bytes);
+        (judged.answer.number(), judged.taken)
+    }
+
+    /// Sends a whole message; it must be taken whole.
+    pub fn send(&mut self, peer: u32, message: Message) -> (u32, Receiver) {
+        let bytes = message.bytes();
+        let judged = self.piece(peer, &bytes);
+        assert_eq!(judged.taken, bytes.len());
+        if judged.answer != Answer::Done {
+            assert_eq!(judged.receiver, Receiver::Nobody);
+        }
+        (judged.answer.number(), judged.receiver)
+    }
+
+    pub fn sends(&mut self, peer: u32, message: Message) -> u32 {
+        self.send(peer, message).0
+    }
+}

@@ -1,0 +1,83 @@
+//! The generator: a seed means one capture, and both tellings of a stream agree.
+
+use second::capture;
+use second::coverage::Coverage;
+use second::generate::{generate, generate_pair, Mode};
+use second::replay::replay;
+
+#[test]
+fn a_seed_means_one_capture() {
+    for mode in [Mode::Mixed, Mode::Full, Mode::BadImage, Mode::BadLayout] {
+        for seed in 0..20 {
+            assert!(generate(seed, 100, mode) == generate(seed, 100, mode));
+        }
+        assert!(generate(1, 100, mode) != generate(2, 100, mode));
+    }
+    assert!(generate_pair(1, 50) == generate_pair(1, 50));
+}
+
+#[test]
+fn layouts() {
+    for seed in 0..50 {
+        let file = generate(seed, 100, Mode::Mixed);
+        let reading = capture::read(&file);
+        assert!(reading.is_whole);
+        assert!(capture::write(&reading.capture) == file);
+        assert!(replay(&generate(seed, 100, Mode::BadLayout)).ends_with("bad capture\n"));
+    }
+}
+
+/// The lines that may not depend on where pieces are cut, without their taken counts.
+fn verdicts(file: &[u8]) -> Vec<String> {
+    let keep = |line: &str| {
+        let words: Vec<&str> = line.split(' ').collect();
+        match words.as_slice() {
+            ["piece", answer, _, receiver @ ..] => {
+                let number: u32 = answer.parse().expect("a number");
+                matches!(number, 0..=9 | 20..=26).then(|| format!("{number} {}", receiver.join(" ")))
+            }
+            _ => Some(line.to_string()),
+        }
+    };
+    replay(file).lines().filter_map(keep).collect()
+}
+
+#[test]
+fn pieces_may_be_cut_anywhere() {
+    let mut differently_cut = 0;
+    for seed in 0..40 {
+        let (whole, split) = generate_pair(seed, 100);
+        assert_eq!(verdicts(&whole), verdicts(&split), "seed {seed}");
+        differently_cut += usize::from(whole != split);
+    }
+    // Where a policy lets nobody connect, there is nothing to cut.
+    assert!(differently_cut > 30);
+}
+
+#[test]
+fn a_full_guard() {
+    let reading = capture::read(&generate(1, 1, Mode::Full));
+    let policy = second::replay::lent_policy(&reading.capture.image);
+    let mut guard = second::guard::Guard::default();
+    for call in &reading.capture.calls {
+        second::replay::run(&mut guard, policy.as_ref(), call);
+    }
+    assert_eq!(guard.peers().count(), 16);
+    assert_eq!(guard.waits().len(), 256);
+    for peer in guard.peers() {
+        assert_eq!((peer.gids.len(), peer.names.len(), peer.stream.count()), (16, 4, 2_047));
+    }
+}
+
+#[test]
+fn every_answer_is_reached() {
+    let mut coverage = Coverage::default();
+    for seed in 1..=60 {
+        coverage.add(&generate(seed, 1200, Mode::Mixed));
+    }
+    for seed in 1..=400 {
+        coverage.add(&generate(seed, 20, Mode::BadImage));
+    }
+    coverage.add(&generate(1, 100, Mode::BadLayout));
+    assert_eq!(coverage.never(), Vec::<String>::new());
+}
