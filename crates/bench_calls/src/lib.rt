@@ -1,0 +1,164 @@
+// The calls that the benchmark makes, for a C program to link: each is one call of another crate on numbers and byte slices, and asks nothing.
+use header::Header;
+use header::Place;
+use header::Reading;
+use image::Outcome;
+use names::Form;
+use policy::Uid;
+ghost use mathlib.Core.Path.{_≡_};
+ghost use Prim.Native.Nat.{_+_, _≤_};
+ghost use lib.ListN.{length};
+ghost use Rattle.signature.specs.Signature.{validSignature};
+ghost use Rattle.header.specs.Header.{readHeader, answerOf};
+ghost use Rattle.memory.specs.Good.{good};
+ghost use Rattle.memory.specs.Calls.{startOn, ownOn, Did};
+ghost use Rattle.policy.specs.Contracts.{Within};
+
+// ---- reading
+
+// The form of a number: 0 interface, 1 well-known, 2 unique, 3 either name of a bus, 4 member, else path.
+fn form_of(n: u8) -> Form {
+    if n == 0 {
+        return Form::Interface;
+    }
+    if n == 1 {
+        return Form::WellKnown;
+    }
+    if n == 2 {
+        return Form::Unique;
+    }
+    if n == 3 {
+        return Form::BusName;
+    }
+    if n == 4 { Form::Member } else { Form::Path }
+}
+
+#[no_mangle]
+pub extern "C" fn bench_name_valid(form: u8, bytes: &[u8]) -> bool {
+    names::is_valid(form_of(form), bytes)
+}
+
+#[no_mangle]
+pub extern "C" fn bench_signature_valid(bytes: &[u8]) -> bool
+    ensures { λ r. ⌜ r ≡ validSignature (now (bytes .entry)) ⌝ }
+{
+    signature::is_valid(bytes)
+}
+
+// The answer number of a head: 0 where it is whole and good, 10 where bytes are missing.
+#[no_mangle]
+pub extern "C" fn bench_header_read(bytes: &[u8]) -> u8
+    ensures { λ r. ⌜ r ≡ answerOf (readHeader (now (bytes .entry))) ⌝ }
+{
+    match header::read(bytes) {
+        Reading::Short => 10,
+        Reading::Broken(n) => n,
+        Reading::Whole(_) => 0,
+    }
+}
+
+// ---- tests
+
+#[no_mangle]
+pub extern "C" fn bench_image_check(image: &[u8]) -> u8 {
+    match image::check(image) {
+        Outcome::Good => 0,
+        Outcome::Bad => 50,
+    }
+}
+
+#[no_mangle]
+pub extern "C" fn bench_memory_good(memory: &[u8]) -> bool
+    ensures { λ r. ⌜ r ≡ good (now (memory .entry)) ⌝ }
+{
+    audit::is_good(memory)
+}
+
+// ---- a decision
+
+// A place inside a head of n bytes, or none.
+fn place(at: u32, len: u32, n: usize) -> Place
+    ensures { λ r. ⌜ r .at + r .len ≤ n ⌝ }
+{
+    let at = at as usize;
+    let len = len as usize;
+    if at + len <= n {
+        Place { at, len }
+    } else {
+        Place { at: 0, len: 0 }
+    }
+}
+
+// What rules ask of a message: its kind, and where its path, interface and member stand.
+fn message(kind: u8, places: &[u32; 6], head: &[u8]) -> Header
+    ensures { λ r. ⌜ Within (now (head .entry)) r ⌝ }
+{
+    let none = Place { at: 0, len: 0 };
+    Header {
+        kind,
+        flags: 0,
+        serial: 1,
+        body: 0,
+        head: head.len(),
+        reply_serial: 0,
+        path: place(places[0], places[1], head.len()),
+        interface: place(places[2], places[3], head.len()),
+        member: place(places[4], places[5], head.len()),
+        error_name: none,
+        destination: none,
+    }
+}
+
+// One decision over the transaction rules: 1 passes, 0 is denied, 50 is a bad image. The image's test is part of it.
+#[no_mangle]
+pub extern "C" fn bench_decide(
+    image: &[u8],
+    direction: u8,
+    kind: u8,
+    uid: u32,
+    gids: &[u32],
+    names: &[u8],
+    head: &[u8],
+    places: &[u32; 6],
+) -> u8 {
+    match image::check(image) {
+        Outcome::Good => {
+            let header = message(kind, places, head);
+            let pass = policy::may_transact(image, direction, Uid(uid), gids, names, head, header);
+            pass as u8
+        }
+        Outcome::Bad => 50,
+    }
+}
+
+// ---- the guard
+
+#[no_mangle]
+pub extern "C" fn bench_start(memory: &mut [u8]) -> u8
+    ensures { λ r. ⌜ Did (startOn (now (memory .entry))) r (now (memory .exit)) ⌝ }
+{
+    guard::start(memory)
+}
+
+// The number of the new peer, 0 where it is refused.
+#[no_mangle]
+pub extern "C" fn bench_connect(image: &[u8], memory: &mut [u8], uid: u32, gids: &[u32]) -> u32 {
+    let c = guard::connect(image, memory, uid, gids);
+    c.number
+}
+
+#[no_mangle]
+pub extern "C" fn bench_own(image: &[u8], memory: &mut [u8], peer: u32, name: &[u8]) -> u8
+    ensures { λ r. ⌜ Did (ownOn (now (image .entry)) (now (memory .entry)) peer (now (name .entry))) r (now (memory .exit)) ⌝ }
+{
+    guard::own(image, memory, peer, name)
+}
+
+// The answer number, and 256 times the bytes taken.
+#[no_mangle]
+pub extern "C" fn bench_piece(image: &[u8], memory: &mut [u8], peer: u32, bytes: &[u8]) -> u64 {
+    let t = guard::piece(image, memory, peer, bytes);
+    let j = t.judgement;
+    let taken = wire::least(t.taken, 4294967295);
+    256 * (taken as u64) + (j.answer as u64)
+}
