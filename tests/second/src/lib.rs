@@ -22,4 +22,5 @@ pub mod script;
 pub mod script_show;
 pub mod signature;
 pub mod stream;
+pub mod tool;
 pub mod wire;

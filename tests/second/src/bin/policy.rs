@@ -1,28 +1,12 @@
 //! `policy compile` and `policy show`: a readable policy to an image and back.
 
-use second::{image, image_write, policy_text};
+use second::{image, image_write, policy_text, tool};
 use std::process::ExitCode;
 
 const USAGE: &str = "usage: policy compile FILE.policy OUT.image\n       policy show FILE.image";
 
 fn main() -> ExitCode {
-    let arguments: Vec<String> = std::env::args().skip(1).collect();
-    let words: Vec<&str> = arguments.iter().map(String::as_str).collect();
-    let done = match words.as_slice() {
-        ["compile", from, to] => compile(from, to),
-        ["show", from] => show(from),
-        _ => {
-            eprintln!("{USAGE}");
-            return ExitCode::from(2);
-        }
-    };
-    match done {
-        Ok(()) => ExitCode::SUCCESS,
-        Err(what) => {
-            eprintln!("{what}");
-            ExitCode::FAILURE
-        }
-    }
+    tool::run(USAGE, compile, show)
 }
 
 fn compile(from: &str, to: &str) -> Result<(), String> {

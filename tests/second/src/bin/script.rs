@@ -1,28 +1,14 @@
 //! `script compile` and `script show`: a readable script to a capture and back.
 
-use second::{capture, script, script_show};
+use second::{capture, script, script_show, tool};
 use std::io::Write;
 use std::path::Path;
 use std::process::ExitCode;
 
+const USAGE: &str = "usage: script compile FILE.script OUT.capture\n       script show FILE.capture";
+
 fn main() -> ExitCode {
-    let arguments: Vec<String> = std::env::args().skip(1).collect();
-    let words: Vec<&str> = arguments.iter().map(String::as_str).collect();
-    let done = match words.as_slice() {
-        ["compile", from, to] => compile(from, to),
-        ["show", from] => show(from),
-        _ => {
-            eprintln!("usage: script compile FILE.script OUT.capture\n       script show FILE.capture");
-            return ExitCode::from(2);
-        }
-    };
-    match done {
-        Ok(()) => ExitCode::SUCCESS,
-        Err(what) => {
-            eprintln!("{what}");
-            ExitCode::FAILURE
-        }
-    }
+    tool::run(USAGE, compile, show)
 }
 
 fn compile(from: &str, to: &str) -> Result<(), String> {
