@@ -82,7 +82,7 @@ module _ (m head : List ℕ) (p : Place) (z : p .at ≡ 0 → ⊥) where
       resolved-slot s h =
           record {
             is = rw (ne-eqb (p .at) 0 z, text-is, ← q, t, found-first (answersTo text) m j f, sixteen m, lt-ltb j 16 h);
-            stands = record { sized = s .sized; held = s .held; below = h; some = answers-some text m j f h };
+            stands = record { held = s .held; sized = s .held .sized; below = h; some = answers-some text m j f h };
           }
 
       pub resolved-nobody : 16 ≤ j → Resolved m head p Unknown

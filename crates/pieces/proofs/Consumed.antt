@@ -33,8 +33,8 @@ use Rattle.memory.proofs.Sound.{state-again, good-memory}
 use Rattle.memory.proofs.Good.{held-of}
 use Rattle.sound.proofs.Put.{put-there}
 use Rattle.sound.proofs.Renew.{stream-sound}
-use Rattle.slots.specs.Slots.{peerAt}
-use Rattle.pieces.specs.Fed.{streamBytes, Seat, Running, cleared, headIn, Completed}
+use Rattle.slots.specs.Slots.{peerAt, Seated}
+use Rattle.pieces.specs.Fed.{streamBytes, Running, cleared, headIn, Completed}
 use Rattle.pieces.proofs.Seats.{sound, peer-is, fine, cleared-is}
 
 stream-length : (t : Tail) → length (streamBytes t) ≡ 2056
@@ -102,23 +102,23 @@ module _ (m : List ℕ) (f : (j : ℕ) → Fits w8 (getD m j 0)) (i : ℕ) (s : 
   peer-not-free q e = let z : _≡_ {A = ℕ} 0 1 = cc in omega arith
 
   consumed-some : numberAt (memoryOf consumed) i ≡ 0 → ⊥
-  consumed-some z = peer-not-free (withStream (peerAt m i) fresh) (sym consumed-slot ∙ slot-free (memoryOf consumed) i (s .below) z)
+  consumed-some z = peer-not-free (withStream (peerAt m i) fresh) (sym consumed-slot ∙ slot-free (memoryOf consumed) i (s .seat .below) z)
 
   pub consumed-peer : peerAt (memoryOf consumed) i ≡ withStream (peerAt m i) fresh
   consumed-peer =
       let e : peer (peerAt (memoryOf consumed) i) ≡ peer (withStream (peerAt m i) fresh)
-      = sym (slot-peer (memoryOf consumed) i (s .below) consumed-some) ∙ consumed-slot in
+      = sym (slot-peer (memoryOf consumed) i (s .seat .below) consumed-some) ∙ consumed-slot in
       ap (peerOr (peerAt m i)) e
 
   consumed-length : length (memoryOf consumed) ≡ 52676
   consumed-length = memory-length consumed (consumed-sound .sixteen)
 
-  consumed-seat : Seat (memoryOf consumed) i
+  consumed-seat : Seated (memoryOf consumed) i
   consumed-seat =
       record {
         held = held-of (memoryOf consumed) (good-memory consumed consumed-sound);
         sized = consumed-length;
-        below = s .below;
+        below = s .seat .below;
         some = consumed-some;
       }
 
@@ -129,7 +129,7 @@ module _ (m : List ℕ) (f : (j : ℕ) → Fits w8 (getD m j 0)) (i : ℕ) (s : 
     pub consumed-clear : cleared after i ≡ memoryOf consumed
     consumed-clear =
         ap (λ (z : List ℕ). cleared z i) e
-        ∙ cleared-put m i (s .sized) (s .below) (offer tails (peerAt m i .stream) piece .stream)
+        ∙ cleared-put m i (s .seat .sized) (s .seat .below) (offer tails (peerAt m i .stream) piece .stream)
         ∙ cleared-is m f i (s .seat)
 
     head-read : (readHeader (take (x .head) (pad 2048 (offer tails (peerAt m i .stream) piece .stream .head))) ≡ Whole x)
@@ -145,24 +145,24 @@ module _ (m : List ℕ) (f : (j : ℕ) → Fits w8 (getD m j 0)) (i : ℕ) (s : 
     pub consumed-head : headIn after i (x .head) ≡ take (x .head) (pad 2048 (offer tails (peerAt m i .stream) piece .stream .head))
     consumed-head =
         ap (λ (z : List ℕ). headIn z i (x .head)) e
-        ∙ head-put m i (s .sized) (s .below) (offer tails (peerAt m i .stream) piece .stream) (x .head) head-small
+        ∙ head-put m i (s .seat .sized) (s .seat .below) (offer tails (peerAt m i .stream) piece .stream) (x .head) head-small
 
     after-length : length after ≡ 52676
     after-length =
         let b = 4 + 3292 * i + 1236 in
         let q = streamBytes (offer tails (peerAt m i .stream) piece .stream) in
-        let k : length m ≡ 52676 = s .sized in
+        let k : length m ≡ 52676 = s .seat .sized in
         ap length e
         ∙ length-append (take b m) (q ++ drop (b + 2056) m)
-        ∙ omega (arith, before m i (s .sized) (s .below) (offer tails (peerAt m i .stream) piece .stream), length-append q (drop (b + 2056) m), stream-length (offer tails (peerAt m i .stream) piece .stream), length-drop (b + 2056) m, s .below)
+        ∙ omega (arith, before m i (s .seat .sized) (s .seat .below) (offer tails (peerAt m i .stream) piece .stream), length-append q (drop (b + 2056) m), stream-length (offer tails (peerAt m i .stream) piece .stream), length-drop (b + 2056) m, s .seat .below)
 
     pub completed : Completed image after i x
     completed =
         record {
           good = g;
           sized = after-length;
-          below = s .below;
-          seat = subst (λ (z : List ℕ). Seat z i) (sym consumed-clear) consumed-seat;
+          below = s .seat .below;
+          seat = subst (λ (z : List ℕ). Seated z i) (sym consumed-clear) consumed-seat;
           read = ap readHeader consumed-head ∙ head-read .0;
           small = head-small;
         }

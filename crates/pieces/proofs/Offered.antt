@@ -32,9 +32,9 @@ use Rattle.memory.proofs.Reading.{numberAt, sixteen, slot-peer}
 use Rattle.memory.proofs.Search.{Found}
 use Rattle.memory.proofs.Find.{found-first, found-some, found-is}
 use Rattle.memory.proofs.Good.{good-is}
-use Rattle.slots.specs.Slots.{peerAt}
-use Rattle.judge.specs.Judging.{PeerAt, Message, Judges}
-use Rattle.pieces.specs.Fed.{streamBytes, Seat, Running, FedAt, cleared, headIn, Completed}
+use Rattle.slots.specs.Slots.{peerAt, Seated}
+use Rattle.judge.specs.Judging.{Message, Judges}
+use Rattle.pieces.specs.Fed.{streamBytes, Running, FedAt, cleared, headIn, Completed}
 use Rattle.pieces.proofs.Consumed.{consumed, consumed-again, consumed-peer, consumed-clear, consumed-head, completed}
 
 -- ---- a whole message, once its head is copied and its stream cleared
@@ -51,7 +51,7 @@ module _ (image m d head : List ℕ) (i : ℕ) (x : Header) (c : Completed image
       rw (head-is, e)
       (record {
         good = c .good;
-        sender = record { sized = c .seat .sized; held = c .seat .held .held; below = c .seat .below; some = c .seat .some };
+        sender = c .seat;
         read = c .read;
         long = length-take-le (x .head) (drop (4 + 3292 * i + 1244) m) (omega (arith, length-drop (4 + 3292 * i + 1244) m, c .sized, c .below, c .small));
       })
@@ -124,11 +124,11 @@ module _ (m : List ℕ) (g : Held m) (n i : ℕ) (d : Found (isPeer n) m 0 i) (h
   inside : i < 16
   inside = omega (arith, d .bound)
 
-  pub piece-seat : Seat m i
+  pub piece-seat : Seated m i
   piece-seat = record { held = g; sized = g .sized; below = inside; some = found-some n m 0 i d inside }
 
   pub piece-runs : (c : Bool) → c ≡ closed (peerAt m i .stream) → c ≡ false → Running m i
-  piece-runs c e t = record { seat = piece-seat; sized = g .sized; below = inside; runs = sym e ∙ t }
+  piece-runs c e t = record { seat = piece-seat; runs = sym e ∙ t }
 
   slot-is : slotAt (stateOf m) i ≡ peer (peerAt m i)
   slot-is = slot-peer m i inside (found-some n m 0 i d inside)

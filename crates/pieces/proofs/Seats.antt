@@ -29,14 +29,14 @@ use Rattle.memory.proofs.Good.{good-sound}
 use Rattle.memory.proofs.Puts.{stream-put}
 use Rattle.sound.proofs.Kept.{Fine}
 use Rattle.sound.proofs.Put.{peer-fine}
-use Rattle.slots.specs.Slots.{peerAt}
-use Rattle.pieces.specs.Fed.{streamBytes, streamIn, Opens, Fed, Seat, Running, FedAt, cleared}
+use Rattle.slots.specs.Slots.{peerAt, Seated}
+use Rattle.pieces.specs.Fed.{streamBytes, streamIn, Opens, Fed, Running, FedAt, cleared}
 
 fresh-bytes : streamBytes fresh ≡ replicate 2056 0
 unfolding wordBytes headBytes pad
 fresh-bytes = refl
 
-module _ (m : List ℕ) (f : (j : ℕ) → Fits w8 (getD m j 0)) (i : ℕ) (s : Seat m i) where
+module _ (m : List ℕ) (f : (j : ℕ) → Fits w8 (getD m j 0)) (i : ℕ) (s : Seated m i) where
   pub sound : Sound (stateOf m)
   sound = good-sound m (λ j. f j .fits) (s .held .held)
 

@@ -17,9 +17,7 @@ use Rattle.stream.specs.Contracts.{verdictOf}
 use Rattle.stream.specs.declared.Advance.{Advance}
 use Rattle.rules.specs.State.{Peer, peer, putSlot, withStream}
 use Rattle.memory.specs.Encoding.{headBytes, memoryOf, stateOf}
-use Rattle.memory.specs.Sound.{Held}
-use Rattle.memory.proofs.Reading.{numberAt}
-use Rattle.slots.specs.Slots.{peerAt}
+use Rattle.slots.specs.Slots.{peerAt, Seated}
 
 -- the bytes of a stream in its slot
 abbrev pub streamBytes : Tail → List ℕ
@@ -43,18 +41,9 @@ pub record Fed (o : Offer Tail) (n : ℕ) (r : Advance) (x : List ℕ) : Type 0 
   pub bytes : x ≡ streamBytes (o .stream)
   pub within : r .taken ≤ n
 
--- slot i of good memory has a peer
-pub record Seat (m : List ℕ) (i : ℕ) : Type 0 where
-  pub held : Held m
-  pub sized : length m ≡ 52676
-  pub below : i < 16
-  pub some : numberAt m i ≡ 0 → ⊥
-
--- the same, and its stream is open
+-- slot i of good memory is a peer's whose stream is open
 pub record Running (m : List ℕ) (i : ℕ) : Type 0 where
-  pub seat : Seat m i
-  pub sized : length m ≡ 52676
-  pub below : i < 16
+  pub seat : Seated m i
   pub runs : closed (peerAt m i .stream) ≡ false
 
 -- what an offer to slot i comes to, in memory
@@ -80,6 +69,6 @@ pub record Completed (image m : List ℕ) (i : ℕ) (x : Header) : Type 0 where
   pub good : GoodImage image
   pub sized : length m ≡ 52676
   pub below : i < 16
-  pub seat : Seat (cleared m i) i
+  pub seat : Seated (cleared m i) i
   pub read : readHeader (headIn m i (x .head)) ≡ Whole x
   pub small : x .head ≤ 2048

@@ -3,6 +3,7 @@ use header::Header;
 use rules::Judgement;
 use rules::Receiver;
 use rules::Taken;
+use rules::no_piece;
 use stream::Advance;
 use stream::Event;
 use stream::Stream;
@@ -14,10 +15,10 @@ ghost use Prim.Native.Nat.{ℕ, _+_, _≤_, _<_};
 ghost use lib.ListN.{length, take};
 ghost use Rattle.stream.specs.Stream.{offer};
 ghost use Rattle.stream.specs.Tail.{tails, closed};
-ghost use Rattle.slots.specs.Slots.{peerAt};
-ghost use Rattle.pieces.specs.Fed.{streamIn, Opens, Fed, Seat, Running, FedAt, cleared, headIn, Completed};
+ghost use Rattle.slots.specs.Slots.{peerAt, Seated};
+ghost use Rattle.pieces.specs.Fed.{streamIn, Opens, Fed, Running, FedAt, cleared, headIn, Completed};
 ghost use Rattle.image.specs.Contracts.{GoodImage};
-ghost use Rattle.rules.specs.Calls.{noPiece, offeredTo, piece};
+ghost use Rattle.rules.specs.Calls.{offeredTo, piece};
 ghost use Rattle.memory.specs.Encoding.{stateOf};
 ghost use Rattle.memory.specs.Sound.{Held};
 ghost use Rattle.memory.specs.Calls.{stored, Did};
@@ -51,7 +52,7 @@ fn feed_at(memory: &mut [u8], i: usize, piece: &[u8]) -> Advance
 
 // The stream of slot i is closed.
 fn is_closed_at(memory: &[u8], i: usize) -> bool
-    requires { ⌜ Seat (now memory) i ⌝ }
+    requires { ⌜ Seated (now memory) i ⌝ }
     ensures { λ r. ⌜ r ≡ closed (peerAt (now (memory .entry)) i .stream) ⌝ }
 {
     let taken = slots::word_at(memory, i, 1236) as usize;
@@ -97,18 +98,6 @@ fn judge_at(image: &[u8], memory: &mut [u8], i: usize, header: Header) -> Judgem
     judge::judge(image, memory, i, &head[0..n], header)
 }
 
-fn refused(answer: u8) -> Taken
-    ensures { λ r. ⌜ r ≡ noPiece answer ⌝ }
-{
-    Taken {
-        judgement: Judgement {
-            answer,
-            receiver: Receiver::Nobody,
-        },
-        taken: 0,
-    }
-}
-
 // The piece is offered to the open stream of slot i, and a whole message is judged.
 fn piece_at(image: &[u8], memory: &mut [u8], i: usize, bytes: &[u8]) -> Taken
     requires { ⌜ (GoodImage (now image)) × (Running (now memory) i) ⌝ }
@@ -146,10 +135,10 @@ pub fn piece(image: &[u8], memory: &mut [u8], peer: u32, bytes: &[u8]) -> Taken
 {
     let i = slots::find(memory, peer, 0);
     if i == 16 {
-        return refused(30);
+        return no_piece(30);
     }
     if is_closed_at(memory, i) {
-        return refused(40);
+        return no_piece(40);
     }
     piece_at(image, memory, i, bytes)
 }
