@@ -25,20 +25,18 @@ use Rattle.stream.specs.Tail.{Tail, tails, closed, fresh, goodTail}
 use Rattle.stream.proofs.Good.{fresh-good, open-more}
 use Rattle.stream.proofs.Pushes.{offer-whole}
 use Rattle.rules.specs.State.{Peer, Slot, free, peer, State, putSlot, withStream}
-use Rattle.memory.specs.Encoding.{headBytes, memoryOf, stateOf}
+use Rattle.memory.specs.Encoding.{headBytes, streamBytes, memoryOf, stateOf}
 use Rattle.memory.specs.Sound.{Sound, Held}
-use Rattle.memory.proofs.Frame.{head-length, memory-length}
+use Rattle.memory.proofs.Frame.{memory-length}
+use Rattle.memory.proofs.Fields.{stream-length}
 use Rattle.memory.proofs.Reading.{numberAt, slot-free, slot-peer, sixteen}
 use Rattle.memory.proofs.Sound.{state-again, good-memory}
 use Rattle.memory.proofs.Good.{held-of}
 use Rattle.sound.proofs.Put.{put-there}
 use Rattle.sound.proofs.Renew.{stream-sound}
 use Rattle.slots.specs.Slots.{peerAt, Seated}
-use Rattle.pieces.specs.Fed.{streamBytes, Running, cleared, headIn, Completed}
+use Rattle.pieces.specs.Fed.{Running, cleared, headIn, Completed}
 use Rattle.pieces.proofs.Seats.{sound, peer-is, fine, cleared-is}
-
-stream-length : (t : Tail) → length (streamBytes t) ≡ 2056
-stream-length t = length-append (wordBytes (t .taken)) (headBytes (t .head)) ∙ omega (arith, word-length (t .taken), head-length (t .head))
 
 -- ---- the bytes of a stream put into memory
 

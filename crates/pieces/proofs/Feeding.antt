@@ -18,8 +18,8 @@ use Rattle.stream.specs.Contracts.{tailIn, verdictOf, Open, Gives, Advanced}
 use Rattle.stream.specs.declared.Stream.{Stream}
 use Rattle.stream.specs.declared.Advance.{Advance}
 use Rattle.stream.proofs.Good.{tail-fits, open-more}
-use Rattle.memory.specs.Encoding.{headBytes}
-use Rattle.pieces.specs.Fed.{streamBytes, streamIn, Opens, Fed}
+use Rattle.memory.specs.Encoding.{headBytes, streamBytes}
+use Rattle.pieces.specs.Fed.{streamIn, Opens, Fed}
 
 module _ (x : List ℕ) (o : Opens x) where
   fits : (streamIn x .taken < 134217728) × (length (streamIn x .head) ≤ 2048)

@@ -34,7 +34,8 @@ use Rattle.memory.proofs.Find.{found-first, found-some, found-is}
 use Rattle.memory.proofs.Good.{good-is}
 use Rattle.slots.specs.Slots.{peerAt, Seated}
 use Rattle.judge.specs.Judging.{Message, Judges}
-use Rattle.pieces.specs.Fed.{streamBytes, Running, FedAt, cleared, headIn, Completed}
+use Rattle.pieces.specs.Fed.{Running, FedAt, cleared, headIn, Completed}
+use Rattle.pieces.proofs.Copied.{head-length}
 use Rattle.pieces.proofs.Consumed.{consumed, consumed-again, consumed-peer, consumed-clear, consumed-head, completed}
 
 -- ---- a whole message, once its head is copied and its stream cleared
@@ -53,7 +54,7 @@ module _ (image m d head : List ℕ) (i : ℕ) (x : Header) (c : Completed image
         good = c .good;
         sender = c .seat;
         read = c .read;
-        long = length-take-le (x .head) (drop (4 + 3292 * i + 1244) m) (omega (arith, length-drop (4 + 3292 * i + 1244) m, c .sized, c .below, c .small));
+        long = head-length m i (x .head) (c .sized) (c .below) (c .small);
       })
 
   pub judge-left : (r : Judgement) (after : List ℕ) → Judges image d i (take (x .head - 0) head) x r after → Judges image (cleared m i) i (headIn m i (x .head)) x r after

@@ -20,7 +20,7 @@ use Rattle.stream.specs.Tail.{Tail, tails, closed, fresh, goodTail}
 use Rattle.stream.specs.Contracts.{tailOf, GoodTail}
 use Rattle.stream.specs.declared.Advance.{Advance}
 use Rattle.rules.specs.State.{Peer, free, peer, putSlot, withStream}
-use Rattle.memory.specs.Encoding.{headBytes, memoryOf, stateOf}
+use Rattle.memory.specs.Encoding.{headBytes, streamBytes, memoryOf, stateOf}
 use Rattle.memory.specs.Sound.{Sound, Held}
 use Rattle.memory.proofs.Reading.{numberAt, peerFrom, slot-peer}
 use Rattle.memory.proofs.Held.{held-peer, held-counted, Counted}
@@ -30,7 +30,7 @@ use Rattle.memory.proofs.Puts.{stream-put}
 use Rattle.sound.proofs.Kept.{Fine}
 use Rattle.sound.proofs.Put.{peer-fine}
 use Rattle.slots.specs.Slots.{peerAt, Seated}
-use Rattle.pieces.specs.Fed.{streamBytes, streamIn, Opens, Fed, Running, FedAt, cleared}
+use Rattle.pieces.specs.Fed.{streamIn, Opens, Fed, Running, FedAt, cleared}
 
 fresh-bytes : streamBytes fresh ≡ replicate 2056 0
 unfolding wordBytes headBytes pad
@@ -96,32 +96,28 @@ module _ (m : List ℕ) (f : (j : ℕ) → Fits w8 (getD m j 0)) (i : ℕ) (s : 
         within = g .within;
       }
 
-  -- the region of its head
+  -- the region of its head, as the code lends it
+  tail-at : (t n : ℕ) → t ≡ wordAt Little m (4 + 3292 * i + 1236) → n ≡ wordAt Little m (4 + 3292 * i + 1240)
+      → tailOf (take (4 + 3292 * i + 1244 + 2048 - (4 + 3292 * i + 1244)) (drop (4 + 3292 * i + 1244) m)) t n ≡ peerAt m i .stream
+  tail-at t n p q =
+      let k : n ≤ 2048 = rw (← q) at (counts .small) in
+      let e : min (wordAt Little m (4 + 3292 * i + 1240)) 2048 ≡ n = omega arith in
+      rw (cut-at (4 + 3292 * i + 1244) 2048 m, e, ← p) (ap (λ (h : List ℕ). record { taken = t; head = h }) (take-take n 2048 (drop (4 + 3292 * i + 1244) m) k))
+
   pub closed-at : (t n : ℕ) → t ≡ wordAt Little m (4 + 3292 * i + 1236) → n ≡ wordAt Little m (4 + 3292 * i + 1240)
       → GoodTail (take (4 + 3292 * i + 1244 + 2048 - (4 + 3292 * i + 1244)) (drop (4 + 3292 * i + 1244) m)) t n
   closed-at t n p q =
-      let k : n ≤ 2048 = rw (← q) at (counts .small) in
-      rw (cut-at (4 + 3292 * i + 1244) 2048 m)
-      (record {
+      record {
         inside =
-            rw (length-take-le 2048 (drop (4 + 3292 * i + 1244) m) (omega (arith, length-drop (4 + 3292 * i + 1244) m, s .sized, s .below))) k;
+            rw (cut-at (4 + 3292 * i + 1244) 2048 m, length-take-le 2048 (drop (4 + 3292 * i + 1244) m) (omega (arith, length-drop (4 + 3292 * i + 1244) m, s .sized, s .below)))
+            (rw (← q) at (counts .small));
         good = ap goodTail (tail-at t n p q) ∙ fine .tail;
-      })
-    where
-      tail-at : (t n : ℕ) → t ≡ wordAt Little m (4 + 3292 * i + 1236) → n ≡ wordAt Little m (4 + 3292 * i + 1240)
-          → tailOf (take 2048 (drop (4 + 3292 * i + 1244) m)) t n ≡ peerAt m i .stream
-      tail-at t n p q =
-          let k : n ≤ 2048 = rw (← q) at (counts .small) in
-          let e : min (wordAt Little m (4 + 3292 * i + 1240)) 2048 ≡ n = omega arith in
-          rw (e, ← p) (ap (λ (h : List ℕ). record { taken = t; head = h }) (take-take n 2048 (drop (4 + 3292 * i + 1244) m) k))
+      }
 
   pub closed-is : (t n : ℕ) (r : Bool) → t ≡ wordAt Little m (4 + 3292 * i + 1236) → n ≡ wordAt Little m (4 + 3292 * i + 1240)
       → r ≡ closed (tailOf (take (4 + 3292 * i + 1244 + 2048 - (4 + 3292 * i + 1244)) (drop (4 + 3292 * i + 1244) m)) t n)
       → r ≡ closed (peerAt m i .stream)
-  closed-is t n r p q z =
-      let k : n ≤ 2048 = rw (← q) at (counts .small) in
-      let e : min (wordAt Little m (4 + 3292 * i + 1240)) 2048 ≡ n = omega arith in
-      z ∙ rw (cut-at (4 + 3292 * i + 1244) 2048 m, e, ← p, take-take n 2048 (drop (4 + 3292 * i + 1244) m) k)
+  closed-is t n r p q z = z ∙ ap closed (tail-at t n p q)
 
   -- zeros over its stream
   pub cleared-is : cleared m i ≡ memoryOf (putSlot (stateOf m) i (peer (withStream (peerAt m i) fresh)))

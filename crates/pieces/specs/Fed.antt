@@ -5,7 +5,7 @@ use mathlib.Core.List.{List, _++_}
 use Prim.Native.Nat.{ℕ, _+_, _*_, _≤_, _<_, min}
 use lib.ListN.{length, take, drop, replicate}
 use Rattle.wire.specs.Bytes.{pad}
-use Rattle.wire.specs.Words.{wordAt, wordBytes}
+use Rattle.wire.specs.Words.{wordAt}
 use Rattle.wire.specs.declared.Order.the-variants.{Little}
 use Rattle.header.specs.Header.{readHeader}
 use Rattle.header.specs.declared.Header.{Header}
@@ -16,14 +16,10 @@ use Rattle.stream.specs.Tail.{Tail, tails, closed, goodTail}
 use Rattle.stream.specs.Contracts.{verdictOf}
 use Rattle.stream.specs.declared.Advance.{Advance}
 use Rattle.rules.specs.State.{Peer, peer, putSlot, withStream}
-use Rattle.memory.specs.Encoding.{headBytes, memoryOf, stateOf}
+use Rattle.memory.specs.Encoding.{streamBytes, memoryOf, stateOf}
 use Rattle.slots.specs.Slots.{peerAt, Seated}
 
--- the bytes of a stream in its slot
-abbrev pub streamBytes : Tail → List ℕ
-streamBytes t = wordBytes (t .taken) ++ headBytes (t .head)
-
--- the stream that they say
+-- the stream that its bytes in a slot say
 abbrev pub streamIn : List ℕ → Tail
 streamIn x = record { taken = wordAt Little x 0; head = take (min (wordAt Little x 4) 2048) (drop 8 x) }
 

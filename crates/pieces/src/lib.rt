@@ -68,8 +68,8 @@ fn settle_at(memory: &mut [u8], i: usize)
     ensures { λ r. ⌜ now (memory .exit) ≡ cleared (now (memory .entry)) i ⌝ }
 {
     let from = 4 + 3292 * i + 1236;
-    let to = from + 2056;
-    wire::wipe(&mut memory[from..to]);
+    let end = from + 2056;
+    wire::wipe(&mut memory[from..end]);
 }
 
 // A copy of the first n bytes of the head that slot i keeps.
@@ -79,11 +79,8 @@ fn head_of(memory: &[u8], i: usize, n: usize) -> [u8; 2048]
 {
     let mut head = [0u8; 2048];
     let from = 4 + 3292 * i + 1244;
-    let mut k = 0;
-    while k < n {
-        head[k] = memory[from + k];
-        k += 1;
-    }
+    let to = from + n;
+    wire::copy(&mut head[0..n], &memory[from..to]);
     head
 }
 
