@@ -1,25 +1,25 @@
 -- The pending calls of a slot, one after the other. Assumes nothing.
-use mathlib.Core.Path.{_≡_, refl, sym, ap, _∙_}
-use mathlib.Core.Bool.{Bool, true, false, not, _&&_, and-false}
-use mathlib.Core.List.{List, [], _∷_}
-use Prim.Native.Nat.{ℕ, suc, _+_, _-_, _*_, _≤_, _<_, min}
+use mathlib.Core.Path.{_≡_, refl, sym, _∙_}
+use mathlib.Core.Bool.{Bool, true, false, not, _&&_}
+use mathlib.Core.List.{List}
+use Prim.Native.Nat.{ℕ, _+_, _*_, _≤_, _<_, min}
 use native.Mathlib.Omega.{arith}
 use lib.Dec.{leb}
-use lib.ListN.{length, take, drop, getD, length-drop}
+use lib.ListN.{length, drop}
 use borrow.Author.Needs.{needs}
 use borrow.Author.Tests.{le-leb, lt-leb, not-true, not-false}
 use Rattle.wire.specs.Words.{wordAt}
 use Rattle.wire.specs.declared.Order.the-variants.{Little}
 use Rattle.tables.proofs.Table.{table-past}
-use Rattle.rules.specs.State.{isPeer, firstBy}
-use Rattle.rules.specs.Pending.{isCall, awaits}
+use Rattle.rules.specs.State.{isPeer}
+use Rattle.rules.proofs.First.{awaits-first}
 use Rattle.memory.specs.Encoding.{pendingOf, stateOf}
-use Rattle.memory.specs.Good.{nobody, goodPending}
+use Rattle.memory.specs.Good.{goodPending}
 use Rattle.memory.proofs.Search.{Found}
 use Rattle.memory.proofs.Reading.{pending-next, pending-many}
 use Rattle.slots.specs.Slots.{peerAt, CallAt}
 use Rattle.audit.specs.Tests.{calleeAt, serialAt, callTest}
-use Rattle.audit.proofs.Nobody.{nobody-found, awaits-first, same-leb}
+use Rattle.audit.proofs.Nobody.{nobody-found, not-ltb}
 
 -- ---- call j, whose callee is c and whose serial is s
 
@@ -38,11 +38,10 @@ module _ (m : List ℕ) (i j c s : ℕ) (p : c ≡ calleeAt m i j) (q : s ≡ se
         → leb k r ≡ callTest m i j
     unfolding callTest
     call-good z n r k e o a =
-        let l : length (peerAt m i .pending) ≡ min n 16 = pending-many m (4 + 3292 * i) ∙ rw e in
-        let d : length (drop (j + 1) (peerAt m i .pending)) ≡ length (peerAt m i .pending) - (j + 1) = length-drop (j + 1) (peerAt m i .pending) in
-        let w : r ≡ j + 1 + firstBy (isCall c s) (drop (j + 1) (peerAt m i .pending)) = a .is in
-        rw (← p, ← q, ← nobody-found (isPeer c) m 0 f (omega arith) g, lt-leb 16 f h, le-leb 1 s (omega arith), awaits-first c s (drop (j + 1) (peerAt m i .pending)))
-        (same-leb k r (length (drop (j + 1) (peerAt m i .pending))) (firstBy (isCall c s) (drop (j + 1) (peerAt m i .pending))) (λ x. omega arith) (λ x. omega arith))
+        let ps = peerAt m i .pending in
+        let l : length ps ≡ k = pending-many m (4 + 3292 * i) ∙ rw (← e) (sym o) in
+        rw (← p, ← q, ← nobody-found (isPeer c) m 0 f (omega arith) g, lt-leb 16 f h, le-leb 1 s (omega arith), awaits-first c s ps (j + 1), ← a .is, l)
+        (sym (not-ltb r k))
 
 pub ruleset call-tests = (call-gone, call-zero, call-good, needs)
 

@@ -1,27 +1,27 @@
 -- The names of a slot, one after the other. Assumes nothing.
-use mathlib.Core.Path.{_≡_, refl, sym, ap, _∙_}
+use mathlib.Core.Path.{_≡_, refl, sym, _∙_}
 use mathlib.Core.Bool.{Bool, true, false, not, _&&_, and-false}
-use mathlib.Core.List.{List, [], _∷_}
+use mathlib.Core.List.{List}
 use Prim.Native.Nat.{ℕ, _+_, _-_, _*_, _≤_, _<_, min}
 use native.Mathlib.Omega.{arith}
 use lib.Dec.{leb}
-use lib.ListN.{length, take, drop, getD}
+use lib.ListN.{take, drop, getD}
 use borrow.Author.Needs.{needs}
 use borrow.Author.Tests.{not-true, not-false}
 use Rattle.wire.specs.Bytes.{same, bytes}
 use Rattle.wire.specs.Words.{wordAt}
 use Rattle.wire.specs.declared.Order.the-variants.{Little}
 use Rattle.wire.proofs.Words.{cut-at}
-use Rattle.names.specs.Names.{wellKnown, validName}
+use Rattle.names.specs.Names.{validName}
 use Rattle.names.specs.declared.Form.the-variants.{WellKnown}
-use Rattle.policy.specs.Names.{owns, busName}
+use Rattle.policy.specs.Names.{owns}
 use Rattle.rules.specs.Addresses.{ownable}
 use Rattle.rules.specs.Calls.{isOwner}
 use Rattle.memory.specs.Encoding.{stateOf}
-use Rattle.memory.specs.Good.{nobody, goodNames}
+use Rattle.memory.specs.Good.{goodNames}
 use Rattle.memory.proofs.Search.{Found}
 use Rattle.slots.specs.Slots.{peerAt, nameAt}
-use Rattle.slots.proofs.Cells.{names-next, names-past}
+use Rattle.slots.proofs.Cells.{names-next, names-past, name-byte}
 use Rattle.audit.specs.Tests.{nameTest}
 use Rattle.audit.proofs.Nobody.{nobody-found}
 
@@ -54,9 +54,6 @@ module _ (m : List ℕ) (i j b : ℕ) (h : i < 16) (e : b ≡ getD m (4 + 3292 *
       pub name-good : not o ≡ false → w ≡ false → (r : ℕ) → Found (isOwner text) m (i + 1) r → leb 16 r ≡ nameTest m i j
       unfolding nameTest
       name-good s t r f = rw (← text-is, ← p, not-false o s, ← q, t) (nobody-found (isOwner text) m (i + 1) r (omega arith) f)
-
-pub name-byte : (m : List ℕ) (at b : ℕ) → b ≡ getD m at 0 → b < 256 → getD m at 0 < 256
-name-byte m at b e h = omega arith
 
 pub ruleset name-tests = (name-bad, name-twice, name-good, name-byte, needs)
 

@@ -1,16 +1,15 @@
 -- That nobody passes, by the place at which a search ended. Assumes nothing.
-use mathlib.Core.Path.{_≡_, refl, sym, ap, _∙_}
-use mathlib.Core.Bool.{Bool, true, false, cond, not, _||_}
-use mathlib.Core.List.{List, [], _∷_}
-use Prim.Native.Nat.{ℕ, zero, suc, _+_, _-_, _≤_, _<_}
+use mathlib.Core.Path.{_≡_, sym, ap, _∙_}
+use mathlib.Core.Bool.{Bool, not}
+use mathlib.Core.List.{List}
+use Prim.Native.Nat.{ℕ, _+_, _-_, _≤_}
 use native.Mathlib.Omega.{arith}
 use native.Mathlib.Decide.{decLe}
-use lib.Dec.{leb}
+use lib.Dec.{leb, ltb}
 use lib.ListN.{length, drop, length-drop}
-use borrow.Author.Tests.{le-leb, lt-leb}
+use borrow.Author.Tests.{le-leb, lt-leb, lt-ltb, le-ltb}
 use Rattle.stream.specs.Tail.{Tail}
-use Rattle.rules.specs.State.{Slot, Pending, firstBy}
-use Rattle.rules.specs.Pending.{isCall, awaits}
+use Rattle.rules.specs.State.{Slot, firstBy}
 use Rattle.memory.specs.Encoding.{stateOf}
 use Rattle.memory.specs.Good.{nobody}
 use Rattle.memory.proofs.Reading.{sixteen}
@@ -31,13 +30,8 @@ nobody-found t m from r h f =
     let q : r ≡ from + firstBy t (drop from (stateOf m .slots)) = f .is in
     same-leb 16 r (length (drop from (stateOf m .slots))) (firstBy t (drop from (stateOf m .slots))) (λ k. omega arith) (λ k. omega arith)
 
--- a call is not among those where the search for it ended
-pub awaits-first : (callee serial : ℕ) (ws : List Pending) → not (awaits callee serial ws) ≡ leb (length ws) (firstBy (isCall callee serial) ws)
-unfolding awaits firstBy
-awaits-first callee serial [] = refl
-awaits-first callee serial (w ∷ ws) = go (isCall callee serial w) (awaits-first callee serial ws)
-  where
-    go : (b : Bool) → not (awaits callee serial ws) ≡ leb (length ws) (firstBy (isCall callee serial) ws)
-        → not (b || awaits callee serial ws) ≡ leb (suc (length ws)) (cond b 0 (suc (firstBy (isCall callee serial) ws)))
-    go true h = sym (lt-leb (suc (length ws)) 0 (omega arith))
-    go false h = h ∙ same-leb (length ws) (firstBy (isCall callee serial) ws) (suc (length ws)) (suc (firstBy (isCall callee serial) ws)) (λ k. omega arith) (λ k. omega arith)
+pub not-ltb : (a b : ℕ) → not (ltb a b) ≡ leb b a
+not-ltb a b = elim (decLe b a) [
+  | yes h ↦ ap not (le-ltb a b h) ∙ sym (le-leb b a h)
+  | no h ↦ ap not (lt-ltb a b (omega arith)) ∙ sym (lt-leb b a (omega arith))
+]

@@ -1,31 +1,31 @@
 -- A slot is the bytes of the peer that is read off it exactly where its tables have their shape. Assumes nothing.
 use mathlib.Core.Path.{_≡_, refl, sym, ap, ap₂, _∙_}
-use mathlib.Core.Bool.{Bool, true, false, not, _&&_, and-true}
-use mathlib.Core.List.{List, [], _∷_, _++_, map, append-nil}
-use Prim.Native.Nat.{ℕ, zero, suc, _+_, _-_, _*_, _≤_, _<_, min}
+use mathlib.Core.Bool.{Bool, true, false, _&&_}
+use mathlib.Core.List.{List, _++_}
+use Prim.Native.Nat.{ℕ, _+_, _-_, _*_, _≤_, _<_, min}
 use native.Mathlib.Omega.{arith}
 use native.Mathlib.Decide.{decLe}
 use native.Mathlib.Nat.{add-zero, mul-le-mul-left}
-use lib.Dec.{leb, eqb}
-use lib.ListN.{length, take, drop, getD, length-take, length-drop, take-append-drop}
-use lib.Seq.{getD-take, getD-drop, drop-drop, length-take-le, take-take}
+use lib.Dec.{leb}
+use lib.ListN.{length, take, drop, getD, length-drop, take-append-drop}
+use lib.Seq.{drop-drop, length-take-le, take-take}
 use borrow.Author.Tests.{le-leb, lt-leb, ne-eqb}
-use Rattle.wire.specs.Bytes.{allZero, same, front, pad}
+use Rattle.wire.specs.Bytes.{allZero, same, front}
 use Rattle.wire.specs.Words.{wordAt, wordBytes}
 use Rattle.wire.specs.declared.Order.the-variants.{Little}
 use Rattle.wire.proofs.Texts.{same-refl}
 use Rattle.wire.proofs.Words.{word-length, bytes-again}
-use Rattle.tables.specs.Tables.{cells, parts, tableBytes, tableOf}
+use Rattle.tables.specs.Tables.{tableBytes, tableOf}
 use Rattle.tables.proofs.Words.{word-take, word-part, word-front, bytes-take, bytes-drop}
 use Rattle.tables.proofs.Table.{table-length, table-take}
 use Rattle.tables.proofs.Same.{same-zeros, same-split, plainCells, table-same, plain-always}
 use Rattle.policy.specs.Names.{cellOf, nameOf}
 use Rattle.stream.specs.Tail.{Tail}
-use Rattle.rules.specs.State.{Pending, Peer, Slot, free, peer}
+use Rattle.rules.specs.State.{Slot, free, peer}
 use Rattle.memory.specs.Encoding.{pendingBytes, headBytes, peerBytes, slotBytes, wordOf, pendingOf, slotOf}
 use Rattle.memory.proofs.Reading.{peerFrom, slot-take, peer-from}
 use Rattle.memory.proofs.Heads.{single, single-length, head-table, head-of, single-plain}
-use Rattle.memory.proofs.Frame.{pending-length, cell-length, head-length}
+use Rattle.memory.proofs.Frame.{pending-length, cell-length}
 use Rattle.audit.specs.Tests.{tableTest, cellsTest, shapeTest}
 use Rattle.audit.proofs.Shape.{drop-part}
 

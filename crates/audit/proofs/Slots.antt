@@ -1,12 +1,11 @@
 -- A slot, and the slots one after the other. Assumes nothing.
-use mathlib.Core.Path.{_≡_, refl, sym, ap, ap₂, _∙_}
+use mathlib.Core.Path.{_≡_, refl, sym, _∙_}
 use mathlib.Core.Bool.{Bool, true, false, not, _&&_, and-true, and-false}
 use mathlib.Core.List.{List, [], _∷_}
-use Prim.Native.Nat.{ℕ, suc, _+_, _-_, _*_, _≤_, _<_, min}
+use Prim.Native.Nat.{ℕ, _+_, _-_, _*_, _≤_, _<_, min}
 use native.Mathlib.Omega.{arith}
 use native.Mathlib.Numerals.{add-one}
-use lib.Dec.{leb, eqb}
-use lib.ListN.{length, take, drop, getD, drop-of-length-le, length-drop, length-take}
+use lib.ListN.{length, take, drop, getD, drop-of-length-le, length-drop}
 use lib.Seq.{drop-cons, take-take, length-take-le}
 use mir.Syntax.{w8}
 use mir.Val.{Fits}
@@ -17,12 +16,12 @@ use Rattle.wire.specs.Words.{wordAt}
 use Rattle.wire.specs.declared.Order.the-variants.{Little}
 use Rattle.wire.proofs.Words.{cut-at}
 use Rattle.tables.specs.Tables.{parts}
-use Rattle.tables.proofs.Cells.{parts-length, parts-at}
-use Rattle.stream.specs.Tail.{Tail, goodTail}
-use Rattle.rules.specs.State.{Slot, free, peer, isPeer}
+use Rattle.tables.proofs.Cells.{parts-length}
+use Rattle.stream.specs.Tail.{goodTail}
+use Rattle.rules.specs.State.{free, peer, isPeer}
 use Rattle.memory.specs.Encoding.{slotOf, slotBytes, stateOf}
-use Rattle.memory.specs.Good.{nobody, goodNames, goodPending, goodPeer, goodSlot, goodSlots, plain, good}
-use Rattle.memory.proofs.Reading.{numberAt, peerFrom, sixteen, slot-at, slot-part, slot-free, slot-peer, gids-many, pending-many, names-many}
+use Rattle.memory.specs.Good.{goodNames, goodPending, goodPeer, goodSlot, goodSlots, plain, good}
+use Rattle.memory.proofs.Reading.{numberAt, sixteen, slot-at, slot-part, slot-free, slot-peer, gids-many, pending-many, names-many}
 use Rattle.memory.proofs.Search.{Found}
 use Rattle.slots.specs.Slots.{peerAt}
 use Rattle.audit.specs.Tests.{tableTest, cellsTest, shapeTest, slotTest}

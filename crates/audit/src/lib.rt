@@ -2,13 +2,8 @@
 use names::Form;
 use wire::Order;
 ghost use mathlib.Core.Path.{_≡_};
-ghost use mathlib.Core.Bool.{_&&_};
-ghost use mathlib.Core.List.{List};
 ghost use Prim.Native.Nat.{_+_, _-_, _*_, _≤_, _<_};
-ghost use lib.Dec.{leb};
-ghost use lib.ListN.{length, take, drop, getD};
-ghost use Rattle.wire.specs.Bytes.{allZero};
-ghost use Rattle.wire.specs.Words.{wordAt};
+ghost use lib.ListN.{length, drop, getD};
 ghost use Rattle.wire.specs.declared.Order.the-variants.{Little};
 ghost use Rattle.rules.specs.Addresses.{ownable};
 ghost use Rattle.memory.specs.Encoding.{stateOf};

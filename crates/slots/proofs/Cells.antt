@@ -1,10 +1,10 @@
 -- The names of a slot, from name j on, as the code cuts them. Assumes nothing.
-use mathlib.Core.Path.{_≡_, refl, sym, ap, _∙_}
+use mathlib.Core.Path.{_≡_, _∙_}
 use mathlib.Core.List.{List, [], _∷_}
-use Prim.Native.Nat.{ℕ, _+_, _-_, _*_, _≤_, _<_, min}
+use Prim.Native.Nat.{ℕ, _+_, _*_, _≤_, _<_, min}
 use native.Mathlib.Omega.{arith}
 use native.Mathlib.Nat.{add-zero}
-use lib.ListN.{length, take, drop, getD}
+use lib.ListN.{take, drop, getD}
 use lib.Seq.{getD-take, getD-drop, drop-drop, take-take}
 use Rattle.wire.specs.Bytes.{front}
 use Rattle.wire.specs.Words.{wordAt}
@@ -28,3 +28,7 @@ names-next m i j n e h b =
 
 pub names-past : (m : List ℕ) (i j n : ℕ) → n ≡ min (wordAt Little m (4 + 3292 * i + 208)) 4 → n ≤ j → drop j (peerAt m i .names) ≡ []
 names-past m i j n e h = table-past 256 4 nameOf (drop (4 + 3292 * i + 208) m) j (omega (arith, names-many m (4 + 3292 * i)))
+
+-- the length of a name is the byte that the code read
+pub name-byte : (m : List ℕ) (at b : ℕ) → b ≡ getD m at 0 → b < 256 → getD m at 0 < 256
+name-byte m at b e h = omega arith

@@ -1,12 +1,12 @@
 -- A search among the pending calls of a slot. Assumes nothing.
-use mathlib.Core.Path.{_≡_, refl, sym, ap, _∙_}
-use mathlib.Core.Bool.{Bool, true, false, cond, not, _&&_}
-use mathlib.Core.List.{List, [], _∷_}
+use mathlib.Core.Path.{_≡_, refl, sym, _∙_}
+use mathlib.Core.Bool.{true, false, _&&_}
+use mathlib.Core.List.{List, _∷_}
 use Prim.Native.Nat.{ℕ, suc, _+_, _*_, _≤_, _<_, min}
 use native.Mathlib.Omega.{arith}
 use native.Mathlib.Nat.{add-zero}
 use lib.Dec.{eqb}
-use lib.ListN.{length, take, drop, getD}
+use lib.ListN.{length, drop}
 use borrow.Author.Needs.{needs}
 use Rattle.wire.specs.Words.{wordAt}
 use Rattle.wire.specs.declared.Order.the-variants.{Little}
@@ -21,7 +21,6 @@ use Rattle.memory.proofs.Reading.{pending-next, pending-many}
 pub record Seeking (m : List ℕ) (i callee serial from count j : ℕ) : Type 0 where
   pub few : count ≤ 16
   pub long : length (peerAt m i .pending) ≡ count
-  pub counted : count ≡ min (wordAt Little m (4 + 3292 * i + 76)) 16
   pub inside : j ≤ count
   pub left : from + firstBy (isCall callee serial) (drop from (peerAt m i .pending))
       ≡ j + firstBy (isCall callee serial) (drop j (peerAt m i .pending))
@@ -31,7 +30,7 @@ pub seeking-begins : {m : List ℕ} {i callee serial from count n : ℕ} → n �
     → Seeking m i callee serial from count from
 seeking-begins {m} {i} {n = n} e c h =
     let l : length (peerAt m i .pending) ≡ min n 16 = pending-many m (4 + 3292 * i) ∙ rw e in
-    record { few = omega arith; long = l ∙ sym c; counted = rw (← e) c; inside = omega (arith, l); left = refl }
+    record { few = omega arith; long = l ∙ sym c; inside = omega (arith, l); left = refl }
 
 module _ {m : List ℕ} {i callee serial from count j : ℕ} (s : Seeking m i callee serial from count j) where
   module _ (h : j < count) {p q : ℕ} (e : p ≡ wordAt Little m (4 + 3292 * i + (80 + 8 * j)))
@@ -55,7 +54,6 @@ module _ {m : List ℕ} {i callee serial from count j : ℕ} (s : Seeking m i ca
         record {
           few = s .few;
           long = s .long;
-          counted = s .counted;
           inside = omega arith;
           left = s .left ∙ rw (here, t, k);
         }
