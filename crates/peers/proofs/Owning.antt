@@ -14,7 +14,7 @@ use Rattle.wire.specs.Words.{wordAt, wordBytes}
 use Rattle.wire.specs.declared.Order.the-variants.{Little}
 use Rattle.wire.proofs.Words.{put-at}
 use Rattle.tables.proofs.Parts.{drop-take, pad-fits, take-zeros}
-use Rattle.tables.proofs.Written.{table-unused}
+use Rattle.tables.proofs.Written.{put-sized, table-unused}
 use Rattle.policy.specs.Names.{cellOf, owns}
 use Rattle.policy.specs.Decisions.{mayOwn}
 use Rattle.policy.specs.declared.Uid.{Uid}
@@ -34,7 +34,6 @@ use Rattle.slots.specs.Slots.{peerAt, GidsOf}
 use Rattle.slots.specs.declared.Gids.{Gids}
 use Rattle.peers.specs.Writes.{nameBytes, Naming}
 use Rattle.peers.specs.Steps.{Seated, granted, claimed}
-use Rattle.peers.proofs.Newcomers.{put-sized}
 use Rattle.peers.proofs.Found.{Octets, below, did-stay, peer-none, peer-place, peer-some, peer-seated, names-counted}
 use Rattle.peers.proofs.Zeros.{zero-rest}
 

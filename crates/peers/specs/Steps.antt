@@ -5,7 +5,6 @@ use mathlib.Core.List.{List, [], _∷_, _++_, map}
 use Prim.Native.Nat.{ℕ, _+_, _*_, _≤_, _<_}
 use lib.Dec.{leb}
 use lib.ListN.{length, take, drop, set}
-use Rattle.wire.specs.Bytes.{same}
 use Rattle.wire.specs.Words.{wordAt}
 use Rattle.wire.specs.declared.Order.the-variants.{Little}
 use Rattle.policy.specs.Names.{owns}
@@ -91,8 +90,3 @@ givenUp m i name =
     cond (owns (peerAt m i .names) name)
     (stays (putSlot (stateOf m) i (peer (withNames (peerAt m i) (released name (peerAt m i .names))))) 0)
     (stays (stateOf m) 35)
-
--- r is the first of the names of slot i that is this one, or how many there are
-pub record NameAt (m : List ℕ) (i : ℕ) (name : List ℕ) (r : ℕ) : Type 0 where
-  pub few : r ≤ wordAt Little m (4 + 3292 * i + 208)
-  pub is : r ≡ firstBy (λ x. same x name) (peerAt m i .names)
