@@ -5,19 +5,21 @@ use mathlib.Core.List.{List}
 use Prim.Native.Nat.{ℕ, _+_, _*_, _≤_, _<_, min}
 use native.Mathlib.Omega.{arith}
 use lib.Dec.{leb}
-use lib.ListN.{length, drop}
+use lib.ListN.{length, drop, length-drop}
 use borrow.Author.Needs.{needs}
 use borrow.Author.Tests.{le-leb, lt-leb, not-true, not-false}
 use Rattle.wire.specs.Words.{wordAt}
 use Rattle.wire.specs.declared.Order.the-variants.{Little}
 use Rattle.tables.proofs.Table.{table-past}
-use Rattle.rules.specs.State.{isPeer}
-use Rattle.rules.proofs.First.{awaits-first}
+use Rattle.rules.specs.State.{isPeer, firstBy}
+use Rattle.rules.specs.Pending.{isCall}
+use Rattle.rules.proofs.Waits.{awaits-first}
 use Rattle.memory.specs.Encoding.{pendingOf, stateOf}
 use Rattle.memory.specs.Good.{goodPending}
 use Rattle.memory.proofs.Search.{Found}
 use Rattle.memory.proofs.Reading.{pending-next, pending-many}
 use Rattle.slots.specs.Slots.{peerAt, CallAt}
+use Rattle.slots.proofs.Cells.{before}
 use Rattle.audit.specs.Tests.{calleeAt, serialAt, callTest}
 use Rattle.audit.proofs.Nobody.{nobody-found, not-ltb}
 
@@ -26,12 +28,12 @@ use Rattle.audit.proofs.Nobody.{nobody-found, not-ltb}
 module _ (m : List ℕ) (i j c s : ℕ) (p : c ≡ calleeAt m i j) (q : s ≡ serialAt m i j) (f : ℕ) (g : Found (isPeer c) m 0 f) where
   pub call-gone : 16 ≤ f → false ≡ callTest m i j
   unfolding callTest
-  call-gone h = rw (← p, ← nobody-found (isPeer c) m 0 f (omega arith) g, le-leb 16 f h)
+  call-gone h = rw (← p, ← nobody-found (isPeer c) m 0 f g, le-leb 16 f h)
 
   module _ (h : f < 16) where
     pub call-zero : s ≡ 0 → false ≡ callTest m i j
     unfolding callTest
-    call-zero z = rw (← p, ← q, ← nobody-found (isPeer c) m 0 f (omega arith) g, lt-leb 16 f h, lt-leb 1 s (omega arith))
+    call-zero z = rw (← p, ← q, ← nobody-found (isPeer c) m 0 f g, lt-leb 16 f h, lt-leb 1 s (omega arith))
 
     pub call-good : (s ≡ 0 → ⊥) → (n r k : ℕ) → n ≡ wordAt Little m (4 + 3292 * i + 76) → k ≡ min n 16
         → CallAt m i c s (j + 1) r
@@ -40,7 +42,18 @@ module _ (m : List ℕ) (i j c s : ℕ) (p : c ≡ calleeAt m i j) (q : s ≡ se
     call-good z n r k e o a =
         let ps = peerAt m i .pending in
         let l : length ps ≡ k = pending-many m (4 + 3292 * i) ∙ rw (← e) (sym o) in
-        rw (← p, ← q, ← nobody-found (isPeer c) m 0 f (omega arith) g, lt-leb 16 f h, le-leb 1 s (omega arith), awaits-first c s ps (j + 1), ← a .is, l)
+        rw (
+          ← p,
+          ← q,
+          ← nobody-found (isPeer c) m 0 f g,
+          lt-leb 16 f h,
+          le-leb 1 s (omega arith),
+          awaits-first c s (drop (j + 1) ps),
+          length-drop (j + 1) ps,
+          before (firstBy (isCall c s) (drop (j + 1) ps)) (length ps) (j + 1),
+          ← a .is,
+          l,
+        )
         (sym (not-ltb r k))
 
 pub ruleset call-tests = (call-gone, call-zero, call-good, needs)

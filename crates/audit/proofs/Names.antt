@@ -33,7 +33,7 @@ pub ruleset ownables = (is-ownable, needs)
 
 -- ---- name j: x is its text, as the code cuts it
 
-module _ (m : List ℕ) (i j b : ℕ) (h : i < 16) (e : b ≡ getD m (4 + 3292 * i + 212 + 256 * j) 0) where
+module _ (m : List ℕ) (i j b : ℕ) (e : b ≡ getD m (4 + 3292 * i + 212 + 256 * j) 0) where
   -- the text that the code lends
   abbrev text : List ℕ
   text = take (4 + 3292 * i + 212 + 256 * j + 1 + b - (4 + 3292 * i + 212 + 256 * j + 1)) (drop (4 + 3292 * i + 212 + 256 * j + 1) m)
@@ -53,7 +53,7 @@ module _ (m : List ℕ) (i j b : ℕ) (h : i < 16) (e : b ≡ getD m (4 + 3292 *
 
       pub name-good : not o ≡ false → w ≡ false → (r : ℕ) → Found (isOwner text) m (i + 1) r → leb 16 r ≡ nameTest m i j
       unfolding nameTest
-      name-good s t r f = rw (← text-is, ← p, not-false o s, ← q, t) (nobody-found (isOwner text) m (i + 1) r (omega arith) f)
+      name-good s t r f = rw (← text-is, ← p, not-false o s, ← q, t) (nobody-found (isOwner text) m (i + 1) r f)
 
 pub ruleset name-tests = (name-bad, name-twice, name-good, name-byte, needs)
 

@@ -66,7 +66,7 @@ module _ (m : List ℕ) (i n last : ℕ) (e : n ≡ numberAt m i) where
   module _ (h : i < 16) (f : ℕ) (g : Found (isPeer n) m (i + 1) f) where
     pub peer-twice : f < 16 → false ≡ goodPeer (stateOf m .slots) last (peerAt m i) (drop (i + 1) (stateOf m .slots))
     unfolding goodPeer
-    peer-twice k = rw (← e, ← nobody-found (isPeer n) m (i + 1) f (omega arith) g, lt-leb 16 f k, and-false)
+    peer-twice k = rw (← e, ← nobody-found (isPeer n) m (i + 1) f g, lt-leb 16 f k, and-false)
 
     pub peer-good : 1 ≤ n → n ≤ last → 16 ≤ f → (p q r : Bool) → p ≡ goodPending (stateOf m .slots) (peerAt m i .pending)
         → q ≡ goodNames (peerAt m i .names) (drop (i + 1) (stateOf m .slots))
@@ -78,7 +78,7 @@ module _ (m : List ℕ) (i n last : ℕ) (e : n ≡ numberAt m i) where
           ← e,
           le-leb 1 n a,
           le-leb n last b,
-          ← nobody-found (isPeer n) m (i + 1) f (omega arith) g,
+          ← nobody-found (isPeer n) m (i + 1) f g,
           le-leb 16 f c,
           le-leb (length (peerAt m i .gids)) 16 (omega (arith, gids-many m (4 + 3292 * i))),
           le-leb (length (peerAt m i .pending)) 16 (omega (arith, pending-many m (4 + 3292 * i))),

@@ -21,7 +21,6 @@ use Rattle.policy.specs.Names.{cellOf, owns}
 use Rattle.rules.specs.State.{isPeer, firstBy}
 use Rattle.rules.specs.Addresses.{ownable}
 use Rattle.rules.specs.Calls.{release, released}
-use Rattle.rules.proofs.First.{owns-first}
 use Rattle.memory.specs.Encoding.{stateOf}
 use Rattle.memory.specs.Sound.{Held}
 use Rattle.memory.specs.Calls.{stored, Did}
@@ -29,19 +28,23 @@ use Rattle.memory.proofs.Search.{Found}
 use Rattle.memory.proofs.Frame.{cell-length}
 use Rattle.memory.proofs.Removal.{released-without}
 use Rattle.memory.proofs.Puts.{names-stand, names-put}
-use Rattle.slots.specs.Slots.{peerAt, namePlace}
-use Rattle.peers.specs.Steps.{Seated, givenUp}
-use Rattle.peers.proofs.Found.{Octets, below, did-stay, peer-none, peer-place, peer-some, peer-seated, names-counted}
+use Rattle.slots.specs.Slots.{peerAt, Seated, namePlace}
+use Rattle.slots.proofs.Cells.{owns-first}
+use Rattle.peers.specs.Steps.{givenUp}
+use Rattle.peers.proofs.Found.{Octets, below, did-stay, peer-none, peer-place, peer-some, peer-seated, counted}
 
 -- ---- 35, and the name taken out: j is its place, n how many names there are
 
 module _ (m : List ℕ) (f : Octets m) (i : ℕ) (g : Seated m i) (name : List ℕ) (j : ℕ) (a : j ≡ namePlace m i name 0) (n : ℕ)
     (en : n ≡ wordAt Little m (4 + 3292 * i + 208)) where
   many : length (peerAt m i .names) ≡ n
-  many = names-counted m i g n en
+  many = counted m i g .names ∙ sym en
+
+  place : j ≡ firstBy (λ x. same x name) (peerAt m i .names)
+  place = a ∙ zero-add (firstBy (λ x. same x name) (peerAt m i .names))
 
   owned : owns (peerAt m i .names) name ≡ ltb j n
-  owned = owns-first name (peerAt m i .names) 0 ∙ rw (← a, many)
+  owned = owns-first name (peerAt m i .names) ∙ rw (← place, many)
 
   pub give-none : n ≤ j → Did (stored (givenUp m i name)) 35 m
   unfolding givenUp
@@ -52,7 +55,7 @@ module _ (m : List ℕ) (f : Octets m) (i : ℕ) (g : Seated m i) (name : List �
     give-table =
         let s : length m ≡ 52676 = g .sized in
         let b : i < 16 = g .below in
-        let w : wordAt Little m (4 + 3292 * i + 208) ≤ 4 = g .few in
+        let w : wordAt Little m (4 + 3292 * i + 208) ≤ 4 = counted m i g .fewNames in
         let l : length (take (4 + 3292 * i + 208 + 1028 - (4 + 3292 * i + 208)) (drop (4 + 3292 * i + 208) m)) ≡ 1028
         = ap length (cut-at (4 + 3292 * i + 208) 1028 m)
         ∙ length-take-le 1028 (drop (4 + 3292 * i + 208) m) (omega (arith, length-drop (4 + 3292 * i + 208) m)) in
@@ -69,13 +72,13 @@ module _ (m : List ℕ) (f : Octets m) (i : ℕ) (g : Seated m i) (name : List �
         let c = 4 + 3292 * i + 208 in
         let ns = peerAt m i .names in
         let b = take 1028 (drop c m) in
-        let w : wordAt Little m (4 + 3292 * i + 208) ≤ 4 = g .few in
+        let w : wordAt Little m (4 + 3292 * i + 208) ≤ 4 = counted m i g .fewNames in
         let stand = names-stand m (below m f) (g .held) i (g .below) (g .some) in
         let r : tableBytes 256 4 cellOf (without j ns) ≡ wordBytes (n - 1) ++ removed 256 n j (drop 4 b)
         = table-remove 256 4 cellOf cell-length ns j b n stand (sym many) (omega arith) h in
         let q : t ≡ tableBytes 256 4 cellOf (without j ns)
         = et ∙ ap (λ (y : List ℕ). wordBytes (n - 1) ++ removed 256 n j (drop 4 y)) (cut-at c 1028 m) ∙ sym r in
-        let o : released name ns ≡ without j ns = released-without name ns ∙ ap (λ (k : ℕ). without k ns) (sym (a ∙ zero-add (firstBy (λ x. same x name) ns))) in
+        let o : released name ns ≡ without j ns = released-without name ns ∙ ap (λ (k : ℕ). without k ns) (sym place) in
         let z = put-at c 1028 m t
         ∙ ap (λ (y : List ℕ). take c m ++ (y ++ drop (c + 1028) m)) q
         ∙ sym (names-put m (below m f) (g .held) i (g .below) (g .some) (without j ns)) in

@@ -16,9 +16,9 @@ ghost use Rattle.rules.specs.Calls.{connect, own, release, disconnect};
 ghost use Rattle.memory.specs.Encoding.{pendingBytes, pendingOf, stateOf};
 ghost use Rattle.memory.specs.Sound.{Held};
 ghost use Rattle.memory.specs.Calls.{stored, Did};
-ghost use Rattle.slots.specs.Slots.{peerAt, At};
+ghost use Rattle.slots.specs.Slots.{peerAt, At, Seated};
 ghost use Rattle.peers.specs.Writes.{newBytes, nameBytes, Naming};
-ghost use Rattle.peers.specs.Steps.{Free, admitted, entered, PlainSlot, Encoded, endedAt, endedFor, gone, Seated, granted, claimed, givenUp};
+ghost use Rattle.peers.specs.Steps.{Free, admitted, entered, PlainSlot, Encoded, endedAt, endedFor, gone, granted, claimed, givenUp};
 
 // ---- connect
 

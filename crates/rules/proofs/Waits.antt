@@ -4,12 +4,14 @@ use mathlib.Core.Logic.{_⊎_, inl, inr}
 use mathlib.Core.Bool.{Bool, true, false, cond, not, _&&_, _||_}
 use mathlib.Core.List.{List, [], _∷_, _++_}
 use Prim.Native.Nat.{ℕ, _≤_}
-use lib.Dec.{leb, eqb}
+use lib.Dec.{ltb, leb, eqb}
+use lib.ListN.{length}
 use borrow.Author.Tests.{eq-eqb, eqb-true, le-leb, not-true}
 use Rattle.wire.proofs.Texts.{both-first, both-second}
-use Rattle.rules.specs.State.{Pending}
+use Rattle.rules.specs.State.{Pending, firstBy}
 use Rattle.rules.specs.Pending.{isCall, awaits, ended, endedAll}
 use Rattle.rules.proofs.Tests.{clash, either, or-left, or-right, or-grow, refute}
+use Rattle.rules.proofs.First.{first-any}
 use Rattle.rules.proofs.Fewer.{Fewer, none, skip, keep}
 
 abbrev pub call : ℕ → ℕ → Pending
@@ -25,6 +27,11 @@ call-serial c s w h = eqb-true (w .serial) s (both-second (eqb (w .callee) c) (e
 
 pub call-own : (w : Pending) → isCall (w .callee) (w .serial) w ≡ true
 call-own w = rw (eq-eqb (w .callee) (w .callee) refl, eq-eqb (w .serial) (w .serial) refl)
+
+-- it waits exactly where the search for it ends at one
+pub awaits-first : (c s : ℕ) (ws : List Pending) → awaits c s ws ≡ ltb (firstBy (isCall c s) ws) (length ws)
+unfolding awaits
+awaits-first c s ws = first-any (isCall c s) (awaits c s) refl (λ w l. refl) ws
 
 -- ---- good by themselves
 

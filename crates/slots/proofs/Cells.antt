@@ -1,25 +1,33 @@
--- The names of a slot, from name j on, as the code cuts them. Assumes nothing.
-use mathlib.Core.Path.{_≡_, _∙_}
+-- The names of a slot, from name j on, as the code cuts them; and whether one is this one, by the place at which a search ended. Assumes nothing.
+use mathlib.Core.Path.{_≡_, refl, sym, _∙_}
 use mathlib.Core.List.{List, [], _∷_}
-use Prim.Native.Nat.{ℕ, _+_, _*_, _≤_, _<_, min}
+use Prim.Native.Nat.{ℕ, _+_, _-_, _*_, _≤_, _<_, min}
 use native.Mathlib.Omega.{arith}
 use native.Mathlib.Nat.{add-zero}
-use lib.ListN.{take, drop, getD}
+use native.Mathlib.Decide.{decLt}
+use lib.Dec.{ltb}
+use lib.ListN.{length, take, drop, getD}
 use lib.Seq.{getD-take, getD-drop, drop-drop, take-take}
-use Rattle.wire.specs.Bytes.{front}
+use borrow.Author.Tests.{lt-ltb, le-ltb}
+use Rattle.wire.specs.Bytes.{front, same}
 use Rattle.wire.specs.Words.{wordAt}
 use Rattle.wire.specs.declared.Order.the-variants.{Little}
 use Rattle.tables.proofs.Parts.{drop-take}
 use Rattle.tables.proofs.Table.{table-past}
-use Rattle.policy.specs.Names.{nameOf}
+use Rattle.policy.specs.Names.{nameOf, owns}
+use Rattle.rules.specs.State.{firstBy}
+use Rattle.rules.proofs.First.{first-any}
 use Rattle.memory.proofs.Reading.{name-next, names-many}
 use Rattle.slots.specs.Slots.{peerAt, nameAt}
 
--- the name of a cell: its length is a byte, so that it ends inside
+-- the length of a name is the byte in front of its cell
+pub cell-front : (m : List ℕ) (a : ℕ) → front (take 256 (drop a m)) ≡ getD m a 0
+cell-front m a = getD-take 256 (drop a m) 0 0 (omega arith) ∙ getD-drop a m 0 0 ∙ rw add-zero
+
+-- the name ends inside the cell
 cell-name : (m : List ℕ) (a : ℕ) → getD m a 0 < 256 → nameOf (take 256 (drop a m)) ≡ take (getD m a 0) (drop (a + 1) m)
 cell-name m a h =
-    let e : front (take 256 (drop a m)) ≡ getD m a 0 = getD-take 256 (drop a m) 0 0 (omega arith) ∙ getD-drop a m 0 0 ∙ rw add-zero in
-    rw (e, drop-take 1 255 (drop a m), drop-drop 1 a m) (take-take (getD m a 0) 255 (drop (a + 1) m) (omega arith))
+    rw (cell-front m a, drop-take 1 255 (drop a m), drop-drop 1 a m) (take-take (getD m a 0) 255 (drop (a + 1) m) (omega arith))
 
 pub names-next : (m : List ℕ) (i j n : ℕ) → n ≡ min (wordAt Little m (4 + 3292 * i + 208)) 4 → j < n → getD m (4 + 3292 * i + 212 + 256 * j) 0 < 256
     → drop j (peerAt m i .names) ≡ nameAt m i j ∷ drop (j + 1) (peerAt m i .names)
@@ -32,3 +40,15 @@ names-past m i j n e h = table-past 256 4 nameOf (drop (4 + 3292 * i + 208) m) j
 -- the length of a name is the byte that the code read
 pub name-byte : (m : List ℕ) (at b : ℕ) → b ≡ getD m at 0 → b < 256 → getD m at 0 < 256
 name-byte m at b e h = omega arith
+
+-- ---- where a search from c on ended
+
+pub before : (a b c : ℕ) → ltb a (b - c) ≡ ltb (c + a) b
+before a b c = elim (decLt (c + a) b) [
+  | yes h ↦ lt-ltb a (b - c) (omega arith) ∙ sym (lt-ltb (c + a) b h)
+  | no h ↦ le-ltb a (b - c) (omega arith) ∙ sym (le-ltb (c + a) b (omega arith))
+]
+
+pub owns-first : (name : List ℕ) (xs : List (List ℕ)) → owns xs name ≡ ltb (firstBy (λ x. same x name) xs) (length xs)
+unfolding owns
+owns-first name xs = first-any (λ x. same x name) (λ l. owns l name) refl (λ x l. refl) xs

@@ -6,7 +6,7 @@ use Prim.Native.Nat.{ℕ, suc, _+_, _-_, _*_, _≤_, _<_, min}
 use native.Mathlib.Omega.{arith}
 use native.Mathlib.Nat.{add-zero}
 use lib.Dec.{ltb}
-use lib.ListN.{length, take, drop, getD}
+use lib.ListN.{length, take, drop, getD, length-drop}
 use borrow.Author.Needs.{needs}
 use Rattle.wire.specs.Bytes.{same}
 use Rattle.wire.specs.Words.{wordAt}
@@ -15,12 +15,11 @@ use Rattle.wire.proofs.Words.{cut-at}
 use Rattle.policy.specs.Names.{owns}
 use Rattle.rules.specs.State.{firstBy}
 use Rattle.rules.specs.Calls.{slotAt, isOwner}
-use Rattle.rules.proofs.First.{owns-first}
 use Rattle.memory.specs.Encoding.{stateOf}
 use Rattle.memory.proofs.Reading.{numberAt, slot-free, slot-peer, names-many}
 use Rattle.memory.proofs.Search.{Looking as Finding, Found, looking-begins as finding-begins, looking-hit as finding-hit, looking-miss as finding-miss, looking-ends as finding-ends}
 use Rattle.slots.specs.Slots.{peerAt, nameAt, namePlace}
-use Rattle.slots.proofs.Cells.{names-next, names-past, name-byte}
+use Rattle.slots.proofs.Cells.{names-next, names-past, name-byte, before, owns-first}
 
 -- the search from name `from` on has come to name j of `count`
 pub record Looking (m : List ℕ) (i : ℕ) (name : List ℕ) (from count j : ℕ) : Type 0 where
@@ -59,8 +58,9 @@ pub ruleset looking = (looking-begins, looking-hit, looking-miss, looking-ends, 
 pub owns-found : (m : List ℕ) (i from : ℕ) (name : List ℕ) (count n j : ℕ) → n ≡ wordAt Little m (4 + 3292 * i + 208) → count ≡ min n 4
     → j ≡ namePlace m i name from → ltb j count ≡ owns (drop from (peerAt m i .names)) name
 owns-found m i from name count n j e c q =
-    let l : length (peerAt m i .names) ≡ count = names-many m (4 + 3292 * i) ∙ rw (← e) (sym c) in
-    sym (owns-first name (peerAt m i .names) from ∙ rw (l, ← q))
+    let ns = peerAt m i .names in
+    let l : length ns ≡ count = names-many m (4 + 3292 * i) ∙ rw (← e) (sym c) in
+    sym (owns-first name (drop from ns) ∙ rw (length-drop from ns, before (firstBy (λ x. same x name) (drop from ns)) (length ns) from, l, ← q))
 
 pub ruleset owned = (owns-found, needs)
 

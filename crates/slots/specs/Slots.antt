@@ -7,7 +7,8 @@ use Rattle.wire.specs.Bytes.{same}
 use Rattle.stream.specs.Tail.{Tail}
 use Rattle.rules.specs.State.{Peer, firstBy}
 use Rattle.rules.specs.Pending.{isCall}
-use Rattle.memory.proofs.Reading.{peerFrom}
+use Rattle.memory.specs.Sound.{Held}
+use Rattle.memory.proofs.Reading.{numberAt, peerFrom}
 use Rattle.slots.specs.declared.Gids.{Gids}
 
 -- the peer that the bytes of slot i say
@@ -26,6 +27,13 @@ namePlace m i name from = from + firstBy (λ x. same x name) (drop from (peerAt 
 pub record At (m : List ℕ) (i : ℕ) : Type 0 where
   pub sized : length m ≡ 52676
   pub below : i < 16
+
+-- slot i of good memory is a peer's
+pub record Seated (m : List ℕ) (i : ℕ) : Type 0 where
+  pub held : Held m
+  pub sized : length m ≡ 52676
+  pub below : i < 16
+  pub some : numberAt m i ≡ 0 → ⊥
 
 -- the gids of slot i stand in front of the list
 pub record GidsOf (m : List ℕ) (i : ℕ) (r : Gids) : Type 0 where
