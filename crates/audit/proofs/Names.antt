@@ -2,15 +2,13 @@
 use mathlib.Core.Path.{_≡_, refl, sym, _∙_}
 use mathlib.Core.Bool.{Bool, true, false, not, _&&_, and-false}
 use mathlib.Core.List.{List}
-use Prim.Native.Nat.{ℕ, _+_, _-_, _*_, _≤_, _<_, min}
+use Prim.Native.Nat.{ℕ, _+_, _-_, _*_, _≤_, _<_}
 use native.Mathlib.Omega.{arith}
 use lib.Dec.{leb}
-use lib.ListN.{take, drop, getD}
+use lib.ListN.{length, take, drop, getD, drop-of-length-le}
 use borrow.Author.Needs.{needs}
 use borrow.Author.Tests.{not-true, not-false}
 use Rattle.wire.specs.Bytes.{same, bytes}
-use Rattle.wire.specs.Words.{wordAt}
-use Rattle.wire.specs.declared.Order.the-variants.{Little}
 use Rattle.wire.proofs.Words.{cut-at}
 use Rattle.names.specs.Names.{validName}
 use Rattle.names.specs.declared.Form.the-variants.{WellKnown}
@@ -21,7 +19,7 @@ use Rattle.memory.specs.Encoding.{stateOf}
 use Rattle.memory.specs.Good.{goodNames}
 use Rattle.memory.proofs.Search.{Found}
 use Rattle.slots.specs.Slots.{peerAt, nameAt}
-use Rattle.slots.proofs.Cells.{names-next, names-past, name-byte}
+use Rattle.slots.proofs.Cells.{names-next, name-byte}
 use Rattle.audit.specs.Tests.{nameTest}
 use Rattle.audit.proofs.Nobody.{nobody-found}
 
@@ -61,11 +59,11 @@ pub ruleset name-tests = (name-bad, name-twice, name-good, name-byte, needs)
 
 pub record Naming (m : List ℕ) (i count j : ℕ) : Type 0 where
   pub few : count ≤ 4
-  pub counted : count ≡ min (wordAt Little m (4 + 3292 * i + 208)) 4
+  pub counted : count ≡ length (peerAt m i .names)
   pub left : goodNames (peerAt m i .names) (drop (i + 1) (stateOf m .slots)) ≡ goodNames (drop j (peerAt m i .names)) (drop (i + 1) (stateOf m .slots))
 
-pub naming-begins : {m : List ℕ} {i count n : ℕ} → n ≡ wordAt Little m (4 + 3292 * i + 208) → count ≡ min n 4 → Naming m i count 0
-naming-begins e c = record { few = omega arith; counted = rw (← e) c; left = refl }
+pub naming-begins : {m : List ℕ} {i count : ℕ} → count ≡ length (peerAt m i .names) → count ≤ 4 → Naming m i count 0
+naming-begins e h = record { few = h; counted = e; left = refl }
 
 module _ {m : List ℕ} {i count j : ℕ} (l : Naming m i count j) where
   module _ (h : j < count) (b : getD m (4 + 3292 * i + 212 + 256 * j) 0 < 256) {r : Bool} (e : r ≡ nameTest m i j) where
@@ -73,7 +71,7 @@ module _ {m : List ℕ} {i count j : ℕ} (l : Naming m i count j) where
     step : goodNames (drop j (peerAt m i .names)) (drop (i + 1) (stateOf m .slots))
         ≡ nameTest m i j && goodNames (drop (j + 1) (peerAt m i .names)) (drop (i + 1) (stateOf m .slots))
     unfolding goodNames nameTest
-    step = rw (names-next m i j count (l .counted) h b)
+    step = rw (names-next m i j (omega (arith, l .counted)) b)
 
     pub naming-more : not r ≡ false → Naming m i count (j + 1)
     naming-more t = record { few = l .few; counted = l .counted; left = l .left ∙ step ∙ rw (← e, not-false r t) }
@@ -83,6 +81,6 @@ module _ {m : List ℕ} {i count j : ℕ} (l : Naming m i count j) where
 
   pub naming-ends : count ≤ j → true ≡ goodNames (peerAt m i .names) (drop (i + 1) (stateOf m .slots))
   unfolding goodNames
-  naming-ends h = sym (l .left ∙ rw (names-past m i j count (l .counted) h))
+  naming-ends h = sym (l .left ∙ rw (drop-of-length-le (peerAt m i .names) {i = j} (omega (arith, l .counted))))
 
 pub ruleset naming = (naming-begins, naming-more, naming-stops, naming-ends, needs)

@@ -43,7 +43,7 @@ fn are_names_good(memory: &[u8], i: usize) -> bool
     requires { ⌜ At (now memory) i ⌝ }
     ensures { λ r. ⌜ r ≡ goodNames (peerAt (now (memory .entry)) i .names) (drop (i + 1) (stateOf (now (memory .entry)) .slots)) ⌝ }
 {
-    let count = wire::least(slots::word_at(memory, i, 208) as usize, 4);
+    let count = slots::count_names(memory, i);
     let mut j = 0;
     while j < count {
         if !is_name_good(memory, i, j) {
@@ -67,8 +67,7 @@ fn is_call_good(memory: &[u8], i: usize, j: usize) -> bool
     if serial == 0 {
         return false;
     }
-    let count = wire::least(slots::word_at(memory, i, 76) as usize, 16);
-    count <= slots::find_pending(memory, i, callee, serial, j + 1)
+    slots::count_pending(memory, i) <= slots::find_pending(memory, i, callee, serial, j + 1)
 }
 
 // Every pending call of slot i has a connected callee and a serial, and stands once.
@@ -76,7 +75,7 @@ fn are_calls_good(memory: &[u8], i: usize) -> bool
     requires { ⌜ At (now memory) i ⌝ }
     ensures { λ r. ⌜ r ≡ goodPending (stateOf (now (memory .entry)) .slots) (peerAt (now (memory .entry)) i .pending) ⌝ }
 {
-    let count = wire::least(slots::word_at(memory, i, 76) as usize, 16);
+    let count = slots::count_pending(memory, i);
     let mut j = 0;
     while j < count {
         if !is_call_good(memory, i, j) {

@@ -2,40 +2,38 @@
 use mathlib.Core.Path.{_≡_, refl, sym, _∙_}
 use mathlib.Core.Bool.{Bool, true, false}
 use mathlib.Core.List.{List, _∷_}
-use Prim.Native.Nat.{ℕ, suc, _+_, _-_, _*_, _≤_, _<_, min}
+use Prim.Native.Nat.{ℕ, suc, _+_, _-_, _*_, _≤_, _<_}
 use native.Mathlib.Omega.{arith}
 use native.Mathlib.Nat.{add-zero}
 use lib.Dec.{ltb}
-use lib.ListN.{length, take, drop, getD, length-drop}
+use lib.ListN.{length, take, drop, getD, length-drop, drop-of-length-le}
 use borrow.Author.Needs.{needs}
 use Rattle.wire.specs.Bytes.{same}
-use Rattle.wire.specs.Words.{wordAt}
-use Rattle.wire.specs.declared.Order.the-variants.{Little}
 use Rattle.wire.proofs.Words.{cut-at}
 use Rattle.policy.specs.Names.{owns}
 use Rattle.rules.specs.State.{firstBy}
 use Rattle.rules.specs.Calls.{slotAt, isOwner}
 use Rattle.memory.specs.Encoding.{stateOf}
-use Rattle.memory.proofs.Reading.{numberAt, slot-free, slot-peer, names-many}
+use Rattle.memory.proofs.Reading.{numberAt, slot-free, slot-peer}
 use Rattle.memory.proofs.Search.{Looking as Finding, Found, looking-begins as finding-begins, looking-hit as finding-hit, looking-miss as finding-miss, looking-ends as finding-ends}
 use Rattle.slots.specs.Slots.{peerAt, nameAt, namePlace}
-use Rattle.slots.proofs.Cells.{names-next, names-past, name-byte, before, owns-first}
+use Rattle.slots.proofs.Cells.{names-next, name-byte, before, owns-first}
 
 -- the search from name `from` on has come to name j of `count`
 pub record Looking (m : List ℕ) (i : ℕ) (name : List ℕ) (from count j : ℕ) : Type 0 where
   pub few : count ≤ 4
-  pub counted : count ≡ min (wordAt Little m (4 + 3292 * i + 208)) 4
+  pub counted : count ≡ length (peerAt m i .names)
   pub left : namePlace m i name from ≡ namePlace m i name j
 
-pub looking-begins : {m : List ℕ} {i from : ℕ} {name : List ℕ} {count n : ℕ} → n ≡ wordAt Little m (4 + 3292 * i + 208) → count ≡ min n 4
+pub looking-begins : {m : List ℕ} {i from : ℕ} {name : List ℕ} {count : ℕ} → count ≡ length (peerAt m i .names) → count ≤ 4
     → Looking m i name from count from
-looking-begins e c = record { few = omega arith; counted = rw (← e) c; left = refl }
+looking-begins e h = record { few = h; counted = e; left = refl }
 
 module _ {m : List ℕ} {i from : ℕ} {name : List ℕ} {count j : ℕ} (l : Looking m i name from count j) where
   module _ (h : j < count) (b : getD m (4 + 3292 * i + 212 + 256 * j) 0 < 256) {r : Bool} (e : r ≡ same (nameAt m i j) name) where
     -- name j, and those after it
     here : drop j (peerAt m i .names) ≡ nameAt m i j ∷ drop (j + 1) (peerAt m i .names)
-    here = names-next m i j count (l .counted) h b
+    here = names-next m i j (omega (arith, l .counted)) b
 
     pub looking-hit : r ≡ true → j ≡ namePlace m i name from
     unfolding firstBy
@@ -50,17 +48,16 @@ module _ {m : List ℕ} {i from : ℕ} {name : List ℕ} {count j : ℕ} (l : Lo
 
   pub looking-ends : count ≤ j → j ≡ namePlace m i name from
   unfolding firstBy
-  looking-ends h = sym (l .left ∙ rw (names-past m i j count (l .counted) h, add-zero))
+  looking-ends h = sym (l .left ∙ rw (drop-of-length-le (peerAt m i .names) {i = j} (omega (arith, l .counted)), add-zero))
 
 pub ruleset looking = (looking-begins, looking-hit, looking-miss, looking-ends, needs)
 
 -- it is one of them where the search ends before their end
-pub owns-found : (m : List ℕ) (i from : ℕ) (name : List ℕ) (count n j : ℕ) → n ≡ wordAt Little m (4 + 3292 * i + 208) → count ≡ min n 4
-    → j ≡ namePlace m i name from → ltb j count ≡ owns (drop from (peerAt m i .names)) name
-owns-found m i from name count n j e c q =
+pub owns-found : (m : List ℕ) (i from : ℕ) (name : List ℕ) (count j : ℕ) → count ≡ length (peerAt m i .names) → j ≡ namePlace m i name from
+    → ltb j count ≡ owns (drop from (peerAt m i .names)) name
+owns-found m i from name count j e q =
     let ns = peerAt m i .names in
-    let l : length ns ≡ count = names-many m (4 + 3292 * i) ∙ rw (← e) (sym c) in
-    sym (owns-first name (drop from ns) ∙ rw (length-drop from ns, before (firstBy (λ x. same x name) (drop from ns)) (length ns) from, l, ← q))
+    sym (owns-first name (drop from ns) ∙ rw (length-drop from ns, before (firstBy (λ x. same x name) (drop from ns)) (length ns) from, ← e, ← q))
 
 pub ruleset owned = (owns-found, needs)
 

@@ -92,6 +92,22 @@ pub fn gids_at(memory: &[u8], i: usize) -> Gids
     Gids { list, count }
 }
 
+// How many names slot i has.
+pub fn count_names(memory: &[u8], i: usize) -> usize
+    requires { ⌜ At (now memory) i ⌝ }
+    ensures { λ r. ⌜ (r ≡ length (peerAt (now (memory .entry)) i .names)) × (r ≤ 4) ⌝ }
+{
+    wire::least(word_at(memory, i, 208) as usize, 4)
+}
+
+// How many pending calls slot i has.
+pub fn count_pending(memory: &[u8], i: usize) -> usize
+    requires { ⌜ At (now memory) i ⌝ }
+    ensures { λ r. ⌜ (r ≡ length (peerAt (now (memory .entry)) i .pending)) × (r ≤ 16) ⌝ }
+{
+    wire::least(word_at(memory, i, 76) as usize, 16)
+}
+
 // Name j of slot i is this one.
 fn is_name(memory: &[u8], i: usize, j: usize, name: &[u8]) -> bool
     requires { ⌜ (length (now memory) ≡ 52676) × (i < 16) × (j < 4) ⌝ }
@@ -108,7 +124,7 @@ pub fn find_name(memory: &[u8], i: usize, name: &[u8], from: usize) -> usize
     requires { ⌜ At (now memory) i ⌝ }
     ensures { λ r. ⌜ r ≡ namePlace (now (memory .entry)) i (now (name .entry)) from ⌝ }
 {
-    let count = wire::least(word_at(memory, i, 208) as usize, 4);
+    let count = count_names(memory, i);
     let mut j = from;
     while j < count {
         if is_name(memory, i, j, name) {
@@ -124,7 +140,7 @@ pub fn owns_name(memory: &[u8], i: usize, name: &[u8], from: usize) -> bool
     requires { ⌜ At (now memory) i ⌝ }
     ensures { λ r. ⌜ r ≡ owns (drop from (peerAt (now (memory .entry)) i .names)) (now (name .entry)) ⌝ }
 {
-    let count = wire::least(word_at(memory, i, 208) as usize, 4);
+    let count = count_names(memory, i);
     find_name(memory, i, name, from) < count
 }
 
@@ -159,7 +175,7 @@ pub fn find_pending(memory: &[u8], i: usize, callee: u32, serial: u32, from: usi
     requires { ⌜ (length (now memory) ≡ 52676) × (i < 16) × (from ≤ length (peerAt (now memory) i .pending)) ⌝ }
     ensures { λ r. ⌜ CallAt (now (memory .entry)) i callee serial from r ⌝ }
 {
-    let count = wire::least(word_at(memory, i, 76) as usize, 16);
+    let count = count_pending(memory, i);
     let mut j = from;
     while j < count {
         if (word_at(memory, i, 80 + 8 * j) == callee) & (word_at(memory, i, 84 + 8 * j) == serial) {

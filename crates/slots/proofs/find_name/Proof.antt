@@ -20,8 +20,6 @@ find-name-spec =
     (λ c. search looking)
     (λ c κs. search looking)
     (λ c. search looking)
-    (λ c κs. search looking)
-    (λ c. search looking)
     (λ c. search looking)
     (λ c. search looking)
     (λ c. search looking)

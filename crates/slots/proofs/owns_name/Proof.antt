@@ -4,4 +4,4 @@ use Rattle.slots.proofs.owns_name.Statement.{statement}
 use Rattle.slots.proofs.owns_name.Tie as tie
 
 pub owns-name-spec : {M : Type 1} → statement M
-owns-name-spec = tie.close (tie.spec (λ c κs. search owned) (λ c. search owned) (λ c κs. search owned) (λ c κs. search owned) (λ c. search owned))
+owns-name-spec = tie.close (tie.spec (λ c κs. search owned) (λ c κs. search owned) (λ c. search owned))
