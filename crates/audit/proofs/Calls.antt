@@ -1,6 +1,6 @@
 -- The pending calls of a slot, one after the other. Assumes nothing.
 use mathlib.Core.Path.{_≡_, refl, sym, _∙_}
-use mathlib.Core.Bool.{Bool, true, false, not, _&&_}
+use mathlib.Core.Bool.{Bool, true, false, not, _&&_, and-false}
 use mathlib.Core.List.{List}
 use Prim.Native.Nat.{ℕ, _+_, _≤_, _<_}
 use native.Mathlib.Omega.{arith}
@@ -21,19 +21,19 @@ use Rattle.audit.proofs.Nobody.{nobody-found, not-ltb}
 
 -- ---- call j, whose callee is c and whose serial is s
 
-module _ (m : List ℕ) (i j c s : ℕ) (p : c ≡ calleeAt m i j) (q : s ≡ serialAt m i j) (f : ℕ) (g : Found (isPeer c) m 0 f) where
-  pub call-gone : 16 ≤ f → false ≡ callTest m i j
+module _ (m : List ℕ) (i j c s : ℕ) (p : c ≡ calleeAt m i j) (q : s ≡ serialAt m i j) where
+  pub call-zero : s ≡ 0 → false ≡ callTest m i j
   unfolding callTest
-  call-gone h = rw (← p, ← nobody-found (isPeer c) m 0 f g, le-leb 16 f h)
+  call-zero z = rw (← q, lt-leb 1 s (omega arith), and-false)
 
-  module _ (h : f < 16) where
-    pub call-zero : s ≡ 0 → false ≡ callTest m i j
+  module _ (f : ℕ) (g : Found (isPeer c) m 0 f) where
+    pub call-gone : 16 ≤ f → false ≡ callTest m i j
     unfolding callTest
-    call-zero z = rw (← p, ← q, ← nobody-found (isPeer c) m 0 f g, lt-leb 16 f h, lt-leb 1 s (omega arith))
+    call-gone h = rw (← p, ← nobody-found (isPeer c) m 0 f g, le-leb 16 f h)
 
-    pub call-good : (s ≡ 0 → ⊥) → (r k : ℕ) → k ≡ length (peerAt m i .pending) → CallAt m i c s (j + 1) r → leb k r ≡ callTest m i j
+    pub call-good : f < 16 → (s ≡ 0 → ⊥) → (r k : ℕ) → k ≡ length (peerAt m i .pending) → CallAt m i c s (j + 1) r → leb k r ≡ callTest m i j
     unfolding callTest
-    call-good z r k e a =
+    call-good h z r k e a =
         let ps = peerAt m i .pending in
         rw (
           ← p,
