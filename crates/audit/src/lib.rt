@@ -2,13 +2,8 @@
 use names::Form;
 use wire::Order;
 ghost use mathlib.Core.Path.{_≡_};
-ghost use mathlib.Core.Bool.{_&&_};
-ghost use mathlib.Core.List.{List};
 ghost use Prim.Native.Nat.{_+_, _-_, _*_, _≤_, _<_};
-ghost use lib.Dec.{leb};
-ghost use lib.ListN.{length, take, drop, getD};
-ghost use Rattle.wire.specs.Bytes.{allZero};
-ghost use Rattle.wire.specs.Words.{wordAt};
+ghost use lib.ListN.{length, drop, getD};
 ghost use Rattle.wire.specs.declared.Order.the-variants.{Little};
 ghost use Rattle.rules.specs.Addresses.{ownable};
 ghost use Rattle.memory.specs.Encoding.{stateOf};
@@ -48,7 +43,7 @@ fn are_names_good(memory: &[u8], i: usize) -> bool
     requires { ⌜ At (now memory) i ⌝ }
     ensures { λ r. ⌜ r ≡ goodNames (peerAt (now (memory .entry)) i .names) (drop (i + 1) (stateOf (now (memory .entry)) .slots)) ⌝ }
 {
-    let count = wire::least(slots::word_at(memory, i, 208) as usize, 4);
+    let count = slots::count_names(memory, i);
     let mut j = 0;
     while j < count {
         if !is_name_good(memory, i, j) {
@@ -72,8 +67,7 @@ fn is_call_good(memory: &[u8], i: usize, j: usize) -> bool
     if serial == 0 {
         return false;
     }
-    let count = wire::least(slots::word_at(memory, i, 76) as usize, 16);
-    count <= slots::find_pending(memory, i, callee, serial, j + 1)
+    slots::count_pending(memory, i) <= slots::find_pending(memory, i, callee, serial, j + 1)
 }
 
 // Every pending call of slot i has a connected callee and a serial, and stands once.
@@ -81,7 +75,7 @@ fn are_calls_good(memory: &[u8], i: usize) -> bool
     requires { ⌜ At (now memory) i ⌝ }
     ensures { λ r. ⌜ r ≡ goodPending (stateOf (now (memory .entry)) .slots) (peerAt (now (memory .entry)) i .pending) ⌝ }
 {
-    let count = wire::least(slots::word_at(memory, i, 76) as usize, 16);
+    let count = slots::count_pending(memory, i);
     let mut j = 0;
     while j < count {
         if !is_call_good(memory, i, j) {

@@ -1,10 +1,10 @@
 -- Ending the calls to a callee: in a table, in a slot, in every slot. Assumes nothing.
 use mathlib.Core.Path.{_≡_, refl, sym, ap, _∙_}
-use mathlib.Core.List.{List, [], _++_, append-nil}
+use mathlib.Core.List.{List, _++_}
 use Prim.Native.Nat.{ℕ, _+_, _-_, _*_, _≤_, _<_}
 use native.Mathlib.Omega.{arith}
-use lib.ListN.{length, take, drop, length-drop, drop-of-length-le}
-use lib.Seq.{drop-at, drop-drop, take-take, take-all, length-take-le}
+use lib.ListN.{length, take, drop, length-drop}
+use lib.Seq.{drop-at, drop-drop, take-take, length-take-le}
 use borrow.Author.Needs.{needs}
 use Rattle.wire.specs.Words.{wordAt, wordBytes}
 use Rattle.wire.specs.declared.Order.the-variants.{Little}
@@ -18,11 +18,10 @@ use Rattle.memory.specs.Encoding.{pendingBytes, pendingOf, slotBytes, peerOf, s
 use Rattle.memory.proofs.Reading.{sixteen, slot-at, numberAt, part-peer, part-number}
 use Rattle.memory.proofs.Fields.{pending-bytes}
 use Rattle.memory.proofs.Frame.{slot-length, memory-at}
-use Rattle.tables.specs.Cut.{cutOut}
+use Rattle.tables.specs.Cut.{cutOut, Cell}
 use Rattle.memory.proofs.Ending.{Ending, ending-begins, ending-out, ending-stays, ending-ends}
 use Rattle.memory.proofs.Bereft.{bereft-free, bereft-peer, pending-of}
 use Rattle.memory.proofs.Sweep.{changed, Sweeping, sweeping-begins, sweeping-again, sweeping-ends}
-use Rattle.peers.specs.Writes.{Table}
 use Rattle.peers.specs.Steps.{PlainSlot, Encoded, endedAt, endedFor}
 use Rattle.peers.proofs.Found.{Octets, below}
 
@@ -33,7 +32,7 @@ pub calls-begin : (c : ℕ) (t : List ℕ) (n : ℕ) → length t ≡ 132 → Oc
 calls-begin c t n l f e en = ending-begins c t n l (below t f) e en
 
 module _ {c : ℕ} {ws : List Pending} {t : List ℕ} {n j : ℕ} (g : Ending c ws t n j) (h : j < n) where
-  pub calls-table : Table t (8 * j) 8 (8 * n)
+  pub calls-table : Cell t (4 + 8 * j) 8 (4 + 8 * n)
   calls-table =
       let l : length t ≡ 132 = g .sized in
       let f : n ≤ 16 = g .few in

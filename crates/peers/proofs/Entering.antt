@@ -23,7 +23,7 @@ use Rattle.memory.proofs.Frame.{free-bytes}
 use Rattle.memory.proofs.Newcomer.{newcomer-spread}
 use Rattle.memory.proofs.Good.{seated}
 use Rattle.rules.specs.declared.Connected.{Connected}
-use Rattle.peers.specs.Writes.{newBytes, Seating}
+use Rattle.peers.specs.Writes.{newBytes}
 use Rattle.peers.specs.Steps.{Free, admitted, entered}
 use Rattle.peers.proofs.Zeros.{zero-rest}
 use Rattle.peers.proofs.Found.{Octets, below, did-stay, free-part}
@@ -51,9 +51,6 @@ seat-bytes m gids a n u h e =
 
 -- ---- the seat
 
-pub admit-seats : (m gids : List ℕ) (i : ℕ) → Free m i gids → Seating m i gids
-admit-seats m gids i g = record { sized = g .sized; below = g .below; few = g .few }
-
 pub admit-seated : (m : List ℕ) → Octets m → (i n uid : ℕ) (gids m₁ m₂ : List ℕ) → Free m i gids
     → m₁ ≡ take (4 + 3292 * i) m ++ (newBytes n uid gids ++ drop (4 + 3292 * i + (12 + 4 * length gids)) m)
     → m₂ ≡ wordBytes n ++ drop 4 m₁
@@ -66,7 +63,7 @@ admit-seated m f i n uid gids m₁ m₂ g e₁ e₂ =
     = e₁ ∙ ap (λ (y : List ℕ). take a m ++ y) (seat-bytes m gids a n uid (g .few) (g .zeros ∙ free-bytes)) in
     e₂ ∙ ap (λ (y : List ℕ). wordBytes n ++ drop 4 y) q ∙ sym (seated m (below m f) (g .held .held) n i x (g .below))
 
-pub ruleset admitting = (admit-seats, admit-seated, needs)
+pub ruleset admitting = (admit-seated, needs)
 
 -- ---- 38, 39, and the seat
 

@@ -5,9 +5,6 @@ use mathlib.Core.List.{List, [], _∷_, _++_, map}
 use Prim.Native.Nat.{ℕ, _+_, _*_, _≤_, _<_}
 use lib.Dec.{leb}
 use lib.ListN.{length, take, drop, set}
-use Rattle.wire.specs.Bytes.{same}
-use Rattle.wire.specs.Words.{wordAt}
-use Rattle.wire.specs.declared.Order.the-variants.{Little}
 use Rattle.policy.specs.Names.{owns}
 use Rattle.stream.specs.Tail.{Tail, tails}
 use Rattle.rules.specs.State.{free, peer, isFree, firstBy, putSlot, withNames}
@@ -16,7 +13,6 @@ use Rattle.rules.specs.Calls.{Step, stays, newcomer, connectAt, ownNew, release
 use Rattle.rules.specs.declared.Connected.{Connected}
 use Rattle.memory.specs.Encoding.{slotBytes, slotOf, memoryOf, stateOf}
 use Rattle.memory.specs.Sound.{Held}
-use Rattle.memory.proofs.Reading.{numberAt}
 use Rattle.memory.proofs.Sweep.{putAt, changed, mapped}
 use Rattle.slots.specs.Slots.{peerAt}
 
@@ -66,14 +62,6 @@ gone m i callee = memoryOf (record { last = stateOf m .last; slots = map (bereft
 
 -- ---- own and release
 
--- slot i of good memory is a peer's
-pub record Seated (m : List ℕ) (i : ℕ) : Type 0 where
-  pub sized : length m ≡ 52676
-  pub held : Held m
-  pub below : i < 16
-  pub some : numberAt m i ≡ 0 → ⊥
-  pub few : wordAt Little m (4 + 3292 * i + 208) ≤ 4
-
 -- own's last test, and its change
 unfoldable pub granted : List ℕ → ℕ → List ℕ → Step Tail ℕ
 granted m i name =
@@ -91,8 +79,3 @@ givenUp m i name =
     cond (owns (peerAt m i .names) name)
     (stays (putSlot (stateOf m) i (peer (withNames (peerAt m i) (released name (peerAt m i .names))))) 0)
     (stays (stateOf m) 35)
-
--- r is the first of the names of slot i that is this one, or how many there are
-pub record NameAt (m : List ℕ) (i : ℕ) (name : List ℕ) (r : ℕ) : Type 0 where
-  pub few : r ≤ wordAt Little m (4 + 3292 * i + 208)
-  pub is : r ≡ firstBy (λ x. same x name) (peerAt m i .names)

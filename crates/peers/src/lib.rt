@@ -6,10 +6,8 @@ use wire::Order;
 ghost use mathlib.Core.Path.{_≡_};
 ghost use mathlib.Core.List.{_++_};
 ghost use Prim.Native.Nat.{_+_, _-_, _*_, _≤_, _<_};
-ghost use lib.ListN.{length, take, drop, getD};
-ghost use Rattle.wire.specs.Bytes.{same};
-ghost use Rattle.wire.specs.Words.{wordBytes};
-ghost use Rattle.tables.specs.Tables.{cells, tableBytes, tableOf};
+ghost use lib.ListN.{length, take, drop};
+ghost use Rattle.tables.specs.Tables.{tableBytes, tableOf};
 ghost use Rattle.image.specs.Contracts.{GoodImage};
 ghost use Rattle.policy.specs.Decisions.{mayOwn};
 ghost use Rattle.stream.specs.Tail.{tails};
@@ -18,35 +16,22 @@ ghost use Rattle.rules.specs.Calls.{connect, own, release, disconnect};
 ghost use Rattle.memory.specs.Encoding.{pendingBytes, pendingOf, stateOf};
 ghost use Rattle.memory.specs.Sound.{Held};
 ghost use Rattle.memory.specs.Calls.{stored, Did};
-ghost use Rattle.slots.specs.Slots.{peerAt, nameAt};
-ghost use Rattle.tables.specs.Cut.{cutOut};
-ghost use Rattle.peers.specs.Writes.{Table, newBytes, Seating, nameBytes, Naming};
-ghost use Rattle.peers.specs.Steps.{Free, admitted, entered, PlainSlot, Encoded, endedAt, endedFor, gone, Seated, granted, claimed, givenUp, NameAt};
+ghost use Rattle.slots.specs.Slots.{peerAt, At, Seated};
+ghost use Rattle.peers.specs.Writes.{newBytes, nameBytes, Naming};
+ghost use Rattle.peers.specs.Steps.{Free, admitted, entered, PlainSlot, Encoded, endedAt, endedFor, gone, granted, claimed, givenUp};
 
 // ---- connect
 
-// Writes the gids one after the other from `at` on.
-fn put_gids(memory: &mut [u8], at: usize, gids: &[u32])
-    requires { ⌜ (at + 4 * length (now gids) ≤ length (now memory)) × (length (now memory) ≡ 52676) ⌝ }
-    ensures { λ r. ⌜ now (memory .exit) ≡ take at (now (memory .entry)) ++ (cells wordBytes (now (gids .entry)) ++ drop (at + 4 * length (now (gids .entry))) (now (memory .entry))) ⌝ }
-{
-    let mut k = 0;
-    while k < gids.len() {
-        wire::put_u32(memory, at + 4 * k, gids[k]);
-        k += 1;
-    }
-}
-
 // Writes a peer's number, uid and gids in slot i, where zeros stand.
 fn seat(memory: &mut [u8], i: usize, number: u32, uid: u32, gids: &[u32])
-    requires { ⌜ Seating (now memory) i (now gids) ⌝ }
+    requires { ⌜ (At (now memory) i) × (length (now gids) ≤ 16) ⌝ }
     ensures { λ r. ⌜ now (memory .exit) ≡ take (4 + 3292 * i) (now (memory .entry)) ++ (newBytes number uid (now (gids .entry)) ++ drop (4 + 3292 * i + (12 + 4 * length (now (gids .entry)))) (now (memory .entry))) ⌝ }
 {
     let at = 4 + 3292 * i;
     wire::put_u32(memory, at, number);
     wire::put_u32(memory, at + 4, uid);
     wire::put_u32(memory, at + 8, gids.len() as u32);
-    put_gids(memory, at + 12, gids);
+    tables::put_words(memory, at + 12, gids);
 }
 
 // Gives slot i, which is free, to a peer, whose number is then the last.
@@ -109,17 +94,6 @@ pub fn connect(image: &[u8], memory: &mut [u8], uid: u32, gids: &[u32]) -> Conne
     enter(memory, uid, gids)
 }
 
-// ---- a cell taken out of a table
-
-// Takes the w bytes at `at` out of the first `end` bytes of the cells of a table, which then has `left` things.
-fn remove(table: &mut [u8], at: usize, w: usize, end: usize, left: u32)
-    requires { ⌜ Table (now table) at w end ⌝ }
-    ensures { λ r. ⌜ now (table .exit) ≡ wordBytes left ++ cutOut w end at (drop 4 (now (table .entry))) ⌝ }
-{
-    tables::cut_out(&mut table[4..], at, w, end);
-    wire::put_u32(table, 0, left);
-}
-
 // ---- disconnect
 
 // Ends every call to the callee in a table of pending calls.
@@ -132,7 +106,7 @@ fn end_calls(table: &mut [u8], callee: u32)
     while j < n {
         let at = 8 * (j as usize);
         if wire::u32_at(Order::Little, table, 4 + at) == callee {
-            remove(table, at, 8, 8 * (n as usize), n - 1);
+            tables::remove(table, at, 8, 8 * (n as usize), n - 1);
             n -= 1;
             continue;
         }
@@ -274,46 +248,19 @@ pub fn own(image: &[u8], memory: &mut [u8], peer: u32, name: &[u8]) -> u8
 
 // ---- release
 
-// Name j of slot i is this one.
-fn is_name(memory: &[u8], i: usize, j: usize, name: &[u8]) -> bool
-    requires { ⌜ (length (now memory) ≡ 52676) × (i < 16) × (j < 4) ⌝ }
-    ensures { λ r. ⌜ (r ≡ same (nameAt (now (memory .entry)) i j) (now (name .entry))) × (getD (now (memory .entry)) (4 + 3292 * i + 212 + 256 * j) 0 < 256) ⌝ }
-{
-    let at = 4 + 3292 * i + 212 + 256 * j;
-    let from = at + 1;
-    let to = from + wire::wide(memory[at]) as usize;
-    wire::equal(&memory[from..to], name)
-}
-
-// The first of the names of slot i that is this one, or how many there are.
-fn find_name(memory: &[u8], i: usize, name: &[u8]) -> usize
-    requires { ⌜ Seated (now memory) i ⌝ }
-    ensures { λ r. ⌜ NameAt (now (memory .entry)) i (now (name .entry)) r ⌝ }
-{
-    let count = slots::word_at(memory, i, 208) as usize;
-    let mut j = 0;
-    while j < count {
-        if is_name(memory, i, j, name) {
-            return j;
-        }
-        j += 1;
-    }
-    j
-}
-
 // Takes the name from the peer of slot i, if it has it: 35.
 fn give_up(memory: &mut [u8], i: usize, name: &[u8]) -> u8
     requires { ⌜ Seated (now memory) i ⌝ }
     ensures { λ r. ⌜ Did (stored (givenUp (now (memory .entry)) i (now (name .entry)))) r (now (memory .exit)) ⌝ }
 {
-    let j = find_name(memory, i, name);
+    let j = slots::find_name(memory, i, name, 0);
     let n = slots::word_at(memory, i, 208);
     if n as usize <= j {
         return 35;
     }
     let at = 4 + 3292 * i + 208;
     let end = at + 1028;
-    remove(
+    tables::remove(
         &mut memory[at..end],
         256 * j,
         256,

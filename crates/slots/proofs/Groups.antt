@@ -1,7 +1,7 @@
 -- The gids of a slot, copied in front of a list of sixteen. Assumes nothing.
 use mathlib.Core.Path.{_≡_, refl, sym, ap, _∙_}
-use mathlib.Core.List.{List, [], _∷_, _++_}
-use Prim.Native.Nat.{ℕ, suc, _+_, _*_, _≤_, _<_, min}
+use mathlib.Core.List.{List, _∷_}
+use Prim.Native.Nat.{ℕ, _+_, _*_, _≤_, _<_, min}
 use native.Mathlib.Omega.{arith}
 use native.Mathlib.Numerals.{add-one}
 use lib.ListN.{length, take, drop, getD, set, length-set}
@@ -9,7 +9,7 @@ use lib.Seq.{take-suc-set, take-suc, drop-cons, take-length}
 use borrow.Author.Needs.{needs}
 use Rattle.wire.specs.Words.{wordAt}
 use Rattle.wire.specs.declared.Order.the-variants.{Little}
-use Rattle.slots.specs.Slots.{peerAt, GidsOf}
+use Rattle.slots.specs.Slots.{peerAt}
 use Rattle.memory.proofs.Reading.{gid-next, gids-many}
 
 pub record Gathering (m : List ℕ) (i count : ℕ) (list : List ℕ) (k : ℕ) : Type 0 where

@@ -3,6 +3,7 @@ use mathlib.Core.Path.{_≡_}
 use mathlib.Core.List.{List}
 use Prim.Native.Nat.{ℕ, _+_, _*_, _≤_, _<_}
 use lib.ListN.{length, take, drop, getD}
+use Rattle.wire.specs.Bytes.{same}
 use Rattle.stream.specs.Tail.{Tail}
 use Rattle.rules.specs.State.{Peer, firstBy}
 use Rattle.rules.specs.Pending.{isCall}
@@ -17,6 +18,10 @@ peerAt m i = peerFrom m (4 + 3292 * i)
 -- name j of slot i, whose length is a byte
 abbrev pub nameAt : List ℕ → ℕ → ℕ → List ℕ
 nameAt m i j = take (getD m (4 + 3292 * i + 212 + 256 * j) 0) (drop (4 + 3292 * i + 212 + 256 * j + 1) m)
+
+-- the first of the names of slot i from `from` on that is this one, or how many there are
+abbrev pub namePlace : List ℕ → ℕ → List ℕ → ℕ → ℕ
+namePlace m i name from = from + firstBy (λ x. same x name) (drop from (peerAt m i .names))
 
 -- slot i of a memory of the right length
 pub record At (m : List ℕ) (i : ℕ) : Type 0 where

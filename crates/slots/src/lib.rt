@@ -12,7 +12,7 @@ ghost use Rattle.policy.specs.Names.{owns};
 ghost use Rattle.memory.specs.Encoding.{stateOf};
 ghost use Rattle.memory.proofs.Reading.{numberAt};
 ghost use Rattle.memory.proofs.Search.{Found};
-ghost use Rattle.slots.specs.Slots.{peerAt, nameAt, At, GidsOf, CallAt};
+ghost use Rattle.slots.specs.Slots.{peerAt, nameAt, namePlace, At, GidsOf, CallAt};
 
 // A peer's gids: the first `count` of the list.
 pub struct Gids {
@@ -92,6 +92,22 @@ pub fn gids_at(memory: &[u8], i: usize) -> Gids
     Gids { list, count }
 }
 
+// How many names slot i has.
+pub fn count_names(memory: &[u8], i: usize) -> usize
+    requires { ⌜ At (now memory) i ⌝ }
+    ensures { λ r. ⌜ (r ≡ length (peerAt (now (memory .entry)) i .names)) × (r ≤ 4) ⌝ }
+{
+    wire::least(word_at(memory, i, 208) as usize, 4)
+}
+
+// How many pending calls slot i has.
+pub fn count_pending(memory: &[u8], i: usize) -> usize
+    requires { ⌜ At (now memory) i ⌝ }
+    ensures { λ r. ⌜ (r ≡ length (peerAt (now (memory .entry)) i .pending)) × (r ≤ 16) ⌝ }
+{
+    wire::least(word_at(memory, i, 76) as usize, 16)
+}
+
 // Name j of slot i is this one.
 fn is_name(memory: &[u8], i: usize, j: usize, name: &[u8]) -> bool
     requires { ⌜ (length (now memory) ≡ 52676) × (i < 16) × (j < 4) ⌝ }
@@ -103,20 +119,29 @@ fn is_name(memory: &[u8], i: usize, j: usize, name: &[u8]) -> bool
     wire::equal(&memory[from..to], name)
 }
 
+// The first of the names of slot i from `from` on that is this one, or how many there are.
+pub fn find_name(memory: &[u8], i: usize, name: &[u8], from: usize) -> usize
+    requires { ⌜ At (now memory) i ⌝ }
+    ensures { λ r. ⌜ r ≡ namePlace (now (memory .entry)) i (now (name .entry)) from ⌝ }
+{
+    let count = count_names(memory, i);
+    let mut j = from;
+    while j < count {
+        if is_name(memory, i, j, name) {
+            return j;
+        }
+        j += 1;
+    }
+    j
+}
+
 // The peer of slot i has the name among those from `from` on.
 pub fn owns_name(memory: &[u8], i: usize, name: &[u8], from: usize) -> bool
     requires { ⌜ At (now memory) i ⌝ }
     ensures { λ r. ⌜ r ≡ owns (drop from (peerAt (now (memory .entry)) i .names)) (now (name .entry)) ⌝ }
 {
-    let count = wire::least(word_at(memory, i, 208) as usize, 4);
-    let mut j = from;
-    while j < count {
-        if is_name(memory, i, j, name) {
-            return true;
-        }
-        j += 1;
-    }
-    false
+    let count = count_names(memory, i);
+    find_name(memory, i, name, from) < count
 }
 
 // Slot i is a peer's that owns the name.
@@ -150,7 +175,7 @@ pub fn find_pending(memory: &[u8], i: usize, callee: u32, serial: u32, from: usi
     requires { ⌜ (length (now memory) ≡ 52676) × (i < 16) × (from ≤ length (peerAt (now memory) i .pending)) ⌝ }
     ensures { λ r. ⌜ CallAt (now (memory .entry)) i callee serial from r ⌝ }
 {
-    let count = wire::least(word_at(memory, i, 76) as usize, 16);
+    let count = count_pending(memory, i);
     let mut j = from;
     while j < count {
         if (word_at(memory, i, 80 + 8 * j) == callee) & (word_at(memory, i, 84 + 8 * j) == serial) {

@@ -73,10 +73,6 @@ unfolding tableOf
 table-many w k dec b =
     length-map (parts w (min (wordAt Little b 0) k) (drop 4 b)) dec ∙ parts-length w (min (wordAt Little b 0) k) (drop 4 b)
 
--- a count that is in bounds
-pub table-full : {A : Type 0} (w k : ℕ) (dec : List ℕ → A) (b : List ℕ) (n : ℕ) → wordAt Little b 0 ≡ n → n ≤ k → length (tableOf w k dec b) ≡ n
-table-full w k dec b n e h = table-many w k dec b ∙ omega arith
-
 -- thing i, by its cell
 pub table-at : {A : Type 0} (w k : ℕ) (dec : List ℕ → A) (b : List ℕ) (i : ℕ) → i < length (tableOf w k dec b)
     → getD (tableOf w k dec b) i (dec []) ≡ dec (take w (drop (4 + w * i) b))

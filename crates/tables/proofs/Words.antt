@@ -6,8 +6,6 @@ use native.Mathlib.Omega.{arith}
 use native.Mathlib.Nat.{add-zero}
 use lib.ListN.{length, getD, take, drop, length-take, take-append-drop}
 use lib.Seq.{getD-take, getD-drop}
-use mir.Val.{Fits}
-use mir.Syntax.{w8}
 use Rattle.wire.specs.Words.{wordAt, wordBytes}
 use Rattle.wire.specs.declared.Order.the-variants.{Little}
 use Rattle.wire.proofs.Words.{bytes-again, word-drop}
@@ -31,10 +29,6 @@ pub word-front : (m : List ℕ) (a : ℕ) → wordAt Little (drop a m) 0 ≡ wor
 word-front m a = word-drop Little m a 0 ∙ ap (wordAt Little m) (add-zero a)
 
 -- ---- bytes below 256
-
--- as the check knows it of a slice's bytes
-pub byte-below : (x : ℕ) → Fits w8 x → x < 256
-byte-below x f = f .fits
 
 pub bytes-take : (n : ℕ) (m : List ℕ) → ((i : ℕ) → getD m i 0 < 256) → (i : ℕ) → getD (take n m) i 0 < 256
 bytes-take zero m b i = omega arith

@@ -19,6 +19,12 @@ use Rattle.tables.proofs.Change.{removed, without, table-append, table-
 abbrev pub put : List ℕ → ℕ → ℕ → List ℕ → List ℕ
 put m a c y = take a m ++ (y ++ drop (a + c) m)
 
+-- as many as were there
+pub put-sized : (m y : List ℕ) (a c : ℕ) → a + c ≤ length m → length y ≡ c → length (put m a c y) ≡ length m
+put-sized m y a c h e =
+    length-append (take a m) (y ++ drop (a + c) m)
+    ∙ omega (arith, length-append y (drop (a + c) m), length-take-le a m (omega arith), length-drop (a + c) m)
+
 -- the b in m, that begins at t and has l bytes: `pre` before it and `post` after it
 pub record Inside (m b pre post : List ℕ) (t l : ℕ) : Type 0 where
   pub start : length pre ≡ t
@@ -40,13 +46,12 @@ inside-put m b pre post y t l a c g h e =
     let lb : length b ≡ l = g .long in
     let p = take a b in
     let r = drop (a + c) b in
-    let la : length p ≡ a = length-take-le a b (omega arith) in
     let q : put (b ++ post) a c y ≡ put b a c y ++ post
     = rw (take-append-le a b post (omega arith), drop-append-le (a + c) b post (omega arith))
     (sym (append-assoc p (y ++ r) post ∙ ap (λ (z : List ℕ). p ++ z) (append-assoc y r post))) in
     record {
       start = g .start;
-      long = length-append p (y ++ r) ∙ omega (arith, length-append y r, length-drop (a + c) b);
+      long = put-sized b y a c (omega arith) e ∙ lb;
       is = rw (g .is) (part-past pre (b ++ post) y t a c (g .start) ∙ ap (λ (z : List ℕ). pre ++ z) q);
     }
 

@@ -1,7 +1,7 @@
--- `peers::remove` meets its contract. Assumes nothing.
-use Rattle.peers.proofs.Cutting.{removing}
-use Rattle.peers.proofs.remove.Statement.{statement}
-use Rattle.peers.proofs.remove.Tie as tie
+-- `tables::remove` meets its contract. Assumes nothing.
+use Rattle.tables.proofs.Cutting.{removing}
+use Rattle.tables.proofs.remove.Statement.{statement}
+use Rattle.tables.proofs.remove.Tie as tie
 
 pub remove-spec : {M : Type 1} → statement M
 remove-spec =
