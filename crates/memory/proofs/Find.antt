@@ -12,10 +12,11 @@ use borrow.Author.Tests.{eq-eqb, ne-eqb, eqb-true}
 use borrow.Author.Needs.{needs}
 use Rattle.stream.specs.Tail.{Tail}
 use Rattle.rules.specs.State.{Slot, free, peer, isFree, isPeer, firstBy}
+use Rattle.rules.proofs.First.{first-passes}
 use Rattle.memory.specs.Layout.{slotStart}
 use Rattle.memory.specs.Encoding.{stateOf}
 use Rattle.memory.proofs.Reading.{sixteen, numberAt, peerFrom, slot-free, slot-peer}
-use Rattle.memory.proofs.Search.{first-passes, Looking, Found, looking-begins, looking-hit, looking-miss, looking-ends}
+use Rattle.memory.proofs.Search.{Looking, Found, looking-begins, looking-hit, looking-miss, looking-ends}
 
 -- ---- the first free slot; k is the number that the code read in slot i
 

@@ -37,17 +37,6 @@ module _ {A : Type 0} (t : A → Bool) where
       go true h = omega arith
       go false h = omega arith
 
-  -- the first that passes does pass
-  pub first-passes : (l : List A) (d : A) → firstBy t l < length l → t (getD l (firstBy t l) d) ≡ true
-  unfolding firstBy
-  first-passes [] d h = absurd (omega arith)
-  first-passes (x ∷ l) d h = go (t x) refl h (first-passes l d)
-    where
-      go : (b : Bool) → t x ≡ b → cond b 0 (suc (firstBy t l)) < suc (length l)
-          → (firstBy t l < length l → t (getD l (firstBy t l) d) ≡ true) → t (getD (x ∷ l) (cond b 0 (suc (firstBy t l))) d) ≡ true
-      go true e k f = e
-      go false e k f = f (omega arith)
-
 -- ---- of the slots of memory: t is what is asked, from slot `from` on, and slot i is looked at
 
 pub record Looking (t : Slot Tail → Bool) (m : List ℕ) (from i : ℕ) : Type 0 where

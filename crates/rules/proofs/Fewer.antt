@@ -5,10 +5,8 @@ use Prim.Native.Nat.{ℕ, _≤_}
 use native.Mathlib.Omega.{arith}
 use lib.Dec.{eqb}
 use lib.ListN.{length}
-use Rattle.wire.specs.Bytes.{same}
-use Rattle.rules.specs.State.{Pending}
-use Rattle.rules.specs.Pending.{isCall, ended, endedAll}
-use Rattle.rules.specs.Calls.{released}
+use Rattle.rules.specs.State.{Pending, dropFirst}
+use Rattle.rules.specs.Pending.{endedAll}
 
 pub data Fewer {A : Type 0} : List A → List A → Type 0 where
   none : Fewer [] []
@@ -24,25 +22,17 @@ fewer-length none = omega arith
 fewer-length (skip f) = let h = fewer-length f in omega arith
 fewer-length (keep f) = let h = fewer-length f in omega arith
 
--- a name released, a wait ended, and all the waits for a callee
-pub released-fewer : (name : List ℕ) (xs : List (List ℕ)) → Fewer xs (released name xs)
-unfolding released
-released-fewer name [] = none
-released-fewer name (x ∷ xs) = go (same x name) (released-fewer name xs)
+-- the first that passes a test taken out
+pub drop-fewer : {A : Type 0} (t : A → Bool) (xs : List A) → Fewer xs (dropFirst t xs)
+unfolding dropFirst
+drop-fewer t [] = none
+drop-fewer t (x ∷ xs) = go (t x) (drop-fewer t xs)
   where
-    go : (b : Bool) → Fewer xs (released name xs) → Fewer (x ∷ xs) (cond b xs (x ∷ released name xs))
+    go : (b : Bool) → Fewer xs (dropFirst t xs) → Fewer (x ∷ xs) (cond b xs (x ∷ dropFirst t xs))
     go true f = skip (all-kept xs)
     go false f = keep f
 
-pub ended-fewer : (callee serial : ℕ) (ws : List Pending) → Fewer ws (ended callee serial ws)
-unfolding ended
-ended-fewer callee serial [] = none
-ended-fewer callee serial (w ∷ ws) = go (isCall callee serial w) (ended-fewer callee serial ws)
-  where
-    go : (b : Bool) → Fewer ws (ended callee serial ws) → Fewer (w ∷ ws) (cond b ws (w ∷ ended callee serial ws))
-    go true f = skip (all-kept ws)
-    go false f = keep f
-
+-- all the waits for a callee
 pub ended-all-fewer : (callee : ℕ) (ws : List Pending) → Fewer ws (endedAll callee ws)
 unfolding endedAll
 ended-all-fewer callee [] = none
