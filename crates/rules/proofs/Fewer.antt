@@ -6,10 +6,8 @@ use Prim.Native.Nat.{ℕ, _≤_}
 use native.Mathlib.Omega.{arith}
 use lib.Dec.{eqb}
 use lib.ListN.{length}
-use Rattle.wire.specs.Bytes.{same}
-use Rattle.rules.specs.State.{Pending}
-use Rattle.rules.specs.Pending.{isCall, ended, endedAll}
-use Rattle.rules.specs.Calls.{released}
+use Rattle.rules.specs.State.{Pending, dropFirst}
+use Rattle.rules.specs.Pending.{endedAll}
 
 pub data Fewer {A : Type 0} : List A → List A → Type 0 where
   none : Fewer [] []
@@ -36,14 +34,10 @@ dropped-fewer t out rest e s k (x ∷ xs) = rw (s x xs) (go (t x) (dropped-fewer
     go true f = skip (k xs f)
     go false f = keep f
 
--- a name released, a wait ended, and all the waits for a callee
-pub released-fewer : (name : List ℕ) (xs : List (List ℕ)) → Fewer xs (released name xs)
-unfolding released
-released-fewer name xs = dropped-fewer (λ x. same x name) (released name) (λ l. l) refl (λ x l. refl) (λ l f. all-kept l) xs
-
-pub ended-fewer : (callee serial : ℕ) (ws : List Pending) → Fewer ws (ended callee serial ws)
-unfolding ended
-ended-fewer callee serial ws = dropped-fewer (isCall callee serial) (ended callee serial) (λ l. l) refl (λ w l. refl) (λ l f. all-kept l) ws
+-- the first that passes a test taken out, and all the waits for a callee
+pub drop-fewer : {A : Type 0} (t : A → Bool) (xs : List A) → Fewer xs (dropFirst t xs)
+unfolding dropFirst
+drop-fewer t xs = dropped-fewer t (dropFirst t) (λ l. l) refl (λ x l. refl) (λ l f. all-kept l) xs
 
 pub ended-all-fewer : (callee : ℕ) (ws : List Pending) → Fewer ws (endedAll callee ws)
 unfolding endedAll

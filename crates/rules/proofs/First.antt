@@ -8,6 +8,7 @@ use native.Mathlib.Decide.{decLt}
 use lib.Dec.{ltb, leb·suc-suc}
 use lib.ListN.{length, getD, set, List·getD-eq-default}
 use borrow.Author.Tests.{lt-ltb}
+use Rattle.wire.specs.Lists.{any}
 use Rattle.rules.specs.State.{Slot, free, peer, Peer, isFree, firstBy}
 use Rattle.rules.proofs.Tests.{clash}
 
@@ -23,13 +24,12 @@ first-passes t (x ∷ l) d h = go (t x) refl h (first-passes t l d)
     go false e k f = f (omega arith)
 
 -- one does exactly where it is one of the list
-pub first-any : {A : Type 0} (t : A → Bool) (any : List A → Bool) → any [] ≡ false → ((x : A) (l : List A) → any (x ∷ l) ≡ t x || any l)
-    → (l : List A) → any l ≡ ltb (firstBy t l) (length l)
+pub first-any : {A : Type 0} (t : A → Bool) (l : List A) → any t l ≡ ltb (firstBy t l) (length l)
 unfolding firstBy
-first-any t any z s [] = z
-first-any t any z s (x ∷ l) = s x l ∙ go (t x) (first-any t any z s l)
+first-any t [] = refl
+first-any t (x ∷ l) = go (t x) (first-any t l)
   where
-    go : (b : Bool) → any l ≡ ltb (firstBy t l) (length l) → b || any l ≡ ltb (cond b 0 (suc (firstBy t l))) (suc (length l))
+    go : (b : Bool) → any t l ≡ ltb (firstBy t l) (length l) → b || any t l ≡ ltb (cond b 0 (suc (firstBy t l))) (suc (length l))
     go true e = sym (lt-ltb 0 (suc (length l)) (omega arith))
     go false e = e ∙ sym (leb·suc-suc (suc (firstBy t l)) (length l))
 

@@ -10,7 +10,7 @@ use Rattle.wire.specs.Bytes.{same}
 use Rattle.policy.specs.Names.{owns}
 use Rattle.policy.specs.Decisions.{mayConnect, mayOwn}
 use Rattle.stream.specs.Stream.{Verdict, more, broken, whole, Streams, Offer, offer, settled}
-use Rattle.rules.specs.State.{Slot, free, peer, Peer, State, isFree, isPeer, firstBy, putSlot, withNames, withStream}
+use Rattle.rules.specs.State.{Slot, free, peer, Peer, State, isFree, isPeer, firstBy, dropFirst, putSlot, withNames, withStream}
 use Rattle.rules.specs.Addresses.{ownable}
 use Rattle.rules.specs.Pending.{bereft}
 use Rattle.rules.specs.Judge.{Judged, refusal, judged}
@@ -88,10 +88,9 @@ own image s n name = let i = firstBy (isPeer n) (s .slots) in ownAt image s i (s
 
 -- ---- release: 30, 31, 35
 
--- the names without that one: the later ones move down
+-- the names without that one
 unfoldable pub released : List ℕ → List (List ℕ) → List (List ℕ)
-released name [] = []
-released name (x ∷ xs) = cond (same x name) xs (x ∷ released name xs)
+released name names = dropFirst (λ x. same x name) names
 
 abbrev pub releaseAt : {S : Type 0} → State S → ℕ → Slot S → List ℕ → Step S ℕ
 releaseAt s i free name = stays s 30

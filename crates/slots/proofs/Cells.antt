@@ -66,4 +66,4 @@ before a b c = elim (decLt (c + a) b) [
 
 pub owns-first : (name : List ℕ) (xs : List (List ℕ)) → owns xs name ≡ ltb (firstBy (λ x. same x name) xs) (length xs)
 unfolding owns
-owns-first name xs = first-any (λ x. same x name) (λ l. owns l name) refl (λ x l. refl) xs
+owns-first name xs = first-any (λ x. same x name) xs

@@ -7,6 +7,7 @@ use native.Mathlib.Omega.{arith}
 use lib.Dec.{leb, ltb}
 use lib.ListN.{length, getD, set, length-set, length-map}
 use borrow.Author.Tests.{lt-ltb, ltb-true, ltb-false, leb-false, eq-eqb}
+use Rattle.wire.specs.Lists.{distinct}
 use Rattle.header.specs.Header.{readHeader}
 use Rattle.header.specs.declared.Header.{Header}
 use Rattle.header.specs.declared.Reading.the-variants.{Whole}
@@ -27,8 +28,6 @@ use Rattle.rules.proofs.Tests.{choice}
 use Rattle.sound.proofs.Serial.{header-serial, offer-keeps}
 use Rattle.sound.proofs.Slots.{first-none}
 use Rattle.rules.proofs.First.{first-passes, taken-below}
-use Rattle.sound.proofs.Names.{okNames}
-use Rattle.rules.proofs.Waits.{okPending}
 use Rattle.sound.proofs.Kept.{sound-kept, kept-sound}
 use Rattle.sound.proofs.Put.{peer-fine, put-there, New, new-kept, gone-kept}
 use Rattle.sound.proofs.Renew.{stream-sound, granted-sound, released-sound}
@@ -50,7 +49,7 @@ empty-sound = record { sixteen = refl; fits = omega arith; slots = refl; narrows
 module _ (s : State Tail) (uid : ℕ) (gids : List ℕ) (g : Sound s)
     (user : uid < 4294967296) (groups : every word32 gids ≡ true) where
   newcomer-new : length gids ≤ 16 → New (s .last) (newcomer tails (s .last + 1) uid gids)
-  unfolding okNames okPending owns awaits
+  unfolding distinct owns awaits
   newcomer-new l =
       record {
         number = refl;
