@@ -7,9 +7,10 @@ use native.Mathlib.Omega.{arith}
 use lib.Dec.{leb}
 use lib.ListN.{length, drop, length-drop, drop-of-length-le}
 use borrow.Author.Needs.{needs}
-use borrow.Author.Tests.{le-leb, lt-leb, not-true, not-false}
+use borrow.Author.Tests.{le-leb, lt-leb, lt-ltb, le-ltb, not-true, not-false}
+use Rattle.wire.specs.Lists.{distinct}
 use Rattle.rules.specs.State.{isPeer, firstBy}
-use Rattle.rules.specs.Pending.{isCall}
+use Rattle.rules.specs.Pending.{isCall, awaits}
 use Rattle.rules.proofs.Waits.{awaits-first}
 use Rattle.memory.specs.Encoding.{stateOf}
 use Rattle.memory.specs.Good.{goodPending}
@@ -17,7 +18,7 @@ use Rattle.memory.proofs.Search.{Found}
 use Rattle.slots.specs.Slots.{peerAt, CallAt}
 use Rattle.slots.proofs.Cells.{calls-next, before}
 use Rattle.audit.specs.Tests.{calleeAt, serialAt, callTest}
-use Rattle.audit.proofs.Nobody.{nobody-found, not-ltb}
+use Rattle.audit.proofs.Found.{found-any, not-ltb}
 
 -- ---- call j, whose callee is c and whose serial is s
 
@@ -29,7 +30,7 @@ module _ (m : List ℕ) (i j c s : ℕ) (p : c ≡ calleeAt m i j) (q : s ≡ se
   module _ (f : ℕ) (g : Found (isPeer c) m 0 f) where
     pub call-gone : 16 ≤ f → false ≡ callTest m i j
     unfolding callTest
-    call-gone h = rw (← p, ← nobody-found (isPeer c) m 0 f g, le-leb 16 f h)
+    call-gone h = rw (← p, found-any (isPeer c) m 0 f g, le-ltb f 16 h)
 
     pub call-good : f < 16 → (s ≡ 0 → ⊥) → (r k : ℕ) → k ≡ length (peerAt m i .pending) → CallAt m i c s (j + 1) r → leb k r ≡ callTest m i j
     unfolding callTest
@@ -38,8 +39,8 @@ module _ (m : List ℕ) (i j c s : ℕ) (p : c ≡ calleeAt m i j) (q : s ≡ se
         rw (
           ← p,
           ← q,
-          ← nobody-found (isPeer c) m 0 f g,
-          lt-leb 16 f h,
+          found-any (isPeer c) m 0 f g,
+          lt-ltb f 16 h,
           le-leb 1 s (omega arith),
           awaits-first c s (drop (j + 1) ps),
           length-drop (j + 1) ps,
@@ -66,7 +67,7 @@ module _ {m : List ℕ} {i count j : ℕ} (l : Calling m i count j) where
     -- call j, and those after it
     step : goodPending (stateOf m .slots) (drop j (peerAt m i .pending))
         ≡ callTest m i j && goodPending (stateOf m .slots) (drop (j + 1) (peerAt m i .pending))
-    unfolding goodPending callTest
+    unfolding goodPending distinct awaits callTest
     step = rw (calls-next m i j (omega (arith, l .long)))
 
     pub calling-more : not r ≡ false → Calling m i count (j + 1)
@@ -76,7 +77,7 @@ module _ {m : List ℕ} {i count j : ℕ} (l : Calling m i count j) where
     calling-stops t = sym (l .left ∙ step ∙ rw (← e, not-true r t))
 
   pub calling-ends : count ≤ j → true ≡ goodPending (stateOf m .slots) (peerAt m i .pending)
-  unfolding goodPending
+  unfolding goodPending distinct
   calling-ends h = sym (l .left ∙ rw (drop-of-length-le (peerAt m i .pending) {i = j} (omega (arith, l .long))))
 
 pub ruleset calling = (calling-begins, calling-more, calling-stops, calling-ends, needs)

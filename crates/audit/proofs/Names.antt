@@ -1,6 +1,6 @@
 -- The names of a slot, one after the other. Assumes nothing.
 use mathlib.Core.Path.{_≡_, refl, sym, _∙_}
-use mathlib.Core.Bool.{Bool, true, false, not, _&&_, and-false}
+use mathlib.Core.Bool.{Bool, true, false, not, _&&_, and-true, and-false}
 use mathlib.Core.List.{List}
 use Prim.Native.Nat.{ℕ, _+_, _-_, _*_, _≤_, _<_}
 use native.Mathlib.Omega.{arith}
@@ -9,6 +9,7 @@ use lib.ListN.{length, take, drop, getD, drop-of-length-le}
 use borrow.Author.Needs.{needs}
 use borrow.Author.Tests.{not-true, not-false}
 use Rattle.wire.specs.Bytes.{same, bytes}
+use Rattle.wire.specs.Lists.{distinct}
 use Rattle.wire.proofs.Words.{cut-at}
 use Rattle.names.specs.Names.{validName}
 use Rattle.names.specs.declared.Form.the-variants.{WellKnown}
@@ -21,7 +22,7 @@ use Rattle.memory.proofs.Search.{Found}
 use Rattle.slots.specs.Slots.{peerAt, nameAt}
 use Rattle.slots.proofs.Cells.{names-next, name-byte}
 use Rattle.audit.specs.Tests.{nameTest}
-use Rattle.audit.proofs.Nobody.{nobody-found}
+use Rattle.audit.proofs.Found.{found-any, not-ltb}
 
 pub is-ownable : (name : List ℕ) (v e : Bool) → v ≡ validName WellKnown name → e ≡ same name (bytes "org.freedesktop.DBus") → v && not e ≡ ownable name
 unfolding validName
@@ -51,7 +52,8 @@ module _ (m : List ℕ) (i j b : ℕ) (e : b ≡ getD m (4 + 3292 * i + 212 + 25
 
       pub name-good : not o ≡ false → w ≡ false → (r : ℕ) → Found (isOwner text) m (i + 1) r → leb 16 r ≡ nameTest m i j
       unfolding nameTest
-      name-good s t r f = rw (← text-is, ← p, not-false o s, ← q, t) (nobody-found (isOwner text) m (i + 1) r f)
+      name-good s t r f =
+          rw (← text-is, ← p, not-false o s, ← q, t, found-any (isOwner text) m (i + 1) r f, and-true) (sym (not-ltb r 16))
 
 pub ruleset name-tests = (name-bad, name-twice, name-good, name-byte, needs)
 
@@ -70,7 +72,7 @@ module _ {m : List ℕ} {i count j : ℕ} (l : Naming m i count j) where
     -- name j, and those after it
     step : goodNames (drop j (peerAt m i .names)) (drop (i + 1) (stateOf m .slots))
         ≡ nameTest m i j && goodNames (drop (j + 1) (peerAt m i .names)) (drop (i + 1) (stateOf m .slots))
-    unfolding goodNames nameTest
+    unfolding goodNames distinct owns nameTest
     step = rw (names-next m i j (omega (arith, l .counted)) b)
 
     pub naming-more : not r ≡ false → Naming m i count (j + 1)
@@ -80,7 +82,7 @@ module _ {m : List ℕ} {i count j : ℕ} (l : Naming m i count j) where
     naming-stops t = sym (l .left ∙ step ∙ rw (← e, not-true r t))
 
   pub naming-ends : count ≤ j → true ≡ goodNames (peerAt m i .names) (drop (i + 1) (stateOf m .slots))
-  unfolding goodNames
+  unfolding goodNames distinct
   naming-ends h = sym (l .left ∙ rw (drop-of-length-le (peerAt m i .names) {i = j} (omega (arith, l .counted))))
 
 pub ruleset naming = (naming-begins, naming-more, naming-stops, naming-ends, needs)

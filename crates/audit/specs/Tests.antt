@@ -6,6 +6,7 @@ use Prim.Native.Nat.{ℕ, _+_, _-_, _*_}
 use lib.Dec.{leb}
 use lib.ListN.{take, drop}
 use Rattle.wire.specs.Bytes.{allZero, same}
+use Rattle.wire.specs.Lists.{any}
 use Rattle.wire.specs.Words.{wordAt}
 use Rattle.wire.specs.declared.Order.the-variants.{Little}
 use Rattle.policy.specs.Names.{owns, cellOf, nameOf}
@@ -21,8 +22,8 @@ use Rattle.slots.specs.Slots.{peerAt, nameAt}
 unfoldable pub nameTest : List ℕ → ℕ → ℕ → Bool
 nameTest m i j =
     ownable (nameAt m i j)
-    && not (owns (drop (j + 1) (peerAt m i .names)) (nameAt m i j))
     && nobody (isOwner (nameAt m i j)) (drop (i + 1) (stateOf m .slots))
+    && not (owns (drop (j + 1) (peerAt m i .names)) (nameAt m i j))
 
 -- the callee and the serial of pending call j
 abbrev pub calleeAt : List ℕ → ℕ → ℕ → ℕ
@@ -33,7 +34,7 @@ serialAt m i j = wordAt Little m (4 + 3292 * i + (84 + 8 * j))
 
 unfoldable pub callTest : List ℕ → ℕ → ℕ → Bool
 callTest m i j =
-    not (nobody (isPeer (calleeAt m i j)) (stateOf m .slots))
+    any (isPeer (calleeAt m i j)) (stateOf m .slots)
     && leb 1 (serialAt m i j)
     && not (awaits (calleeAt m i j) (serialAt m i j) (drop (j + 1) (peerAt m i .pending)))
 
