@@ -12,7 +12,7 @@ ghost use Rattle.image.specs.Contracts.{GoodImage};
 ghost use Rattle.policy.specs.Decisions.{mayOwn};
 ghost use Rattle.stream.specs.Tail.{tails};
 ghost use Rattle.rules.specs.Pending.{endedAll};
-ghost use Rattle.rules.specs.Calls.{connect, own, release, disconnect};
+ghost use Rattle.rules.specs.Calls.{noConnect, connect, own, release, disconnect};
 ghost use Rattle.memory.specs.Encoding.{pendingBytes, pendingOf, stateOf};
 ghost use Rattle.memory.specs.Sound.{Held};
 ghost use Rattle.memory.specs.Calls.{stored, Did};
@@ -43,6 +43,16 @@ fn admit(memory: &mut [u8], i: usize, number: u32, uid: u32, gids: &[u32])
     wire::put_u32(memory, 0, number);
 }
 
+fn refused(answer: u8) -> Connected
+    ensures { λ r. ⌜ r ≡ noConnect answer ⌝ }
+{
+    Connected {
+        answer,
+        number: 0,
+        slot: 0,
+    }
+}
+
 // Gives the lowest free slot and the next number: 38, 39.
 fn enter(memory: &mut [u8], uid: u32, gids: &[u32]) -> Connected
     requires { ⌜ (Held (now memory)) × (length (now gids) ≤ 16) ⌝ }
@@ -50,19 +60,11 @@ fn enter(memory: &mut [u8], uid: u32, gids: &[u32]) -> Connected
 {
     let slot = slots::find_free(memory);
     if slot == 16 {
-        return Connected {
-            answer: 38,
-            number: 0,
-            slot: 0,
-        };
+        return refused(38);
     }
     let last = slots::last_of(memory);
     if last == 4294967295 {
-        return Connected {
-            answer: 39,
-            number: 0,
-            slot: 0,
-        };
+        return refused(39);
     }
     admit(memory, slot, last + 1, uid, gids);
     Connected {
@@ -78,18 +80,10 @@ pub fn connect(image: &[u8], memory: &mut [u8], uid: u32, gids: &[u32]) -> Conne
     ensures { λ r. ⌜ Did (stored (connect tails (now (image .entry)) (stateOf (now (memory .entry))) uid (now (gids .entry)))) r (now (memory .exit)) ⌝ }
 {
     if 16 < gids.len() {
-        return Connected {
-            answer: 37,
-            number: 0,
-            slot: 0,
-        };
+        return refused(37);
     }
     if !policy::may_connect(image, Uid(uid), gids) {
-        return Connected {
-            answer: 36,
-            number: 0,
-            slot: 0,
-        };
+        return refused(36);
     }
     enter(memory, uid, gids)
 }
