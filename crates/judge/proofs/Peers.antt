@@ -1,11 +1,10 @@
 -- A call or a signal to one peer, and replies. Assumes nothing.
 use mathlib.Core.Path.{_≡_, refl, sym, ap, _∙_}
-use mathlib.Core.Bool.{Bool, true, false, cond, not, _&&_, _||_}
-use mathlib.Core.List.{List, [], _∷_}
-use Prim.Native.Nat.{ℕ, suc, _%_, _≤_, _<_}
+use mathlib.Core.Bool.{Bool, true, false, cond, not}
+use mathlib.Core.List.{List}
+use Prim.Native.Nat.{ℕ, _≤_, _<_}
 use native.Mathlib.Omega.{arith}
 use native.Mathlib.Nat.{zero-add}
-use lib.Dec.{eqb}
 use lib.ListN.{length, getD}
 use mir.Syntax.{w8}
 use mir.Val.{Fits}
@@ -72,10 +71,10 @@ pub ruleset waiting = (wait-twice, wait-full, wait-begins, needs)
 -- ---- a message that may pass
 
 module _ {m : List ℕ} {i j : ℕ} (x : Header) {c : ℕ} (e : c ≡ numberAt m j) where
-  pub delivers-call : eqb (x .kind) 1 && eqb (x .flags % 2) 0 ≡ true → {r : Judgement} {m′ : List ℕ} → Waits m i c (x .serial) r m′ → Delivers m i j x r m′
+  pub delivers-call : expectsReply x ≡ true → {r : Judgement} {m′ : List ℕ} → Waits m i c (x .serial) r m′ → Delivers m i j x r m′
   delivers-call y w = record { left = rw y (w .left (peerAt m j) x (sym e) refl) }
 
-  pub delivers-signal : Seated m i → ((k : ℕ) → Fits w8 (getD m k 0)) → eqb (x .kind) 1 && eqb (x .flags % 2) 0 ≡ false
+  pub delivers-signal : Seated m i → ((k : ℕ) → Fits w8 (getD m k 0)) → expectsReply x ≡ false
       → Delivers m i j x (record { answer = 0; receiver = to.Peer c }) m
   delivers-signal p b y = record { left = rw y (left-as-is p b (ap (λ (k : ℕ). record { answer = 0; receiver = to.Peer k }) e)) }
 
