@@ -12,6 +12,7 @@ use borrow.Author.Needs.{needs}
 use borrow.Author.Tests.{le-leb, lt-leb, lt-ltb, le-ltb, not-true, not-false}
 use Rattle.header.specs.declared.Header.{Header}
 use Rattle.policy.specs.Matching.{messageOf}
+use Rattle.policy.specs.Decisions.{send, receive}
 use Rattle.stream.specs.Tail.{Tail}
 use Rattle.rules.specs.State.{Pending, peer, putSlot, withPending, firstBy}
 use Rattle.rules.specs.Pending.{isCall, awaits, ended}
@@ -82,11 +83,11 @@ pub ruleset delivering = (delivers-call, delivers-signal, needs)
 
 -- ---- 22, 23
 
-module _ {image m : List ℕ} {i j : ℕ} {head : List ℕ} {x : Header} {s : Bool} (a : Says image 0 m i j head x s) where
+module _ {image m : List ℕ} {i j : ℕ} {head : List ℕ} {x : Header} {s : Bool} (a : Says image send m i j head x s) where
   pub answer-send : not s ≡ true → Answer image m i j head x 22
   answer-send t = record { is = rw (← a .is, not-true s t) }
 
-  module _ (t : not s ≡ false) {u : Bool} (d : Says image 1 m j i head x u) where
+  module _ (t : not s ≡ false) {u : Bool} (d : Says image receive m j i head x u) where
     pub answer-receive : not u ≡ true → Answer image m i j head x 23
     answer-receive v = record { is = rw (← a .is, not-false s t, ← d .is, not-true u v) }
 

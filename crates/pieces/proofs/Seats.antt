@@ -30,7 +30,7 @@ use Rattle.memory.proofs.Puts.{stream-put}
 use Rattle.sound.proofs.Kept.{Fine}
 use Rattle.sound.proofs.Put.{peer-fine}
 use Rattle.slots.specs.Slots.{peerAt, Seated}
-use Rattle.pieces.specs.Fed.{streamIn, Opens, Fed, Running, FedAt, cleared}
+use Rattle.pieces.specs.Fed.{streamIn, Opens, Fed, FedAt, cleared}
 
 fresh-bytes : streamBytes fresh ≡ replicate 2056 0
 unfolding wordBytes headBytes pad
@@ -135,14 +135,4 @@ settled-at m z i h k q =
     ∙ length-take-le 2056 (drop (4 + 3292 * i + 1236) m) (omega (arith, length-drop (4 + 3292 * i + 1236) m)) in
     put-at (4 + 3292 * i + 1236) 2056 m z ∙ rw (q, l)
 
-module _ (m : List ℕ) (f : (j : ℕ) → Fits w8 (getD m j 0)) (i : ℕ) (s : Running m i) where
-  pub runs-open : Opens (take (4 + 3292 * i + 1236 + 2056 - (4 + 3292 * i + 1236)) (drop (4 + 3292 * i + 1236) m))
-  runs-open = opens-at m f i (s .seat) (s .runs)
-
-  pub runs-fed : (piece x after : List ℕ) (r : Advance)
-      → Fed (offer tails (streamIn (take (4 + 3292 * i + 1236 + 2056 - (4 + 3292 * i + 1236)) (drop (4 + 3292 * i + 1236) m))) piece) (length piece) r x
-      → after ≡ take (4 + 3292 * i + 1236) m ++ (x ++ drop (4 + 3292 * i + 1236 + 2056 - (4 + 3292 * i + 1236)) (drop (4 + 3292 * i + 1236) m))
-      → FedAt m i (offer tails (peerAt m i .stream) piece) (length piece) r after
-  runs-fed = fed-at m f i (s .seat)
-
-pub ruleset seats = (runs-open, runs-fed, closed-at, closed-is, settled-at, needs)
+pub ruleset seats = (opens-at, fed-at, closed-at, closed-is, settled-at, needs)

@@ -37,11 +37,6 @@ pub record Fed (o : Offer Tail) (n : ℕ) (r : Advance) (x : List ℕ) : Type 0 
   pub bytes : x ≡ streamBytes (o .stream)
   pub within : r .taken ≤ n
 
--- slot i of good memory is a peer's whose stream is open
-pub record Running (m : List ℕ) (i : ℕ) : Type 0 where
-  pub seat : Seated m i
-  pub runs : closed (peerAt m i .stream) ≡ false
-
 -- what an offer to slot i comes to, in memory
 pub record FedAt (m : List ℕ) (i : ℕ) (o : Offer Tail) (n : ℕ) (r : Advance) (after : List ℕ) : Type 0 where
   pub taken : r .taken ≡ o .taken
