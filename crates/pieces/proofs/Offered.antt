@@ -80,7 +80,7 @@ module _ (image : List ℕ) (s : State Tail) (i : ℕ) (p : Peer Tail) (o : Offe
   whole-step h x e z q a b = rw (e, a, b)
 
 module _ (image m bytes after : List ℕ) (f : (j : ℕ) → Fits w8 (getD m j 0)) (i : ℕ) (s : Seated m i) (r : Advance)
-    (d : FedAt m i (offer tails (peerAt m i .stream) bytes) (length bytes) r after) where
+    (d : FedAt m i (offer tails (peerAt m i .stream) bytes) r after) where
   verdict-is : (e : Event) → r .event ≡ e → verdictOf (pad 2048 (offer tails (peerAt m i .stream) bytes .stream .head)) e ≡ offer tails (peerAt m i .stream) bytes .verdict
   verdict-is e q = ap (verdictOf (pad 2048 (offer tails (peerAt m i .stream) bytes .stream .head))) (sym q) ∙ d .verdict
 

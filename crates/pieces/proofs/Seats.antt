@@ -77,14 +77,14 @@ module _ (m : List ℕ) (f : (j : ℕ) → Fits w8 (getD m j 0)) (i : ℕ) (s : 
       })
 
   pub fed-at : (piece x after : List ℕ) (r : Advance)
-      → Fed (offer tails (streamIn (take (4 + 3292 * i + 1236 + 2056 - (4 + 3292 * i + 1236)) (drop (4 + 3292 * i + 1236) m))) piece) (length piece) r x
+      → Fed (offer tails (streamIn (take (4 + 3292 * i + 1236 + 2056 - (4 + 3292 * i + 1236)) (drop (4 + 3292 * i + 1236) m))) piece) r x
       → after ≡ take (4 + 3292 * i + 1236) m ++ (x ++ drop (4 + 3292 * i + 1236 + 2056 - (4 + 3292 * i + 1236)) (drop (4 + 3292 * i + 1236) m))
-      → FedAt m i (offer tails (peerAt m i .stream) piece) (length piece) r after
+      → FedAt m i (offer tails (peerAt m i .stream) piece) r after
   fed-at piece x after r d e =
       let q : streamIn (take (4 + 3292 * i + 1236 + 2056 - (4 + 3292 * i + 1236)) (drop (4 + 3292 * i + 1236) m)) ≡ peerAt m i .stream
       = ap streamIn (cut-at (4 + 3292 * i + 1236) 2056 m) ∙ stream-in in
-      let g : Fed (offer tails (peerAt m i .stream) piece) (length piece) r x
-      = subst (λ (t : Tail). Fed (offer tails t piece) (length piece) r x) q d in
+      let g : Fed (offer tails (peerAt m i .stream) piece) r x
+      = subst (λ (t : Tail). Fed (offer tails t piece) r x) q d in
       record {
         taken = g .taken;
         verdict = g .verdict;
@@ -93,7 +93,6 @@ module _ (m : List ℕ) (f : (j : ℕ) → Fits w8 (getD m j 0)) (i : ℕ) (s : 
             e
             ∙ put-at (4 + 3292 * i + 1236) 2056 m x
             ∙ rw (g .bytes) (sym (stream-put m (λ j. f j .fits) (s .held) i (s .below) (s .some) (offer tails (peerAt m i .stream) piece .stream)));
-        within = g .within;
       }
 
   -- the region of its head, as the code lends it

@@ -27,7 +27,7 @@ ghost use Rattle.judge.specs.Judging.{Judges};
 // The piece is offered to the stream whose bytes are lent: the counts, and the head behind them.
 fn feed(bytes: &mut [u8], piece: &[u8]) -> Advance
     requires { ⌜ Opens (now bytes) ⌝ }
-    ensures { λ r. ⌜ Fed (offer tails (streamIn (now (bytes .entry))) (now (piece .entry))) (length (now (piece .entry))) r (now (bytes .exit)) ⌝ }
+    ensures { λ r. ⌜ Fed (offer tails (streamIn (now (bytes .entry))) (now (piece .entry))) r (now (bytes .exit)) ⌝ }
 {
     let s = Stream {
         taken: wire::u32_at(Order::Little, bytes, 0) as usize,
@@ -43,7 +43,7 @@ fn feed(bytes: &mut [u8], piece: &[u8]) -> Advance
 // The piece is offered to the stream of slot i.
 fn feed_at(memory: &mut [u8], i: usize, piece: &[u8]) -> Advance
     requires { ⌜ (Seated (now memory) i) × (closed (peerAt (now memory) i .stream) ≡ false) ⌝ }
-    ensures { λ r. ⌜ FedAt (now (memory .entry)) i (offer tails (peerAt (now (memory .entry)) i .stream) (now (piece .entry))) (length (now (piece .entry))) r (now (memory .exit)) ⌝ }
+    ensures { λ r. ⌜ FedAt (now (memory .entry)) i (offer tails (peerAt (now (memory .entry)) i .stream) (now (piece .entry))) r (now (memory .exit)) ⌝ }
 {
     let from = 4 + 3292 * i + 1236;
     let to = from + 2056;
