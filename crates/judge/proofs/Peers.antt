@@ -1,11 +1,10 @@
 -- A call or a signal to one peer, and replies. Assumes nothing.
 use mathlib.Core.Path.{_≡_, refl, sym, ap, _∙_}
-use mathlib.Core.Bool.{Bool, true, false, cond, not, _&&_, _||_}
-use mathlib.Core.List.{List, [], _∷_}
-use Prim.Native.Nat.{ℕ, suc, _%_, _≤_, _<_}
+use mathlib.Core.Bool.{Bool, true, false, cond, not}
+use mathlib.Core.List.{List}
+use Prim.Native.Nat.{ℕ, _≤_, _<_}
 use native.Mathlib.Omega.{arith}
 use native.Mathlib.Nat.{zero-add}
-use lib.Dec.{eqb}
 use lib.ListN.{length, getD}
 use mir.Syntax.{w8}
 use mir.Val.{Fits}
@@ -13,6 +12,7 @@ use borrow.Author.Needs.{needs}
 use borrow.Author.Tests.{le-leb, lt-leb, lt-ltb, le-ltb, not-true, not-false}
 use Rattle.header.specs.declared.Header.{Header}
 use Rattle.policy.specs.Matching.{messageOf}
+use Rattle.policy.specs.Decisions.{send, receive}
 use Rattle.stream.specs.Tail.{Tail}
 use Rattle.rules.specs.State.{Pending, peer, putSlot, withPending, firstBy}
 use Rattle.rules.specs.Pending.{isCall, awaits, ended}
@@ -72,10 +72,10 @@ pub ruleset waiting = (wait-twice, wait-full, wait-begins, needs)
 -- ---- a message that may pass
 
 module _ {m : List ℕ} {i j : ℕ} (x : Header) {c : ℕ} (e : c ≡ numberAt m j) where
-  pub delivers-call : eqb (x .kind) 1 && eqb (x .flags % 2) 0 ≡ true → {r : Judgement} {m′ : List ℕ} → Waits m i c (x .serial) r m′ → Delivers m i j x r m′
+  pub delivers-call : expectsReply x ≡ true → {r : Judgement} {m′ : List ℕ} → Waits m i c (x .serial) r m′ → Delivers m i j x r m′
   delivers-call y w = record { left = rw y (w .left (peerAt m j) x (sym e) refl) }
 
-  pub delivers-signal : Seated m i → ((k : ℕ) → Fits w8 (getD m k 0)) → eqb (x .kind) 1 && eqb (x .flags % 2) 0 ≡ false
+  pub delivers-signal : Seated m i → ((k : ℕ) → Fits w8 (getD m k 0)) → expectsReply x ≡ false
       → Delivers m i j x (record { answer = 0; receiver = to.Peer c }) m
   delivers-signal p b y = record { left = rw y (left-as-is p b (ap (λ (k : ℕ). record { answer = 0; receiver = to.Peer k }) e)) }
 
@@ -83,11 +83,11 @@ pub ruleset delivering = (delivers-call, delivers-signal, needs)
 
 -- ---- 22, 23
 
-module _ {image m : List ℕ} {i j : ℕ} {head : List ℕ} {x : Header} {s : Bool} (a : Says image 0 m i j head x s) where
+module _ {image m : List ℕ} {i j : ℕ} {head : List ℕ} {x : Header} {s : Bool} (a : Says image send m i j head x s) where
   pub answer-send : not s ≡ true → Answer image m i j head x 22
   answer-send t = record { is = rw (← a .is, not-true s t) }
 
-  module _ (t : not s ≡ false) {u : Bool} (d : Says image 1 m j i head x u) where
+  module _ (t : not s ≡ false) {u : Bool} (d : Says image receive m j i head x u) where
     pub answer-receive : not u ≡ true → Answer image m i j head x 23
     answer-receive v = record { is = rw (← a .is, not-false s t, ← d .is, not-true u v) }
 

@@ -16,7 +16,7 @@ use Rattle.wire.proofs.Words.{cut-at}
 use Rattle.header.specs.declared.Header.{Header}
 use Rattle.policy.specs.Names.{namesIn, cellOf, busName}
 use Rattle.policy.specs.Matching.{Message, messageOf}
-use Rattle.policy.specs.Decisions.{mayTransact}
+use Rattle.policy.specs.Decisions.{send, receive, mayTransact}
 use Rattle.policy.specs.declared.Uid.{Uid}
 use Rattle.policy.proofs.Cells.{bus-names}
 use Rattle.rules.specs.Judge.{refusal}
@@ -61,12 +61,12 @@ pub ruleset saying = (says-is, needs)
 -- ---- the bus
 
 module _ (image m : List ℕ) (i : ℕ) (head : List ℕ) (x : Header) {cell : List ℕ} (e : cell ≡ cellOf busName) {r : Bool}
-    (a : Asks image 0 m i cell head x r) where
-  says : mayTransact image 0 (record { 0 = peerAt m i .uid }) (peerAt m i .gids) (busName ∷ []) (messageOf head x) ≡ r
+    (a : Asks image send m i cell head x r) where
+  says : mayTransact image send (record { 0 = peerAt m i .uid }) (peerAt m i .gids) (busName ∷ []) (messageOf head x) ≡ r
   says =
       sym
       (a .is
-      ∙ ap (λ (z : List (List ℕ)). mayTransact image 0 (record { 0 = peerAt m i .uid }) (peerAt m i .gids) z (messageOf head x)) (ap namesIn e ∙ bus-names))
+      ∙ ap (λ (z : List (List ℕ)). mayTransact image send (record { 0 = peerAt m i .uid }) (peerAt m i .gids) z (messageOf head x)) (ap namesIn e ∙ bus-names))
 
   pub bus-denied : not r ≡ true → {j : Judgement} → j ≡ refusal 22 → ToBus image m i head x j
   bus-denied t q = record { is = q ∙ rw (says, not-true r t) }
@@ -82,11 +82,11 @@ module _ (image m : List ℕ) (i k : ℕ) (head : List ℕ) (x : Header) (h : k 
   pub reach-free : n ≡ 0 → Reaches image m i k head x false
   reach-free z = record { is = rw (slot-free m k h (sym e ∙ z)) }
 
-  module _ (z : n ≡ 0 → ⊥) {s : Bool} (a : Says image 0 m i k head x s) where
+  module _ (z : n ≡ 0 → ⊥) {s : Bool} (a : Says image send m i k head x s) where
     pub reach-denied : not s ≡ true → Reaches image m i k head x false
     reach-denied t = record { is = rw (slot-peer m k h (λ y. z (e ∙ y)), ← a .is, not-true s t) }
 
-    pub reach-both : not s ≡ false → {r : Bool} → Says image 1 m k i head x r → Reaches image m i k head x r
+    pub reach-both : not s ≡ false → {r : Bool} → Says image receive m k i head x r → Reaches image m i k head x r
     reach-both t b = record { is = b .is ∙ rw (slot-peer m k h (λ y. z (e ∙ y)), ← a .is, not-false s t) }
 
 pub ruleset reaching = (reach-free, reach-denied, reach-both, needs)

@@ -8,6 +8,7 @@ use mir.Syntax.{w8}
 use mir.Val.{Fits}
 use borrow.Author.Needs.{needs}
 use borrow.Author.Tests.{lt-ltb, le-ltb, eq-eqb, ne-eqb}
+use Rattle.header.specs.Codes.{call}
 use Rattle.header.specs.declared.Header.{Header}
 use Rattle.header.proofs.Readings.{Fitting, whole-fits}
 use Rattle.policy.specs.Matching.{messageOf}
@@ -71,11 +72,11 @@ module _ {image m : List ℕ} {i : ℕ} {d : Destination} {head : List ℕ} {x :
       pub directs-bus : d ≡ Bus → Directs image m i d head x r m
       directs-bus e = record { left = rw e (told a b t) }
 
-      pub directs-call : d ≡ Absent → x .kind ≡ 1 → Directs image m i d head x r m
-      directs-call e k = record { left = rw (e, eq-eqb (x .kind) 1 k) (told a b t) }
+      pub directs-call : d ≡ Absent → x .kind ≡ call → Directs image m i d head x r m
+      directs-call e k = record { left = rw (e, eq-eqb (x .kind) call k) (told a b t) }
 
-    pub directs-signal : d ≡ Absent → (x .kind ≡ 1 → ⊥) → {r : Judgement} → ToAll image m i head x r → Directs image m i d head x r m
-    directs-signal e k t = record { left = rw (e, ne-eqb (x .kind) 1 k) (left-as-is a b (t .is)) }
+    pub directs-signal : d ≡ Absent → (x .kind ≡ call → ⊥) → {r : Judgement} → ToAll image m i head x r → Directs image m i d head x r m
+    directs-signal e k t = record { left = rw (e, ne-eqb (x .kind) call k) (left-as-is a b (t .is)) }
 
 pub ruleset directing = (stands-at, directs-at, directs-unknown, directs-bus, directs-call, directs-signal, needs)
 

@@ -20,6 +20,15 @@ ghost use Rattle.slots.specs.Slots.{At, Seated};
 ghost use Rattle.judge.specs.Judging.{Message, Judges};
 ghost use Rattle.judge.specs.Steps.{Stands, Asks, Says, ToBus, Reaches, ToAll, Waits, Delivers, Answer, ToPeer, RepliesTo, Replies, Directs};
 
+// "Types: 1 call, 2 return, 3 error, 4 signal."
+const CALL: u8 = 1;
+
+const RETURN: u8 = 2;
+
+const ERROR: u8 = 3;
+
+const SIGNAL: u8 = 4;
+
 // ---- policy
 
 // What policy says of the message, asked of a user and the first `count` of the groups about the names.
@@ -169,7 +178,7 @@ fn deliver(memory: &mut [u8], i: usize, j: usize, header: Header) -> Judgement
     ensures { λ r. ⌜ Delivers (now (memory .entry)) i j header r (now (memory .exit)) ⌝ }
 {
     let receiver = slots::number_at(memory, j);
-    if (header.kind == 1) & (header.flags % 2 == 0) {
+    if (header.kind == CALL) & (header.flags % 2 == 0) {
         return wait(memory, i, receiver, header.serial);
     }
     Judgement {
@@ -264,7 +273,7 @@ fn direct(
         Destination::Bus => to_bus(image, memory, i, head, header),
         Destination::Unknown => refused(21),
         Destination::Absent => {
-            if header.kind == 1 {
+            if header.kind == CALL {
                 return to_bus(image, memory, i, head, header);
             }
             to_all(image, memory, i, head, header)
@@ -272,16 +281,16 @@ fn direct(
     }
 }
 
-// The judgement of a whole message of the peer in slot i. Types above 4 are 20; returns and errors are replies.
+// The judgement of a whole message of the peer in slot i. Other types are 20; returns and errors are replies.
 pub fn judge(image: &[u8], memory: &mut [u8], i: usize, head: &[u8], header: Header) -> Judgement
     requires { ⌜ Message (now image) (now memory) i (now head) header ⌝ }
     ensures { λ r. ⌜ Judges (now (image .entry)) (now (memory .entry)) i (now (head .entry)) header r (now (memory .exit)) ⌝ }
 {
-    if 4 < header.kind {
+    if SIGNAL < header.kind {
         return refused(20);
     }
     let to = address::resolve(memory, head, header.destination);
-    if (header.kind == 2) | (header.kind == 3) {
+    if (header.kind == RETURN) | (header.kind == ERROR) {
         return reply(memory, i, to, header);
     }
     direct(image, memory, i, to, head, header)

@@ -77,3 +77,15 @@ module _ (t : Slot Tail → Bool) (m : List ℕ) (from i : ℕ) (l : Looking t m
         bound = l .high;
         is = sym (l .left ∙ omega (arith, first-none t (stateOf m .slots) i (rw (sixteen m) h)));
       }
+
+-- the same, where r is what a test in code gave for slot i
+module _ {t : Slot Tail → Bool} {m : List ℕ} {from i : ℕ} (l : Looking t m from i) where
+  module _ (h : i < 16) {r : Bool} (e : r ≡ t (getD (stateOf m .slots) i free)) where
+    pub tested-hit : r ≡ true → Found t m from i
+    tested-hit q = looking-hit t m from i l h (sym e ∙ q)
+
+    pub tested-miss : r ≡ false → Looking t m from (i + 1)
+    tested-miss q = looking-miss t m from i l h (sym e ∙ q)
+
+  pub tested-ends : 16 ≤ i → Found t m from i
+  tested-ends h = looking-ends t m from i l h

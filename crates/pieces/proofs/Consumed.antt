@@ -35,7 +35,7 @@ use Rattle.memory.proofs.Good.{held-of}
 use Rattle.sound.proofs.Put.{put-there}
 use Rattle.sound.proofs.Renew.{stream-sound}
 use Rattle.slots.specs.Slots.{peerAt, Seated}
-use Rattle.pieces.specs.Fed.{Running, cleared, headIn, Completed}
+use Rattle.pieces.specs.Fed.{cleared, headIn, Completed}
 use Rattle.pieces.proofs.Seats.{sound, peer-is, fine, cleared-is}
 
 -- ---- the bytes of a stream put into memory
@@ -79,16 +79,16 @@ abbrev peerOr : Peer Tail → Slot Tail → Peer Tail
 peerOr d free = d
 peerOr d (peer p) = p
 
-module _ (m : List ℕ) (f : (j : ℕ) → Fits w8 (getD m j 0)) (i : ℕ) (s : Running m i) where
+module _ (m : List ℕ) (f : (j : ℕ) → Fits w8 (getD m j 0)) (i : ℕ) (s : Seated m i) where
   -- the state in which the message is consumed
   abbrev pub consumed : State Tail
   consumed = putSlot (stateOf m) i (peer (withStream (peerAt m i) fresh))
 
   pub consumed-sound : Sound consumed
-  consumed-sound = stream-sound (stateOf m) i (peerAt m i) (sound m f i (s .seat)) (peer-is m f i (s .seat)) fresh fresh-good refl
+  consumed-sound = stream-sound (stateOf m) i (peerAt m i) (sound m f i s) (peer-is m f i s) fresh fresh-good refl
 
   pub consumed-at : getD (consumed .slots) i free ≡ peer (withStream (peerAt m i) fresh)
-  consumed-at = put-there (stateOf m) i (peerAt m i) (withStream (peerAt m i) fresh) (peer-is m f i (s .seat))
+  consumed-at = put-there (stateOf m) i (peerAt m i) (withStream (peerAt m i) fresh) (peer-is m f i s)
 
   pub consumed-again : stateOf (memoryOf consumed) ≡ consumed
   consumed-again = state-again consumed consumed-sound
@@ -100,12 +100,12 @@ module _ (m : List ℕ) (f : (j : ℕ) → Fits w8 (getD m j 0)) (i : ℕ) (s : 
   peer-not-free q e = let z : _≡_ {A = ℕ} 0 1 = cc in omega arith
 
   consumed-some : numberAt (memoryOf consumed) i ≡ 0 → ⊥
-  consumed-some z = peer-not-free (withStream (peerAt m i) fresh) (sym consumed-slot ∙ slot-free (memoryOf consumed) i (s .seat .below) z)
+  consumed-some z = peer-not-free (withStream (peerAt m i) fresh) (sym consumed-slot ∙ slot-free (memoryOf consumed) i (s .below) z)
 
   pub consumed-peer : peerAt (memoryOf consumed) i ≡ withStream (peerAt m i) fresh
   consumed-peer =
       let e : peer (peerAt (memoryOf consumed) i) ≡ peer (withStream (peerAt m i) fresh)
-      = sym (slot-peer (memoryOf consumed) i (s .seat .below) consumed-some) ∙ consumed-slot in
+      = sym (slot-peer (memoryOf consumed) i (s .below) consumed-some) ∙ consumed-slot in
       ap (peerOr (peerAt m i)) e
 
   consumed-length : length (memoryOf consumed) ≡ 52676
@@ -116,26 +116,26 @@ module _ (m : List ℕ) (f : (j : ℕ) → Fits w8 (getD m j 0)) (i : ℕ) (s : 
       record {
         held = held-of (memoryOf consumed) (good-memory consumed consumed-sound);
         sized = consumed-length;
-        below = s .seat .below;
+        below = s .below;
         some = consumed-some;
       }
 
   -- what the bytes of a whole message leave, where `after` is memory with them
-  module _ (image piece after : List ℕ) (x : Header) (g : GoodImage image)
+  module _ (image piece after : List ℕ) (x : Header) (g : GoodImage image) (o : closed (peerAt m i .stream) ≡ false)
       (e : after ≡ take (4 + 3292 * i + 1236) m ++ (streamBytes (offer tails (peerAt m i .stream) piece .stream) ++ drop (4 + 3292 * i + 1236 + 2056) m))
       (v : whole (take (x .head) (pad 2048 (offer tails (peerAt m i .stream) piece .stream .head))) x ≡ offer tails (peerAt m i .stream) piece .verdict) where
     pub consumed-clear : cleared after i ≡ memoryOf consumed
     consumed-clear =
         ap (λ (z : List ℕ). cleared z i) e
-        ∙ cleared-put m i (s .seat .sized) (s .seat .below) (offer tails (peerAt m i .stream) piece .stream)
-        ∙ cleared-is m f i (s .seat)
+        ∙ cleared-put m i (s .sized) (s .below) (offer tails (peerAt m i .stream) piece .stream)
+        ∙ cleared-is m f i s
 
     head-read : (readHeader (take (x .head) (pad 2048 (offer tails (peerAt m i .stream) piece .stream .head))) ≡ Whole x)
         × (length (take (x .head) (pad 2048 (offer tails (peerAt m i .stream) piece .stream .head))) ≡ x .head)
     head-read =
         let t = peerAt m i .stream in
-        let k : goodTail t ≡ true = fine m f i (s .seat) .tail in
-        offer-whole t piece k (open-more t k (s .runs)) _ x (sym v)
+        let k : goodTail t ≡ true = fine m f i s .tail in
+        offer-whole t piece k (open-more t k o) _ x (sym v)
 
     head-small : x .head ≤ 2048
     head-small = whole-fits _ x (head-read .0) .head-small
@@ -143,23 +143,23 @@ module _ (m : List ℕ) (f : (j : ℕ) → Fits w8 (getD m j 0)) (i : ℕ) (s : 
     pub consumed-head : headIn after i (x .head) ≡ take (x .head) (pad 2048 (offer tails (peerAt m i .stream) piece .stream .head))
     consumed-head =
         ap (λ (z : List ℕ). headIn z i (x .head)) e
-        ∙ head-put m i (s .seat .sized) (s .seat .below) (offer tails (peerAt m i .stream) piece .stream) (x .head) head-small
+        ∙ head-put m i (s .sized) (s .below) (offer tails (peerAt m i .stream) piece .stream) (x .head) head-small
 
     after-length : length after ≡ 52676
     after-length =
         let b = 4 + 3292 * i + 1236 in
         let q = streamBytes (offer tails (peerAt m i .stream) piece .stream) in
-        let k : length m ≡ 52676 = s .seat .sized in
+        let k : length m ≡ 52676 = s .sized in
         ap length e
         ∙ length-append (take b m) (q ++ drop (b + 2056) m)
-        ∙ omega (arith, before m i (s .seat .sized) (s .seat .below) (offer tails (peerAt m i .stream) piece .stream), length-append q (drop (b + 2056) m), stream-length (offer tails (peerAt m i .stream) piece .stream), length-drop (b + 2056) m, s .seat .below)
+        ∙ omega (arith, before m i (s .sized) (s .below) (offer tails (peerAt m i .stream) piece .stream), length-append q (drop (b + 2056) m), stream-length (offer tails (peerAt m i .stream) piece .stream), length-drop (b + 2056) m, s .below)
 
     pub completed : Completed image after i x
     completed =
         record {
           good = g;
           sized = after-length;
-          below = s .seat .below;
+          below = s .below;
           seat = subst (λ (z : List ℕ). Seated z i) (sym consumed-clear) consumed-seat;
           read = ap readHeader consumed-head ∙ head-read .0;
           small = head-small;

@@ -30,7 +30,7 @@ use Rattle.memory.proofs.Puts.{stream-put}
 use Rattle.sound.proofs.Kept.{Fine}
 use Rattle.sound.proofs.Put.{peer-fine}
 use Rattle.slots.specs.Slots.{peerAt, Seated}
-use Rattle.pieces.specs.Fed.{streamIn, Opens, Fed, Running, FedAt, cleared}
+use Rattle.pieces.specs.Fed.{streamIn, Opens, Fed, FedAt, cleared}
 
 fresh-bytes : streamBytes fresh ≡ replicate 2056 0
 unfolding wordBytes headBytes pad
@@ -77,14 +77,14 @@ module _ (m : List ℕ) (f : (j : ℕ) → Fits w8 (getD m j 0)) (i : ℕ) (s : 
       })
 
   pub fed-at : (piece x after : List ℕ) (r : Advance)
-      → Fed (offer tails (streamIn (take (4 + 3292 * i + 1236 + 2056 - (4 + 3292 * i + 1236)) (drop (4 + 3292 * i + 1236) m))) piece) (length piece) r x
+      → Fed (offer tails (streamIn (take (4 + 3292 * i + 1236 + 2056 - (4 + 3292 * i + 1236)) (drop (4 + 3292 * i + 1236) m))) piece) r x
       → after ≡ take (4 + 3292 * i + 1236) m ++ (x ++ drop (4 + 3292 * i + 1236 + 2056 - (4 + 3292 * i + 1236)) (drop (4 + 3292 * i + 1236) m))
-      → FedAt m i (offer tails (peerAt m i .stream) piece) (length piece) r after
+      → FedAt m i (offer tails (peerAt m i .stream) piece) r after
   fed-at piece x after r d e =
       let q : streamIn (take (4 + 3292 * i + 1236 + 2056 - (4 + 3292 * i + 1236)) (drop (4 + 3292 * i + 1236) m)) ≡ peerAt m i .stream
       = ap streamIn (cut-at (4 + 3292 * i + 1236) 2056 m) ∙ stream-in in
-      let g : Fed (offer tails (peerAt m i .stream) piece) (length piece) r x
-      = subst (λ (t : Tail). Fed (offer tails t piece) (length piece) r x) q d in
+      let g : Fed (offer tails (peerAt m i .stream) piece) r x
+      = subst (λ (t : Tail). Fed (offer tails t piece) r x) q d in
       record {
         taken = g .taken;
         verdict = g .verdict;
@@ -93,7 +93,6 @@ module _ (m : List ℕ) (f : (j : ℕ) → Fits w8 (getD m j 0)) (i : ℕ) (s : 
             e
             ∙ put-at (4 + 3292 * i + 1236) 2056 m x
             ∙ rw (g .bytes) (sym (stream-put m (λ j. f j .fits) (s .held) i (s .below) (s .some) (offer tails (peerAt m i .stream) piece .stream)));
-        within = g .within;
       }
 
   -- the region of its head, as the code lends it
@@ -135,14 +134,4 @@ settled-at m z i h k q =
     ∙ length-take-le 2056 (drop (4 + 3292 * i + 1236) m) (omega (arith, length-drop (4 + 3292 * i + 1236) m)) in
     put-at (4 + 3292 * i + 1236) 2056 m z ∙ rw (q, l)
 
-module _ (m : List ℕ) (f : (j : ℕ) → Fits w8 (getD m j 0)) (i : ℕ) (s : Running m i) where
-  pub runs-open : Opens (take (4 + 3292 * i + 1236 + 2056 - (4 + 3292 * i + 1236)) (drop (4 + 3292 * i + 1236) m))
-  runs-open = opens-at m f i (s .seat) (s .runs)
-
-  pub runs-fed : (piece x after : List ℕ) (r : Advance)
-      → Fed (offer tails (streamIn (take (4 + 3292 * i + 1236 + 2056 - (4 + 3292 * i + 1236)) (drop (4 + 3292 * i + 1236) m))) piece) (length piece) r x
-      → after ≡ take (4 + 3292 * i + 1236) m ++ (x ++ drop (4 + 3292 * i + 1236 + 2056 - (4 + 3292 * i + 1236)) (drop (4 + 3292 * i + 1236) m))
-      → FedAt m i (offer tails (peerAt m i .stream) piece) (length piece) r after
-  runs-fed = fed-at m f i (s .seat)
-
-pub ruleset seats = (runs-open, runs-fed, closed-at, closed-is, settled-at, needs)
+pub ruleset seats = (opens-at, fed-at, closed-at, closed-is, settled-at, needs)

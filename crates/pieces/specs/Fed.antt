@@ -31,24 +31,17 @@ pub record Opens (x : List ℕ) : Type 0 where
   pub runs : closed (streamIn x) ≡ false
 
 -- what an offer comes to: r reports it, and x is the bytes of the stream that it leaves
-pub record Fed (o : Offer Tail) (n : ℕ) (r : Advance) (x : List ℕ) : Type 0 where
+pub record Fed (o : Offer Tail) (r : Advance) (x : List ℕ) : Type 0 where
   pub taken : r .taken ≡ o .taken
   pub verdict : verdictOf (pad 2048 (o .stream .head)) (r .event) ≡ o .verdict
   pub bytes : x ≡ streamBytes (o .stream)
-  pub within : r .taken ≤ n
-
--- slot i of good memory is a peer's whose stream is open
-pub record Running (m : List ℕ) (i : ℕ) : Type 0 where
-  pub seat : Seated m i
-  pub runs : closed (peerAt m i .stream) ≡ false
 
 -- what an offer to slot i comes to, in memory
-pub record FedAt (m : List ℕ) (i : ℕ) (o : Offer Tail) (n : ℕ) (r : Advance) (after : List ℕ) : Type 0 where
+pub record FedAt (m : List ℕ) (i : ℕ) (o : Offer Tail) (r : Advance) (after : List ℕ) : Type 0 where
   pub taken : r .taken ≡ o .taken
   pub verdict : verdictOf (pad 2048 (o .stream .head)) (r .event) ≡ o .verdict
   pub bytes : after ≡ take (4 + 3292 * i + 1236) m ++ (streamBytes (o .stream) ++ drop (4 + 3292 * i + 1236 + 2056) m)
   pub memory : after ≡ memoryOf (putSlot (stateOf m) i (peer (withStream (peerAt m i) (o .stream))))
-  pub within : r .taken ≤ n
 
 -- ---- a whole message
 

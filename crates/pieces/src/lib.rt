@@ -9,14 +9,14 @@ use stream::Event;
 use stream::Stream;
 use wire::Order;
 ghost use mathlib.Core.Path.{_≡_};
-ghost use mathlib.Core.Bool.{true};
+ghost use mathlib.Core.Bool.{false};
 ghost use mathlib.Core.List.{List};
 ghost use Prim.Native.Nat.{ℕ, _+_, _≤_, _<_};
 ghost use lib.ListN.{length, take};
 ghost use Rattle.stream.specs.Stream.{offer};
 ghost use Rattle.stream.specs.Tail.{tails, closed};
 ghost use Rattle.slots.specs.Slots.{peerAt, Seated};
-ghost use Rattle.pieces.specs.Fed.{streamIn, Opens, Fed, Running, FedAt, cleared, headIn, Completed};
+ghost use Rattle.pieces.specs.Fed.{streamIn, Opens, Fed, FedAt, cleared, headIn, Completed};
 ghost use Rattle.image.specs.Contracts.{GoodImage};
 ghost use Rattle.rules.specs.Calls.{offeredTo, piece};
 ghost use Rattle.memory.specs.Encoding.{stateOf};
@@ -27,7 +27,7 @@ ghost use Rattle.judge.specs.Judging.{Judges};
 // The piece is offered to the stream whose bytes are lent: the counts, and the head behind them.
 fn feed(bytes: &mut [u8], piece: &[u8]) -> Advance
     requires { ⌜ Opens (now bytes) ⌝ }
-    ensures { λ r. ⌜ Fed (offer tails (streamIn (now (bytes .entry))) (now (piece .entry))) (length (now (piece .entry))) r (now (bytes .exit)) ⌝ }
+    ensures { λ r. ⌜ Fed (offer tails (streamIn (now (bytes .entry))) (now (piece .entry))) r (now (bytes .exit)) ⌝ }
 {
     let s = Stream {
         taken: wire::u32_at(Order::Little, bytes, 0) as usize,
@@ -42,8 +42,8 @@ fn feed(bytes: &mut [u8], piece: &[u8]) -> Advance
 
 // The piece is offered to the stream of slot i.
 fn feed_at(memory: &mut [u8], i: usize, piece: &[u8]) -> Advance
-    requires { ⌜ Running (now memory) i ⌝ }
-    ensures { λ r. ⌜ FedAt (now (memory .entry)) i (offer tails (peerAt (now (memory .entry)) i .stream) (now (piece .entry))) (length (now (piece .entry))) r (now (memory .exit)) ⌝ }
+    requires { ⌜ (Seated (now memory) i) × (closed (peerAt (now memory) i .stream) ≡ false) ⌝ }
+    ensures { λ r. ⌜ FedAt (now (memory .entry)) i (offer tails (peerAt (now (memory .entry)) i .stream) (now (piece .entry))) r (now (memory .exit)) ⌝ }
 {
     let from = 4 + 3292 * i + 1236;
     let to = from + 2056;
@@ -97,7 +97,7 @@ fn judge_at(image: &[u8], memory: &mut [u8], i: usize, header: Header) -> Judgem
 
 // The piece is offered to the open stream of slot i, and a whole message is judged.
 fn piece_at(image: &[u8], memory: &mut [u8], i: usize, bytes: &[u8]) -> Taken
-    requires { ⌜ (GoodImage (now image)) × (Running (now memory) i) ⌝ }
+    requires { ⌜ (GoodImage (now image)) × (Seated (now memory) i) × (closed (peerAt (now memory) i .stream) ≡ false) ⌝ }
     ensures { λ r. ⌜ Did (stored (offeredTo tails (now (image .entry)) (stateOf (now (memory .entry))) i (peerAt (now (memory .entry)) i) (offer tails (peerAt (now (memory .entry)) i .stream) (now (bytes .entry))))) r (now (memory .exit)) ⌝ }
 {
     let a = feed_at(memory, i, bytes);
