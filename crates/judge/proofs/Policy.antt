@@ -15,7 +15,7 @@ use Rattle.wire.specs.Words.{wordAt}
 use Rattle.wire.specs.declared.Order.the-variants.{Little}
 use Rattle.wire.proofs.Words.{cut-at}
 use Rattle.header.specs.declared.Header.{Header}
-use Rattle.policy.specs.Names.{cells, namesIn, cellOf, busName}
+use Rattle.policy.specs.Names.{cellNames, namesIn, cellOf, busName}
 use Rattle.policy.specs.Matching.{Message, messageOf}
 use Rattle.policy.specs.Decisions.{mayTransact}
 use Rattle.policy.specs.declared.Uid.{Uid}
@@ -62,7 +62,7 @@ pub ruleset saying = (says-is, needs)
 -- ---- the bus
 
 bus-names : namesIn (cellOf busName) ≡ busName ∷ []
-unfolding namesIn cells cellOf pad
+unfolding namesIn cellNames cellOf pad
 bus-names = refl
 
 module _ (image m : List ℕ) (i : ℕ) (head : List ℕ) (x : Header) {cell : List ℕ} (e : cell ≡ cellOf busName) {r : Bool}

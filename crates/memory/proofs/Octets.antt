@@ -6,6 +6,7 @@ use Prim.Native.Nat.{ℕ, zero, suc, _+_, _<_, min}
 use lib.Dec.{ltb, eqb}
 use lib.ListN.{getD, take, drop}
 use borrow.Author.Tests.{lt-ltb, ltb-true}
+use Rattle.wire.specs.Lists.{every}
 use Rattle.wire.specs.Words.{wordAt}
 use Rattle.wire.specs.declared.Order.the-variants.{Little}
 use Rattle.wire.proofs.Texts.{both-first, both-second, both-true}
@@ -13,7 +14,7 @@ use Rattle.rules.specs.State.{Slot, free, peer}
 use Rattle.stream.specs.Tail.{Tail}
 use Rattle.memory.specs.Layout.{headAt}
 use Rattle.memory.specs.Encoding.{tailOf, peerOf, slotOf}
-use Rattle.memory.specs.Sound.{every, octet, headOctets}
+use Rattle.memory.specs.Sound.{octet, headOctets}
 
 -- ---- every thing of a list
 

@@ -12,7 +12,7 @@ use Rattle.wire.specs.Words.{wordAt, wordBytes}
 use Rattle.wire.specs.declared.Order.the-variants.{Little}
 use Rattle.wire.proofs.Words.{word-length, word-again}
 use Rattle.tables.specs.Tables.{tableBytes, tableOf}
-use Rattle.tables.proofs.Parts.{pad-fits}
+use Rattle.wire.proofs.Parts.{pad-fits}
 use Rattle.tables.proofs.Words.{word-front}
 use Rattle.tables.proofs.Table.{table-again}
 use Rattle.policy.specs.Names.{cellOf, nameOf}

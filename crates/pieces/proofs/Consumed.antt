@@ -19,7 +19,7 @@ use Rattle.header.specs.declared.Header.{Header}
 use Rattle.header.specs.declared.Reading.the-variants.{Whole}
 use Rattle.header.proofs.Readings.{Fitting, whole-fits}
 use Rattle.image.specs.Contracts.{GoodImage}
-use Rattle.tables.proofs.Parts.{take-past, drop-past}
+use Rattle.wire.proofs.Parts.{take-past, drop-past}
 use Rattle.stream.specs.Stream.{Offer, offer, whole}
 use Rattle.stream.specs.Tail.{Tail, tails, closed, fresh, goodTail}
 use Rattle.stream.proofs.Good.{fresh-good, open-more}

@@ -13,7 +13,7 @@ use Rattle.wire.specs.Bytes.{pad}
 use Rattle.wire.specs.Words.{wordAt, wordBytes}
 use Rattle.wire.specs.declared.Order.the-variants.{Little}
 use Rattle.wire.proofs.Words.{cut-at, put-at}
-use Rattle.tables.proofs.Parts.{drop-take}
+use Rattle.wire.proofs.Parts.{drop-take}
 use Rattle.tables.proofs.Words.{word-part}
 use Rattle.stream.specs.Stream.{Offer, offer}
 use Rattle.stream.specs.Tail.{Tail, tails, closed, fresh, goodTail}

@@ -12,6 +12,7 @@ use lib.ListN.{getD, set, length-set, List·getD-map}
 use lib.Seq.{getD-set-same}
 use borrow.Author.Tests.{eqb-true, le-ltb}
 use Rattle.wire.specs.Bytes.{same}
+use Rattle.wire.proofs.Texts.{either}
 use Rattle.header.specs.declared.Header.{Header}
 use Rattle.policy.specs.Names.{busName}
 use Rattle.policy.specs.Matching.{fieldOf}
@@ -22,7 +23,6 @@ use Rattle.rules.specs.Pending.{awaits, ended, bereft}
 use Rattle.rules.specs.Judge.{Judged, replyTo, reply, judged}
 use Rattle.rules.specs.Calls.{slotAt, disconnectAt, disconnect}
 use Rattle.rules.specs.declared.Receiver.the-variants as to
-use Rattle.rules.proofs.Tests.{either}
 use Rattle.rules.proofs.First.{first-passes, first-set, taken-below}
 use Rattle.rules.proofs.Waits.{okPending, ended-ends, ended-all-ends}
 

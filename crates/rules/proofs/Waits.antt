@@ -6,10 +6,10 @@ use mathlib.Core.List.{List, [], _∷_, _++_}
 use Prim.Native.Nat.{ℕ, _≤_}
 use lib.Dec.{leb, eqb}
 use borrow.Author.Tests.{eq-eqb, eqb-true, le-leb, not-true}
-use Rattle.wire.proofs.Texts.{both-first, both-second}
+use Rattle.wire.proofs.Texts.{both-first, both-second, either}
 use Rattle.rules.specs.State.{Pending}
 use Rattle.rules.specs.Pending.{isCall, awaits, ended, endedAll}
-use Rattle.rules.proofs.Tests.{clash, either, or-left, or-right, or-grow, refute}
+use Rattle.rules.proofs.Tests.{clash, or-left, or-right, or-grow, refute}
 use Rattle.rules.proofs.Fewer.{Fewer, none, skip, keep}
 
 abbrev pub call : ℕ → ℕ → Pending

@@ -9,7 +9,7 @@ use lib.Seq.{getD-take, getD-drop, drop-drop, take-take}
 use Rattle.wire.specs.Bytes.{front}
 use Rattle.wire.specs.Words.{wordAt}
 use Rattle.wire.specs.declared.Order.the-variants.{Little}
-use Rattle.tables.proofs.Parts.{drop-take}
+use Rattle.wire.proofs.Parts.{drop-take}
 use Rattle.tables.proofs.Table.{table-past}
 use Rattle.policy.specs.Names.{nameOf}
 use Rattle.memory.proofs.Reading.{name-next, names-many}

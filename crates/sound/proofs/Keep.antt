@@ -7,6 +7,7 @@ use native.Mathlib.Omega.{arith}
 use lib.Dec.{leb, ltb}
 use lib.ListN.{length, getD, set, length-set, length-map}
 use borrow.Author.Tests.{lt-ltb, ltb-true, ltb-false, leb-false, eq-eqb}
+use Rattle.wire.specs.Lists.{every}
 use Rattle.header.specs.Header.{readHeader}
 use Rattle.header.specs.declared.Header.{Header}
 use Rattle.header.specs.declared.Reading.the-variants.{Whole}
@@ -22,7 +23,7 @@ use Rattle.rules.specs.Calls.{Step, stays, empty, noConnect, newcomer, seated, 
 use Rattle.rules.specs.Calls.{releaseAt, release, noPiece, offered, offeredTo, pieceAt, piece, disconnectAt, disconnect}
 use Rattle.memory.specs.Good.{goodSlots}
 use Rattle.memory.proofs.Octets.{below-every}
-use Rattle.memory.specs.Sound.{every, word32, narrow, octet, headOctets, Sound}
+use Rattle.memory.specs.Sound.{word32, narrow, octet, headOctets, Sound}
 use Rattle.rules.proofs.Tests.{choice}
 use Rattle.sound.proofs.Serial.{header-serial, offer-keeps}
 use Rattle.sound.proofs.Slots.{first-none}

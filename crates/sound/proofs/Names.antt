@@ -7,14 +7,14 @@ use mathlib.Core.List.{List, [], _∷_, _++_}
 use Prim.Native.Nat.{ℕ}
 use borrow.Author.Tests.{not-true}
 use Rattle.wire.specs.Bytes.{same}
-use Rattle.wire.proofs.Texts.{both-first, both-second, both-true, same-eq, same-refl}
+use Rattle.wire.proofs.Texts.{both-first, both-second, both-true, same-eq, same-refl, either}
 use Rattle.policy.specs.Names.{owns}
 use Rattle.stream.specs.Tail.{Tail}
 use Rattle.rules.specs.State.{Slot}
 use Rattle.rules.specs.Addresses.{ownable}
 use Rattle.rules.specs.Calls.{isOwner}
 use Rattle.memory.specs.Good.{nobody, goodNames}
-use Rattle.rules.proofs.Tests.{clash, either, or-left, or-right, or-grow, refute}
+use Rattle.rules.proofs.Tests.{clash, or-left, or-right, or-grow, refute}
 use Rattle.rules.proofs.Fewer.{Fewer, none, skip, keep}
 
 -- ---- names

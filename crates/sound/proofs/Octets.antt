@@ -7,6 +7,7 @@ use native.Mathlib.Omega.{arith}
 use lib.Dec.{ltb}
 use lib.ListN.{length, getD, take}
 use borrow.Author.Tests.{lt-ltb, ltb-true}
+use Rattle.wire.specs.Lists.{every}
 use Rattle.wire.proofs.Texts.{both-first, both-second, both-true}
 use Rattle.header.specs.Header.{readHeader}
 use Rattle.header.specs.declared.Header.{Header}
@@ -16,7 +17,7 @@ use Rattle.stream.specs.Stream.{Verdict, more, broken, whole, Streams, Offer, o
 use Rattle.stream.specs.Tail.{Tail, finished, push, judge, tails, headEnd}
 use Rattle.rules.proofs.Seen.{ruled, offer-cons}
 use Rattle.memory.proofs.Octets.{every-snoc}
-use Rattle.memory.specs.Sound.{every, octet}
+use Rattle.memory.specs.Sound.{octet}
 
 push-octets : (t : Tail) (b : ℕ) → every octet (t .head) ≡ true → octet b ≡ true → every octet (push t b .head) ≡ true
 push-octets t b e h = go (ltb (length (t .head)) (headEnd (t .head)))

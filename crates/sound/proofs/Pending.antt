@@ -6,16 +6,17 @@ use mathlib.Core.List.{List, [], _∷_, _++_}
 use Prim.Native.Nat.{ℕ, _<_}
 use lib.Dec.{leb}
 use borrow.Author.Tests.{lt-ltb, not-true}
-use Rattle.wire.proofs.Texts.{both-first, both-second, both-true}
+use Rattle.wire.specs.Lists.{every}
+use Rattle.wire.proofs.Texts.{both-first, both-second, both-true, either}
 use Rattle.stream.specs.Tail.{Tail}
 use Rattle.rules.specs.State.{Pending, Slot, isPeer}
 use Rattle.rules.specs.Pending.{isCall, awaits}
-use Rattle.rules.proofs.Tests.{either, or-left, or-right}
+use Rattle.rules.proofs.Tests.{or-left, or-right}
 use Rattle.rules.proofs.Fewer.{Fewer, none, skip, keep}
 use Rattle.rules.proofs.Waits.{call, call-callee, call-own, okPending, first-serial, first-once, rest-ok}
 use Rattle.memory.specs.Good.{nobody, goodPending}
 use Rattle.memory.proofs.Octets.{every-snoc}
-use Rattle.memory.specs.Sound.{every, word32}
+use Rattle.memory.specs.Sound.{word32}
 
 -- ---- numbers of 32 bits
 

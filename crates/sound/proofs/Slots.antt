@@ -11,10 +11,10 @@ use lib.Dec.{leb, ltb, leb·suc-suc, leb·suc-zero}
 use lib.ListN.{length, getD, set}
 use lib.Seq.{getD-set-same, getD-set-other}
 use borrow.Author.Tests.{le-leb, ltb-false}
+use Rattle.wire.specs.Lists.{every}
 use Rattle.stream.specs.Tail.{Tail}
 use Rattle.rules.specs.State.{Slot, free, firstBy}
 use Rattle.memory.specs.Good.{nobody}
-use Rattle.memory.specs.Sound.{every}
 use Rattle.rules.proofs.Tests.{clash}
 
 -- ---- nobody passes a test

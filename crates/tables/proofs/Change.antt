@@ -10,7 +10,7 @@ use Rattle.wire.specs.Bytes.{pad}
 use Rattle.wire.specs.Words.{wordBytes}
 use Rattle.wire.proofs.Words.{rest-at}
 use Rattle.tables.specs.Tables.{cells, tableBytes}
-use Rattle.tables.proofs.Parts.{drop-past, drop-zeros, cut-two}
+use Rattle.wire.proofs.Parts.{drop-past, drop-zeros, cut-two}
 use Rattle.tables.specs.Cut.{cutOut}
 use Rattle.tables.proofs.Close.{cut-length}
 use Rattle.tables.proofs.Cells.{cells-length, cells-append, cells-take, cells-drop}
