@@ -15,7 +15,7 @@ use borrow.Author.Tests.{le-leb, lt-leb, eq-eqb, not-true, not-false}
 use Rattle.wire.specs.Bytes.{allZero, same, front, pad}
 use Rattle.wire.specs.Words.{wordAt}
 use Rattle.wire.specs.declared.Order.the-variants.{Little}
-use Rattle.tables.proofs.Parts.{drop-take}
+use Rattle.wire.proofs.Parts.{drop-take}
 use Rattle.tables.proofs.Same.{same-pad, plainCells, plain-next, plain-end}
 use Rattle.policy.specs.Names.{cellOf, nameOf}
 use Rattle.memory.proofs.Frame.{cell-length}

@@ -8,7 +8,7 @@ use native.Mathlib.Omega.{arith}
 use lib.Dec.{eqb, ltb, leb}
 use lib.ListN.{length}
 use borrow.Author.Tests.{eqb-true, leb-true}
-use Rattle.wire.proofs.Texts.{both-second}
+use Rattle.wire.proofs.Texts.{both-second, either}
 use Rattle.image.specs.Good.{goodImage}
 use Rattle.policy.specs.Names.{owns}
 use Rattle.policy.specs.Decisions.{mayConnect, mayOwn}
@@ -23,7 +23,7 @@ use Rattle.rules.specs.Calls.{noPiece, offered, offeredTo, pieceAt, piece, disc
 use Rattle.rules.specs.declared.Connected.{Connected}
 use Rattle.rules.specs.declared.Taken.{Taken}
 use Rattle.rules.specs.declared.Gone.{Gone}
-use Rattle.rules.proofs.Tests.{choice, either}
+use Rattle.rules.proofs.Tests.{choice}
 use Rattle.book.specs.Book.{current, books}
 use Rattle.book.specs.Lists.{Call, starts, connects, claims, releases, offers, leaves, entry, answers, numberOf, Never51}
 use Rattle.book.proofs.Numbers.{isJudged, judged-proper, broken-number}

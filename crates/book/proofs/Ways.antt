@@ -10,7 +10,7 @@ use lib.Dec.{eqb, leb}
 use lib.ListN.{set}
 use lib.Seq.{getD-set-same, set-set, set-getD}
 use borrow.Author.Tests.{eqb-true, leb-true, lt-leb, le-leb}
-use Rattle.wire.proofs.Texts.{both-first, both-second}
+use Rattle.wire.proofs.Texts.{both-first, both-second, either}
 use Rattle.header.specs.declared.Header.{Header}
 use Rattle.stream.specs.Stream.{Verdict, more, broken, whole, Streams, Offer, bump, offer, settled}
 use Rattle.stream.specs.Steps.{follows}
@@ -20,7 +20,6 @@ use Rattle.rules.specs.State.{Slot, free, peer, Peer, State, isPeer, firstBy, p
 use Rattle.rules.specs.Judge.{refusal, judged}
 use Rattle.rules.specs.Calls.{Step, stays, slotAt, noPiece, offered, offeredTo, pieceAt, piece}
 use Rattle.rules.specs.declared.Taken.{Taken}
-use Rattle.rules.proofs.Tests.{either}
 use Rattle.rules.proofs.First.{first-set, taken-below}
 use Rattle.book.specs.Split.{isStop, said}
 use Rattle.book.proofs.Numbers.{isJudged, judged-proper}

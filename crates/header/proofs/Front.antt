@@ -1,29 +1,21 @@
 -- The fixed part of a head depends on its first 16 bytes alone, and what it says where it has none of 1 to 6. Assumes nothing.
 use mathlib.Core.Path.{_≡_, refl, sym, ap, _∙_}
 use mathlib.Core.Bool.{Bool, true, false, cond, not}
-use mathlib.Core.List.{List, [], _∷_, _++_}
-use Prim.Native.Nat.{ℕ, zero, suc, _+_, _-_, _≤_, _<_}
-use native.Mathlib.Nat.{sub-zero, zero-sub, suc-sub-suc}
+use mathlib.Core.List.{List, _++_}
+use Prim.Native.Nat.{ℕ, _+_, _-_, _≤_, _<_}
 use native.Mathlib.Omega.{arith}
 use lib.Dec.{ltb, eqb}
 use lib.ListN.{length, take, drop, getD}
-use lib.Seq.{getD-take, take-at, take-take, take-nil, drop-nil}
+use lib.Seq.{getD-take, take-at, take-take}
 use borrow.Author.Tests.{ltb-false}
 use Rattle.wire.specs.Words.{wordAt}
-use Rattle.wire.specs.declared.Order.{Order}
-use Rattle.wire.specs.declared.Order.the-variants.{Little, Big}
+use Rattle.wire.proofs.Words.{word-take}
+use Rattle.wire.proofs.Parts.{drop-take}
 use Rattle.header.specs.declared.Fixed.{Fixed}
 use Rattle.header.specs.declared.Fixed.the-variants.{Broken, Sizes}
 use Rattle.header.specs.declared.Place.{Place}
 use Rattle.header.specs.Fields.{textAt}
 use Rattle.header.specs.Fixed.{orderOf, isOrder, serialOf, arrayLength, headLength, messageLength, sizesOf, fixedPart}
-
-pub word-front : (o : Order) (n : ℕ) (s : List ℕ) (at : ℕ) → at + 4 ≤ n → wordAt o (take n s) at ≡ wordAt o s at
-unfolding wordAt
-word-front Little n s at h =
-    rw (getD-take n s at 0 (omega arith), getD-take n s (at + 1) 0 (omega arith), getD-take n s (at + 2) 0 (omega arith), getD-take n s (at + 3) 0 (omega arith))
-word-front Big n s at h =
-    rw (getD-take n s at 0 (omega arith), getD-take n s (at + 1) 0 (omega arith), getD-take n s (at + 2) 0 (omega arith), getD-take n s (at + 3) 0 (omega arith))
 
 pub head-low : (s : List ℕ) → 16 ≤ headLength s
 unfolding headLength
@@ -38,7 +30,7 @@ module _ (n : ℕ) (s : List ℕ) (h : 16 ≤ n) where
   order-front = rw (byte-front 0 (omega arith))
 
   pub word-in-front : (at : ℕ) → at ≤ 12 → wordAt (orderOf (take n s)) (take n s) at ≡ wordAt (orderOf s) s at
-  word-in-front at l = rw order-front (word-front (orderOf s) n s at (omega arith))
+  word-in-front at l = rw order-front (word-take (orderOf s) n s at (omega arith))
 
   pub head-front : headLength (take n s) ≡ headLength s
   unfolding headLength
@@ -127,11 +119,7 @@ fixed-good s {head} {message} e =
 
 -- ---- a value is the same in the head and in the bytes that begin with it
 
-drop-take : (a n : ℕ) (s : List ℕ) → drop a (take n s) ≡ take (n - a) (drop a s)
-drop-take zero n s = rw sub-zero
-drop-take (suc a) zero s = rw (drop-nil {A = ℕ} (suc a), zero-sub (suc a))
-drop-take (suc a) (suc n) [] = rw (take-nil {A = ℕ} (suc n - suc a))
-drop-take (suc a) (suc n) (x ∷ s) = rw (suc-sub-suc n a) (drop-take a n s)
-
 pub text-front : (n : ℕ) (s : List ℕ) (p : Place) → p .at + p .len ≤ n → textAt (take n s) p ≡ textAt s p
-text-front n s p h = rw (drop-take (p .at) n s) (take-take (p .len) (n - p .at) (drop (p .at) s) (omega arith))
+text-front n s p h =
+    let e : n ≡ p .at + (n - p .at) = omega arith in
+    rw (e, drop-take (p .at) (n - p .at) s) (take-take (p .len) (n - p .at) (drop (p .at) s) (omega arith))

@@ -1,17 +1,15 @@
 -- The laws of a reading that callers go by. Assumes nothing.
 use mathlib.Core.Path.{_≡_, refl, sym, ap, subst, _∙_}
 use mathlib.Core.Bool.{Bool, true, false, cond, not}
-use mathlib.Core.List.{List, [], _∷_, _++_}
+use mathlib.Core.List.{List, _++_}
 use mathlib.Core.Option.{Option, none, some}
 use Prim.Native.Nat.{ℕ, _+_, _≤_, _<_}
-use native.Mathlib.Decide.{decLe, decLt}
+use native.Mathlib.Decide.{decLe}
 use native.Mathlib.Omega.{arith}
-use lib.Dec.{ltb, eqb}
-use lib.ListN.{length, take, drop, getD, length-append}
+use lib.ListN.{length, take, drop}
 use lib.Seq.{length-take-le, take-all, take-take, take-at}
-use borrow.Author.Tests.{lt-ltb, le-ltb, ltb-true, ltb-false, eqb-false}
+use borrow.Author.Tests.{le-ltb}
 use Rattle.wire.specs.Bytes.{allZero}
-use Rattle.wire.specs.Words.{wordAt}
 use Rattle.header.specs.declared.Place.{Place}
 use Rattle.header.specs.declared.Header.{Header}
 use Rattle.header.specs.declared.Fixed.{Fixed}
@@ -22,7 +20,7 @@ use Rattle.header.specs.Fixed.{orderOf, kindOf, flagsOf, bodyLength, ser
 use Rattle.header.specs.Fields.{Fields, placeOf, noFields, walk, fieldsOf}
 use Rattle.header.specs.Values.{goodValues}
 use Rattle.header.specs.Required.{hasRequired}
-use Rattle.header.specs.Header.{headerOf, judged, orSeven, readHead, afterFixed, readHeader}
+use Rattle.header.specs.Header.{headerOf, judged, orSeven, readHead, readHeader}
 use Rattle.header.specs.Reader.{Head, Fits}
 use Rattle.header.proofs.Front.{byte-front, word-in-front, head-front, head-low, fixed-front, fixed-append, Good, fixed-good}
 use Rattle.header.proofs.Walk.{fits-none, walk-fits}

@@ -1,6 +1,6 @@
 -- The fixed part of a head, bytes 0 to 15 (01, "Message head"), and its answers 1 to 6 (01, "Answer numbers").
 -- Assumes nothing: these are definitions.
-use mathlib.Core.Bool.{Bool, true, false, cond, not, _||_}
+use mathlib.Core.Bool.{Bool, cond, not, _||_}
 use mathlib.Core.List.{List}
 use Prim.Native.Nat.{ℕ, _+_}
 use lib.Dec.{ltb, eqb}

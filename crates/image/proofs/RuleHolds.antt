@@ -1,14 +1,15 @@
 -- What holds of each rule of a good image: its bytes and its strings lie inside, and its numbers are in range. Assumes nothing.
-use mathlib.Core.Path.{_≡_, refl, sym, _∙_}
+use mathlib.Core.Path.{_≡_, refl}
 use mathlib.Core.Logic.{_⊎_, ⊎-elim, inl, inr}
-use mathlib.Core.Bool.{Bool, true, false, cond, _&&_, _||_, false≢true}
+use mathlib.Core.Bool.{Bool, true, false, cond, _&&_, _||_}
 use mathlib.Core.List.{List, [], _∷_}
 use Prim.Native.Nat.{ℕ, _+_, _*_, _≤_, _<_}
 use native.Mathlib.Omega.{arith}
 use lib.Dec.{leb, eqb}
 use lib.ListN.{length}
-use borrow.Author.Tests.{leb-true, eqb-true, eq-eqb, ne-eqb}
-use Rattle.wire.proofs.Texts.{both-first, both-second}
+use borrow.Author.Tests.{leb-true, eqb-true, ne-eqb}
+use Rattle.wire.proofs.Texts.{both-first, both-second, either}
+use Rattle.wire.proofs.Below.{row-each, below-at}
 use Rattle.names.specs.Names.{validName}
 use Rattle.names.specs.declared.Form.{Form}
 use Rattle.names.specs.declared.Form.the-variants.{Interface, WellKnown, Member, Path}
@@ -16,13 +17,7 @@ use Rattle.image.specs.Image.{connectCount, connectOffset, ownCount, own
 use Rattle.image.specs.Rules.{Span, textOf, connectRule, ownRule, transactionRule}
 use Rattle.image.specs.Good.{goodString, goodOrAny, goodOwned, goodSubject, goodMatcher, goodConnectRule, goodOwnRule, goodStrings, goodTransactionRule, goodConnect, goodOwn, goodTransaction}
 use Rattle.image.specs.Contracts.{GoodImage}
-use Rattle.image.proofs.Below.{row-each, every}
 use Rattle.image.proofs.Holds.{each-part}
-
--- one of two tests
-either : (a b : Bool) → a || b ≡ true → (a ≡ true) ⊎ (b ≡ true)
-either true b h = inl refl
-either false b h = inr h
 
 -- ---- strings
 
@@ -77,7 +72,7 @@ connect-holds {image} g i l =
     ∷ goodMatcher (r .verdict) (r .matcher) (r .reserved)
     ∷ (leb 1 (r .matcher) || eqb (r .id) 0)
     ∷ [])
-    (every (goodConnect image) (connectCount image) (each-part image (g .is) 1) i l)
+    (below-at (goodConnect image) (connectCount image) (each-part image (g .is) 1) i l)
     in
     let c = either (eqb (r .context) 0) (eqb (r .context) 3) (k 0) in
     record {
@@ -146,7 +141,7 @@ own-holds {image} g i l =
     ∷ goodMatcher (r .verdict) (r .matcher) (r .reserved)
     ∷ goodOwned image (r .matcher) (r .name)
     ∷ [])
-    (every (goodOwn image) (ownCount image) (each-part image (g .is) 2) i l)
+    (below-at (goodOwn image) (ownCount image) (each-part image (g .is) 2) i l)
     in
     record {
       place = omega arith;
@@ -182,7 +177,7 @@ transaction-holds {image} g i l =
     ∷ (eqb (r .type) 0 || eqb (r .type) 1 || eqb (r .type) 4)
     ∷ goodStrings image r
     ∷ [])
-    (every (goodTransaction image) (transactionCount image) (each-part image (g .is) 3) i l)
+    (below-at (goodTransaction image) (transactionCount image) (each-part image (g .is) 3) i l)
     in
     let s =
     row-each

@@ -1,9 +1,10 @@
 -- Which policy images are good (01, "Policy image"): "Any breach is answer 50." Assumes nothing: these are definitions.
-use mathlib.Core.Bool.{Bool, true, false, cond, _&&_, _||_}
+use mathlib.Core.Bool.{Bool, cond, _&&_, _||_}
 use mathlib.Core.List.{List}
-use Prim.Native.Nat.{ℕ, zero, suc, _+_, _*_}
+use Prim.Native.Nat.{ℕ, _+_, _*_}
 use lib.Dec.{leb, eqb}
 use lib.ListN.{length}
+use Rattle.wire.specs.Lists.{below}
 use Rattle.names.specs.Names.{validName}
 use Rattle.names.specs.declared.Form.{Form}
 use Rattle.names.specs.declared.Form.the-variants.{Interface, WellKnown, Member, Path}
@@ -99,11 +100,6 @@ unfoldable pub goodTransaction : List ℕ → ℕ → Bool
 goodTransaction image i = goodTransactionRule image (transactionRule image i)
 
 -- ---- the image
-
--- p holds of each number below n
-unfoldable pub below : (ℕ → Bool) → ℕ → Bool
-below p zero = true
-below p (suc i) = below p i && p i
 
 unfoldable pub goodImage : List ℕ → Bool
 goodImage image =

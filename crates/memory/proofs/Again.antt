@@ -8,11 +8,11 @@ use lib.Dec.{leb}
 use lib.ListN.{length}
 use lib.Seq.{take-at}
 use borrow.Author.Tests.{ltb-true, leb-true}
+use Rattle.wire.specs.Lists.{every, any}
 use Rattle.wire.specs.Bytes.{same}
 use Rattle.wire.specs.Words.{wordAt, wordBytes}
-use Rattle.wire.specs.Lists.{any}
 use Rattle.wire.proofs.Texts.{both-first, both-second}
-use Rattle.tables.proofs.Parts.{pad-fits}
+use Rattle.wire.proofs.Parts.{pad-fits}
 use Rattle.names.specs.Names.{wellKnown}
 use Rattle.policy.specs.Names.{cellOf, nameOf, busName}
 use Rattle.stream.specs.Tail.{Tail}
@@ -22,7 +22,7 @@ use Rattle.rules.specs.Pending.{sameCall}
 use Rattle.rules.specs.Calls.{isOwner}
 use Rattle.memory.specs.Encoding.{pendingBytes, pendingOf, wordOf}
 use Rattle.memory.specs.Good.{nobody, goodNames, goodPending, goodSlots}
-use Rattle.memory.specs.Sound.{every, word32}
+use Rattle.memory.specs.Sound.{word32}
 use Rattle.memory.proofs.Octets.{every-both, distinct-every}
 use Rattle.memory.proofs.Peers.{connected-within}
 

@@ -7,7 +7,7 @@ use lib.Seq.{take-at, drop-at}
 use Rattle.wire.specs.Words.{wordBytes}
 use Rattle.wire.proofs.Words.{word-length}
 use Rattle.tables.specs.Tables.{tableBytes}
-use Rattle.tables.proofs.Parts.{part-at, part-put, part-nested}
+use Rattle.wire.proofs.Parts.{part-at, part-put, part-nested}
 use Rattle.tables.proofs.Table.{table-length}
 use Rattle.policy.specs.Names.{cellOf}
 use Rattle.stream.specs.Tail.{Tail}

@@ -6,16 +6,15 @@ use Prim.Native.Nat.{ℕ, zero, suc, _+_, _<_, min}
 use lib.Dec.{ltb, eqb}
 use lib.ListN.{getD, take, drop}
 use borrow.Author.Tests.{lt-ltb, ltb-true}
+use Rattle.wire.specs.Lists.{every, distinct}
 use Rattle.wire.specs.Words.{wordAt}
 use Rattle.wire.specs.declared.Order.the-variants.{Little}
 use Rattle.wire.proofs.Texts.{both-first, both-second, both-true}
-use Rattle.wire.specs.Lists.{distinct}
-use Rattle.rules.specs.State.{Slot, free, peer}
+use Rattle.rules.specs.State.{free, peer}
 use Rattle.rules.proofs.Any.{first-good, rest-distinct}
-use Rattle.stream.specs.Tail.{Tail}
 use Rattle.memory.specs.Layout.{headAt}
 use Rattle.memory.specs.Encoding.{tailOf, peerOf, slotOf}
-use Rattle.memory.specs.Sound.{every, octet, headOctets}
+use Rattle.memory.specs.Sound.{octet, headOctets}
 
 -- ---- every thing of a list
 

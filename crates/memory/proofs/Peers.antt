@@ -9,10 +9,9 @@ use lib.Dec.{eqb, leb}
 use lib.ListN.{length}
 use borrow.Author.Tests.{eqb-true, leb-true, le-leb}
 use Rattle.wire.specs.Lists.{any}
-use Rattle.wire.proofs.Texts.{both-first, both-second}
+use Rattle.wire.proofs.Texts.{both-first, both-second, either}
 use Rattle.stream.specs.Tail.{Tail, goodTail}
 use Rattle.rules.specs.State.{Peer, Slot, free, peer, isPeer}
-use Rattle.rules.proofs.Tests.{either}
 use Rattle.memory.specs.Good.{nobody, goodNames, goodPending, goodPeer, goodSlot, goodSlots}
 
 pub record GoodPeer (all : List (Slot Tail)) (last : ℕ) (p : Peer Tail) (later : List (Slot Tail)) : Type 0 where

@@ -9,7 +9,7 @@ use lib.Seq.{drop-drop, take-take}
 use Rattle.wire.specs.Words.{wordAt, wordBytes}
 use Rattle.wire.specs.declared.Order.the-variants.{Little}
 use Rattle.tables.specs.Tables.{tableBytes}
-use Rattle.tables.proofs.Parts.{drop-take}
+use Rattle.wire.proofs.Parts.{drop-take}
 use Rattle.tables.proofs.Change.{without, removed}
 use Rattle.tables.proofs.Written.{append-written, remove-written}
 use Rattle.policy.specs.Names.{cellOf}

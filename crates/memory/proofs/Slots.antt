@@ -1,7 +1,7 @@
 -- A slot that fits its bytes is read back from them. Assumes nothing.
 use mathlib.Core.List.{List, _++_, map}
 use mathlib.Core.Path.{_≡_, refl, sym, ap, _∙_}
-use Prim.Native.Nat.{ℕ, _+_, _≤_, _<_, min}
+use Prim.Native.Nat.{ℕ, _≤_, _<_, min}
 use native.Mathlib.Omega.{arith}
 use native.Mathlib.Nat.{min-eq-left}
 use lib.ListN.{length, take, drop, replicate, getD-replicate}
@@ -12,7 +12,7 @@ use Rattle.wire.specs.Words.{wordAt, wordBytes}
 use Rattle.wire.specs.declared.Order.the-variants.{Little}
 use Rattle.wire.proofs.Words.{word-length, word-again}
 use Rattle.tables.specs.Tables.{tableBytes, tableOf}
-use Rattle.tables.proofs.Parts.{pad-fits}
+use Rattle.wire.proofs.Parts.{pad-fits}
 use Rattle.tables.proofs.Words.{word-front}
 use Rattle.tables.proofs.Table.{table-again}
 use Rattle.policy.specs.Names.{cellOf, nameOf}

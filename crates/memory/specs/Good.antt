@@ -2,14 +2,14 @@
 -- bytes fit .., and every place not in use is zero". Assumes nothing: these are definitions.
 use mathlib.Core.Bool.{Bool, true, not, _&&_}
 use mathlib.Core.List.{List, [], _∷_}
-use Prim.Native.Nat.{ℕ, _+_}
+use Prim.Native.Nat.{ℕ}
 use lib.Dec.{leb, eqb}
 use lib.ListN.{length, drop}
 use Rattle.wire.specs.Bytes.{same}
 use Rattle.wire.specs.Lists.{any, distinct}
 use Rattle.tables.specs.Tables.{parts}
 use Rattle.stream.specs.Tail.{Tail, goodTail}
-use Rattle.rules.specs.State.{Pending, Peer, Slot, free, peer, State, isPeer}
+use Rattle.rules.specs.State.{Pending, Peer, Slot, free, peer, isPeer}
 use Rattle.rules.specs.Addresses.{ownable}
 use Rattle.rules.specs.Pending.{sameCall}
 use Rattle.rules.specs.Calls.{isOwner}

@@ -1,6 +1,6 @@
 -- Form by form, the tests that the code makes are those of the definition. Assumes nothing.
-use mathlib.Core.Path.{_≡_, refl, sym, ap, _∙_}
-use mathlib.Core.Bool.{Bool, true, false, _&&_, _||_, and-true, or-true}
+use mathlib.Core.Path.{_≡_, refl, _∙_}
+use mathlib.Core.Bool.{Bool, true, false, _&&_, _||_, and-true, and-false}
 use mathlib.Core.List.{List, [], _∷_}
 use Prim.Native.Nat.{ℕ, _-_, _≤_, _<_}
 use native.Mathlib.Omega.{arith}
@@ -87,18 +87,14 @@ unfolding startsWith
 starts-none b [] e = refl
 starts-none b (x ∷ s) e = absurd (omega arith)
 
-no : (b : Bool) → b && false ≡ false
-no true = refl
-no false = refl
-
 module _ (s : List ℕ) where
   pub unique-none : length s ≡ 0 → false ≡ validName Unique s
   unfolding validName unique
-  unique-none e = rw (starts-none 58 s e, no (leb (length s) 255))
+  unique-none e = rw (starts-none 58 s e, and-false)
 
   pub unique-not : (getD s 0 0 ≡ 58 → ⊥) → false ≡ validName Unique s
   unfolding validName unique
-  unique-not e = rw (starts-not 58 s e, no (leb (length s) 255))
+  unique-not e = rw (starts-not 58 s e, and-false)
 
   pub unique-is : (length s ≡ 0 → ⊥) → getD s 0 0 ≡ 58 → length s ≤ 255 → {r : Bool} → r ≡ several true true (take (length s - 1) (drop 1 s)) → r ≡ validName Unique s
   unfolding validName unique several

@@ -4,6 +4,7 @@ use mathlib.Core.List.{List, [], _∷_}
 use Prim.Native.Nat.{ℕ}
 use lib.Dec.{leb, eqb}
 use lib.ListN.{length, drop}
+use Rattle.wire.specs.Lists.{every}
 use Rattle.wire.specs.Bytes.{byte, between}
 use Rattle.names.specs.declared.Form.{Form}
 use Rattle.names.specs.declared.Form.the-variants.{Interface, WellKnown, Unique, BusName, Member, Path}
@@ -27,10 +28,6 @@ cut sep (b ∷ s) = let p = cut sep s in cond (eqb b sep) ([], p .0 ∷ p .1) (b
 -- the pieces of s that `sep` separates, one more than there are `sep`s
 abbrev pub pieces : ℕ → List ℕ → List (List ℕ)
 pieces sep s = cut sep s .0 ∷ cut sep s .1
-
-abbrev pub every {ℓ} : {A : Type ℓ} → (A → Bool) → List A → Bool
-every p [] = true
-every p (x ∷ xs) = p x && every p xs
 
 -- an element is not empty, is made of words' bytes, and starts with a digit only where `lead`
 abbrev pub element : Bool → Bool → List ℕ → Bool

@@ -3,7 +3,7 @@ ghost use mathlib.Core.Path.{_≡_};
 ghost use mathlib.Core.Bool.{true, false};
 ghost use Prim.Native.Nat.{_+_, _≤_, _<_};
 ghost use lib.ListN.{length, drop};
-ghost use Rattle.names.specs.Names.{validName, counted, digit, word, elements};
+ghost use Rattle.names.specs.Names.{validName, counted, digit, word};
 ghost use Rattle.names.specs.Near.{near, pairs, listed, parted, several};
 ghost use Rattle.names.specs.Namespace.{inNamespace};
 

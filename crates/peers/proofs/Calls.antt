@@ -10,7 +10,7 @@ use Rattle.wire.specs.Words.{wordAt}
 use Rattle.wire.specs.declared.Order.the-variants.{Little}
 use Rattle.wire.proofs.Words.{cut-at, put-at}
 use Rattle.tables.specs.Tables.{tableBytes, tableOf}
-use Rattle.tables.proofs.Parts.{drop-take, drop-past, part-nested, cut-two}
+use Rattle.wire.proofs.Parts.{drop-take, drop-past, part-nested, cut-two}
 use Rattle.tables.proofs.Table.{table-take}
 use Rattle.rules.specs.State.{Pending, peer}
 use Rattle.rules.specs.Pending.{endedAll, bereft}

@@ -13,7 +13,7 @@ use borrow.Author.Tests.{lt-ltb, le-ltb, le-leb, lt-leb, not-true, not-false}
 use Rattle.wire.specs.Words.{wordAt, wordBytes}
 use Rattle.wire.specs.declared.Order.the-variants.{Little}
 use Rattle.wire.proofs.Words.{put-at}
-use Rattle.tables.proofs.Parts.{drop-take, pad-fits, take-zeros}
+use Rattle.wire.proofs.Parts.{drop-take, pad-fits, take-zeros}
 use Rattle.tables.proofs.Written.{put-sized, table-unused}
 use Rattle.policy.specs.Names.{cellOf, owns}
 use Rattle.policy.specs.Decisions.{mayOwn}

@@ -4,7 +4,7 @@ use mathlib.Core.List.{List, _++_}
 use Prim.Native.Nat.{ℕ, _+_, _-_, _≤_}
 use lib.ListN.{take, drop, replicate, length-replicate, take-append-drop}
 use lib.Seq.{drop-drop, drop-append-le}
-use Rattle.tables.proofs.Parts.{drop-zeros}
+use Rattle.wire.proofs.Parts.{drop-zeros}
 
 -- what stands behind the first x of w zeros
 pub zero-rest : (m : List ℕ) (a w x : ℕ) → x ≤ w → take w (drop a m) ≡ replicate w 0 → drop (a + x) m ≡ replicate (w - x) 0 ++ drop (a + w) m

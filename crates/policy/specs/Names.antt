@@ -11,12 +11,12 @@ abbrev pub nameOf : List ℕ → List ℕ
 nameOf s = take (front s) (drop 1 s)
 
 -- the names of the first n cells
-unfoldable pub cells : ℕ → List ℕ → List (List ℕ)
-cells zero s = []
-cells (suc n) s = nameOf s ∷ cells n (drop 256 s)
+unfoldable pub cellNames : ℕ → List ℕ → List (List ℕ)
+cellNames zero s = []
+cellNames (suc n) s = nameOf s ∷ cellNames n (drop 256 s)
 
 unfoldable pub namesIn : List ℕ → List (List ℕ)
-namesIn s = cells (length s / 256) s
+namesIn s = cellNames (length s / 256) s
 
 -- the cell of a name, which has at most 255 bytes
 unfoldable pub cellOf : List ℕ → List ℕ

@@ -5,8 +5,8 @@ use mathlib.Core.Bool.{Bool, true, false, not, _&&_, _||_, false≢true}
 use mathlib.Core.List.{List, [], _∷_, _++_}
 use borrow.Author.Tests.{not-true}
 use Rattle.wire.specs.Lists.{any, distinct}
-use Rattle.wire.proofs.Texts.{both-first, both-second, both-true}
-use Rattle.rules.proofs.Tests.{clash, either, or-left, or-right, or-grow, refute}
+use Rattle.wire.proofs.Texts.{both-first, both-second, either}
+use Rattle.rules.proofs.Tests.{clash, or-left, or-right, or-grow, refute}
 use Rattle.rules.proofs.Fewer.{Fewer, none, skip, keep}
 
 -- ---- one of them passes

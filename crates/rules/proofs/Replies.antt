@@ -2,7 +2,7 @@
 -- Assumes nothing.
 use mathlib.Core.Path.{_≡_, refl, sym, ap, ap₂, _∙_}
 use mathlib.Core.Logic.{_⊎_, inl, inr}
-use mathlib.Core.Bool.{Bool, true, false, cond, _||_, false≢true}
+use mathlib.Core.Bool.{Bool, true, false, cond, false≢true}
 use mathlib.Core.List.{List}
 use mathlib.Core.Option.{Option, none, some}
 use Prim.Native.Nat.{ℕ}
@@ -13,6 +13,7 @@ use lib.Seq.{getD-set-same}
 use borrow.Author.Tests.{eqb-true, le-ltb}
 use Rattle.wire.specs.Bytes.{same}
 use Rattle.header.specs.Codes.{return, error}
+use Rattle.wire.proofs.Texts.{either}
 use Rattle.header.specs.declared.Header.{Header}
 use Rattle.policy.specs.Names.{busName}
 use Rattle.policy.specs.Matching.{fieldOf}
@@ -23,7 +24,6 @@ use Rattle.rules.specs.Pending.{awaits, ended, bereft}
 use Rattle.rules.specs.Judge.{Judged, replyTo, reply, isReply, judged}
 use Rattle.rules.specs.Calls.{slotAt, disconnectAt, disconnect}
 use Rattle.rules.specs.declared.Receiver.the-variants as to
-use Rattle.rules.proofs.Tests.{either}
 use Rattle.rules.proofs.First.{first-passes, first-set, taken-below}
 use Rattle.rules.proofs.Waits.{okPending, ended-ends, ended-all-ends}
 

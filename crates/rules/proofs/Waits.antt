@@ -8,10 +8,10 @@ use lib.Dec.{ltb, leb, eqb}
 use lib.ListN.{length}
 use borrow.Author.Tests.{eq-eqb, eqb-true, le-leb}
 use Rattle.wire.specs.Lists.{distinct}
-use Rattle.wire.proofs.Texts.{both-first, both-second}
+use Rattle.wire.proofs.Texts.{both-first, both-second, either}
 use Rattle.rules.specs.State.{Pending, firstBy, dropFirst}
 use Rattle.rules.specs.Pending.{isCall, sameCall, awaits, ended, endedAll}
-use Rattle.rules.proofs.Tests.{clash, either, or-left, or-right}
+use Rattle.rules.proofs.Tests.{clash, or-left, or-right}
 use Rattle.rules.proofs.First.{first-any}
 use Rattle.rules.proofs.Fewer.{Fewer}
 use Rattle.rules.proofs.Any.{any-fewer, first-once, rest-distinct, distinct-snoc}

@@ -1,21 +1,19 @@
 -- "an empty guard is good and every call keeps good memory good": each call keeps a sound state sound. Assumes nothing.
 use mathlib.Core.Path.{_≡_, refl, _∙_}
-use mathlib.Core.Bool.{true, false, cond}
+use mathlib.Core.Bool.{true, cond}
 use mathlib.Core.List.{List, [], _∷_, _++_}
 use Prim.Native.Nat.{ℕ, _+_, _≤_, _<_}
 use native.Mathlib.Omega.{arith}
 use lib.Dec.{leb, ltb}
 use lib.ListN.{length, getD, set, length-set, length-map}
 use borrow.Author.Tests.{lt-ltb, ltb-true, ltb-false, leb-false, eq-eqb}
-use Rattle.wire.specs.Lists.{distinct}
-use Rattle.header.specs.Header.{readHeader}
+use Rattle.wire.specs.Lists.{distinct, every}
 use Rattle.header.specs.declared.Header.{Header}
-use Rattle.header.specs.declared.Reading.the-variants.{Whole}
 use Rattle.policy.specs.Names.{owns}
 use Rattle.policy.specs.Decisions.{mayConnect, mayOwn}
 use Rattle.stream.specs.Stream.{Verdict, more, broken, whole, offer, settled}
 use Rattle.stream.proofs.Good.{fresh-good}
-use Rattle.stream.specs.Tail.{Tail, fresh, closed, tails, goodTail}
+use Rattle.stream.specs.Tail.{Tail, closed, tails}
 use Rattle.rules.specs.State.{Peer, Slot, free, peer, State, isFree, isPeer, firstBy, putSlot, withNames, withStream}
 use Rattle.rules.specs.Addresses.{ownable}
 use Rattle.rules.specs.Pending.{awaits, bereft}
@@ -23,7 +21,7 @@ use Rattle.rules.specs.Calls.{Step, stays, empty, noConnect, newcomer, seated, 
 use Rattle.rules.specs.Calls.{releaseAt, release, noPiece, offered, offeredTo, pieceAt, piece, disconnectAt, disconnect}
 use Rattle.memory.specs.Good.{goodSlots}
 use Rattle.memory.proofs.Octets.{below-every}
-use Rattle.memory.specs.Sound.{every, word32, narrow, octet, headOctets, Sound}
+use Rattle.memory.specs.Sound.{word32, narrow, octet, headOctets, Sound}
 use Rattle.rules.proofs.Tests.{choice}
 use Rattle.sound.proofs.Serial.{header-serial, offer-keeps}
 use Rattle.sound.proofs.Slots.{first-none}

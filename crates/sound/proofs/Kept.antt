@@ -5,12 +5,13 @@ use mathlib.Core.List.{List, [], _∷_}
 use Prim.Native.Nat.{ℕ, zero, suc, _≤_, _<_}
 use lib.ListN.{length, getD}
 use borrow.Author.Tests.{eq-eqb, eqb-true}
+use Rattle.wire.specs.Lists.{every}
 use Rattle.wire.proofs.Texts.{both-first, both-second, both-true}
 use Rattle.stream.specs.Tail.{Tail, goodTail}
 use Rattle.rules.specs.State.{Peer, Slot, free, peer, State, isPeer}
 use Rattle.rules.specs.Calls.{isOwner}
 use Rattle.memory.specs.Good.{nobody, goodPeer, goodSlot, goodSlots}
-use Rattle.memory.specs.Sound.{every, word32, narrow, octet, headOctets, Sound}
+use Rattle.memory.specs.Sound.{word32, narrow, octet, headOctets, Sound}
 use Rattle.memory.proofs.Peers.{peer-good, good-peer}
 use Rattle.sound.proofs.Slots.{nobody-at, nobody-of, somebody-at, somebody-of, every-of, Single, single-head, single-apart, single-rest}
 use Rattle.sound.proofs.Names.{okNames, names-ok, names-apart, names-good}

@@ -2,12 +2,12 @@
 use mathlib.Core.Path.{_≡_, refl, sym, ap, _∙_}
 use mathlib.Core.Bool.{Bool, true, false, cond}
 use mathlib.Core.List.{List, [], _∷_, _++_}
-use Prim.Native.Nat.{ℕ, zero, suc, _+_, _<_}
+use Prim.Native.Nat.{ℕ, _+_}
 use native.Mathlib.Omega.{arith}
 use lib.Dec.{ltb}
-use lib.ListN.{length, getD, take}
-use borrow.Author.Tests.{lt-ltb, ltb-true}
-use Rattle.wire.proofs.Texts.{both-first, both-second, both-true}
+use lib.ListN.{length, take}
+use Rattle.wire.specs.Lists.{every}
+use Rattle.wire.proofs.Texts.{both-first, both-second}
 use Rattle.header.specs.Header.{readHeader}
 use Rattle.header.specs.declared.Header.{Header}
 use Rattle.header.specs.declared.Reading.{Reading}
@@ -17,7 +17,7 @@ use Rattle.stream.specs.Steps.{follows}
 use Rattle.stream.specs.Tail.{Tail, finished, push, judge, tails, headEnd}
 use Rattle.stream.proofs.Offers.{offer-step}
 use Rattle.memory.proofs.Octets.{every-snoc}
-use Rattle.memory.specs.Sound.{every, octet}
+use Rattle.memory.specs.Sound.{octet}
 
 push-octets : (t : Tail) (b : ℕ) → every octet (t .head) ≡ true → octet b ≡ true → every octet (push t b .head) ≡ true
 push-octets t b e h = go (ltb (length (t .head)) (headEnd (t .head)))

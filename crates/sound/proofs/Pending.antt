@@ -4,7 +4,7 @@ use mathlib.Core.Bool.{Bool, true, _&&_}
 use mathlib.Core.List.{List, [], _∷_, _++_}
 use Prim.Native.Nat.{ℕ, _<_}
 use borrow.Author.Tests.{lt-ltb}
-use Rattle.wire.specs.Lists.{any}
+use Rattle.wire.specs.Lists.{any, every}
 use Rattle.wire.proofs.Texts.{both-first, both-second, both-true}
 use Rattle.stream.specs.Tail.{Tail}
 use Rattle.rules.specs.State.{Pending, Slot, isPeer}
@@ -14,7 +14,7 @@ use Rattle.rules.proofs.Any.{distinct-any, distinct-pass}
 use Rattle.rules.proofs.Waits.{call, call-callee, call-own, hasSerial, okPending}
 use Rattle.memory.specs.Good.{goodPending}
 use Rattle.memory.proofs.Octets.{every-snoc}
-use Rattle.memory.specs.Sound.{every, word32}
+use Rattle.memory.specs.Sound.{word32}
 
 -- ---- numbers of 32 bits
 

@@ -7,7 +7,7 @@ use Prim.Native.Nat.{ℕ, _≤_, _<_}
 use native.Mathlib.Omega.{arith}
 use lib.ListN.{length, getD, length-append}
 use Rattle.wire.specs.Bytes.{same}
-use Rattle.wire.specs.Lists.{any}
+use Rattle.wire.specs.Lists.{any, every}
 use Rattle.policy.specs.Names.{owns}
 use Rattle.stream.specs.Tail.{Tail, goodTail}
 use Rattle.rules.specs.State.{Pending, Peer, free, peer, State, isPeer, putSlot, withNames, withPending, withStream}
@@ -15,7 +15,7 @@ use Rattle.rules.specs.Addresses.{ownable}
 use Rattle.rules.specs.Pending.{isCall, sameCall, awaits, ended}
 use Rattle.rules.specs.Calls.{isOwner, released}
 use Rattle.memory.specs.Good.{nobody}
-use Rattle.memory.specs.Sound.{every, octet, Sound}
+use Rattle.memory.specs.Sound.{octet, Sound}
 use Rattle.sound.proofs.Slots.{nobody-at}
 use Rattle.rules.proofs.Fewer.{fewer-length, drop-fewer}
 use Rattle.rules.proofs.Any.{any-snoc, distinct-fewer}

@@ -11,12 +11,12 @@ use lib.Dec.{ltb}
 use lib.ListN.{length, getD, set}
 use lib.Seq.{getD-set-same, getD-set-other}
 use borrow.Author.Tests.{not-true}
-use Rattle.wire.specs.Lists.{any}
+use Rattle.wire.specs.Lists.{any, every}
 use Rattle.stream.specs.Tail.{Tail}
 use Rattle.rules.specs.State.{Slot, free, firstBy}
 use Rattle.memory.specs.Good.{nobody}
-use Rattle.memory.specs.Sound.{every}
-use Rattle.rules.proofs.Tests.{clash, either, or-left, or-right, refute}
+use Rattle.wire.proofs.Texts.{either}
+use Rattle.rules.proofs.Tests.{clash, or-left, or-right, refute}
 use Rattle.rules.proofs.First.{first-any}
 
 -- ---- somebody passes a test, or nobody

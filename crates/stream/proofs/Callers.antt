@@ -6,6 +6,7 @@ use Prim.Native.Nat.{ℕ, _≤_, _<_}
 use native.Mathlib.Omega.{arith}
 use lib.ListN.{length, take}
 use Rattle.wire.specs.Bytes.{pad}
+use Rattle.wire.proofs.Parts.{take-pad}
 use Rattle.header.specs.declared.Header.{Header}
 use Rattle.header.specs.declared.Reading.the-variants as reading
 use Rattle.header.specs.Header.{readHeader}
@@ -18,7 +19,6 @@ use Rattle.stream.specs.Contracts.{tailIn, verdictOf, Open, Advanced}
 use Rattle.stream.proofs.Offers.{taken-some}
 use Rattle.stream.proofs.Good.{open-more, tail-fits}
 use Rattle.stream.proofs.Pushes.{offer-good, offer-whole}
-use Rattle.stream.proofs.Regions.{take-pad}
 
 -- a good stream that is not closed may be advanced
 pub opens : (region : List ℕ) (s : Stream) → length region ≡ 2048 → s .stored ≤ 2048 → region ≡ pad 2048 (take (s .stored) region) → goodTail (tailIn region s) ≡ true

@@ -7,7 +7,7 @@ use native.Mathlib.Omega.{arith}
 use lib.ListN.{length, getD, take, drop, set, replicate, length-append, length-drop, take-append-drop, replicate-append-replicate}
 use lib.Seq.{take-at, drop-at, drop-drop, take-take, take-add, take-nil, drop-nil, length-take-le}
 use Rattle.tables.specs.Tables.{cells, parts}
-use Rattle.tables.proofs.Parts.{take-past, drop-past, drop-take}
+use Rattle.wire.proofs.Parts.{take-past, drop-past, drop-take}
 
 -- ---- parts
 

@@ -9,7 +9,7 @@ use lib.Seq.{take-at, drop-at, length-take-le}
 use Rattle.wire.specs.Bytes.{pad}
 use Rattle.wire.specs.Words.{wordBytes}
 use Rattle.tables.specs.Tables.{cells, tableBytes}
-use Rattle.tables.proofs.Parts.{drop-past, drop-zeros, cut-two}
+use Rattle.wire.proofs.Parts.{drop-past, drop-zeros, cut-two}
 use Rattle.tables.specs.Cut.{cutOut}
 use Rattle.tables.proofs.Cells.{cells-length, cells-append, cells-snoc, cells-take, cells-drop}
 use Rattle.tables.proofs.Table.{table-body, table-spread}

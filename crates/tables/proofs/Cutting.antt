@@ -9,7 +9,7 @@ use lib.Seq.{take-at, drop-at, drop-drop, getD-drop, getD-append-add, length-tak
 use borrow.Author.Needs.{needs}
 use Rattle.wire.specs.Words.{wordBytes}
 use Rattle.wire.proofs.Words.{rest-at}
-use Rattle.tables.proofs.Parts.{drop-take}
+use Rattle.wire.proofs.Parts.{drop-take}
 use Rattle.tables.specs.Cut.{cutOut, Cell}
 
 -- ---- bytes moved down by w, i of them

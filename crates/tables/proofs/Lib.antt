@@ -1,4 +1,3 @@
-pub mod Parts
 pub mod Words
 pub mod Cells
 pub mod Sweep

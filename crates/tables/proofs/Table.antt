@@ -13,7 +13,7 @@ use Rattle.wire.specs.declared.Order.the-variants.{Little}
 use Rattle.wire.proofs.Texts.{pad-length}
 use Rattle.wire.proofs.Words.{word-length, word-again}
 use Rattle.tables.specs.Tables.{cells, parts, tableBytes, tableOf}
-use Rattle.tables.proofs.Parts.{pad-fits, drop-take}
+use Rattle.wire.proofs.Parts.{pad-fits, drop-take}
 use Rattle.tables.proofs.Words.{word-take}
 use Rattle.tables.proofs.Cells.{parts-length, parts-at, parts-take, cells-length, cells-parts}
 

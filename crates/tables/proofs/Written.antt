@@ -10,7 +10,7 @@ use Rattle.wire.specs.Bytes.{pad}
 use Rattle.wire.specs.Words.{wordBytes}
 use Rattle.wire.proofs.Words.{word-length}
 use Rattle.tables.specs.Tables.{cells, tableBytes}
-use Rattle.tables.proofs.Parts.{drop-past, part-past, drop-take, cut-two}
+use Rattle.wire.proofs.Parts.{drop-past, part-past, drop-take, cut-two}
 use Rattle.tables.proofs.Cells.{cells-length}
 use Rattle.tables.proofs.Table.{table-length, table-body, table-spread}
 use Rattle.tables.proofs.Change.{removed, without, table-append, table-remove}

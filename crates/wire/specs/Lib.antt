@@ -1,3 +1,3 @@
-pub mod Bytes
 pub mod Lists
+pub mod Bytes
 pub mod Words

@@ -97,6 +97,10 @@ pad-fits n xs h =
     ap (λ (k : ℕ). take k (xs ++ replicate n 0)) e
     ∙ take-append-add xs (replicate n 0) (n - length xs)
     ∙ ap (λ (z : List ℕ). xs ++ z) (take-zeros (n - length xs) n (omega arith))
+
+-- and is read from there
+pub take-pad : (n : ℕ) (xs : List ℕ) → length xs ≤ n → take (length xs) (pad n xs) ≡ xs
+take-pad n xs h = rw (pad-fits n xs h) (take-at xs (replicate (n - length xs) 0) (length xs) refl)
 
 -- a first part of k bytes is no matter of padding
 pub pad-past : (p q : List ℕ) (k n : ℕ) → length p ≡ k → pad (k + n) (p ++ q) ≡ p ++ pad n q

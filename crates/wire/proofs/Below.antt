@@ -9,8 +9,8 @@ use native.Mathlib.Omega.{arith}
 use lib.ListN.{getD}
 use borrow.Author.Needs.{needs}
 use borrow.Author.Tests.{not-true, not-false}
+use Rattle.wire.specs.Lists.{below}
 use Rattle.wire.proofs.Texts.{both-first, both-second}
-use Rattle.image.specs.Good.{below}
 
 -- ---- a row of tests, as definitions write it: `a && b && c` is `row true (a ∷ b ∷ c ∷ [])`
 
@@ -30,17 +30,15 @@ row-each done (b ∷ bs) h (suc i) = row-each (done && b) bs h i
 -- ---- each number below n
 
 module _ (p : ℕ → Bool) where
-  pub every : (n : ℕ) → below p n ≡ true → (j : ℕ) → j < n → p j ≡ true
-  unfolding below
-  every zero h j l = absurd (omega arith)
-  every (suc n) h j l =
+  pub below-at : (n : ℕ) → below p n ≡ true → (j : ℕ) → j < n → p j ≡ true
+  below-at zero h j l = absurd (omega arith)
+  below-at (suc n) h j l =
       ⊎-elim
       (λ (e : j ≡ n). rw e (both-second (below p n) (p n) h))
-      (λ (k : j < n). every n (both-first (below p n) (p n) h) j k)
+      (λ (k : j < n). below-at n (both-first (below p n) (p n) h) j k)
       (eq-or-lt-of-le (omega arith))
 
   step : (i : ℕ) → 0 < i → below p i ≡ below p (i - 1) && p (i - 1)
-  unfolding below
   step zero l = absurd (omega arith)
   step (suc i) l = let e : suc i - 1 ≡ i = omega arith in rw e
 
@@ -54,7 +52,6 @@ begin {p} e = record { inside = omega arith; same = rw e }
 
 module _ {p : ℕ → Bool} {n i : ℕ} (t : Testing p n i) where
   pub done : i ≤ 0 → true ≡ below p n
-  unfolding below
   done h = let e : i ≡ 0 = omega arith in sym (t .same ∙ rw e)
 
   module _ (h : 0 < i) {r : Bool} (is : r ≡ p (i - 1)) where

@@ -1,7 +1,7 @@
--- `header::is_good` meets its contract. Assumes nothing.
+-- `header::values::is_good` meets its contract. Assumes nothing.
 use Rattle.header.proofs.Checks.{field}
-use Rattle.header.proofs.is_good.Statement.{statement}
-use Rattle.header.proofs.is_good.Tie as tie
+use Rattle.header.proofs.values.is_good.Statement.{statement}
+use Rattle.header.proofs.values.is_good.Tie as tie
 
 pub is-good-spec : {M : Type 1} → statement M
 is-good-spec =

@@ -1,7 +1,7 @@
--- `header::is_good_value` meets its contract. Assumes nothing.
+-- `header::values::is_good_value` meets its contract. Assumes nothing.
 use Rattle.header.proofs.Checks.{value}
-use Rattle.header.proofs.is_good_value.Statement.{statement}
-use Rattle.header.proofs.is_good_value.Tie as tie
+use Rattle.header.proofs.values.is_good_value.Statement.{statement}
+use Rattle.header.proofs.values.is_good_value.Tie as tie
 
 pub is-good-value-spec : {M : Type 1} → statement M
 is-good-value-spec =

@@ -1,7 +1,7 @@
--- `header::has_required` meets its contract. Assumes nothing.
+-- `header::values::has_required` meets its contract. Assumes nothing.
 use Rattle.header.proofs.Checks.{required}
-use Rattle.header.proofs.has_required.Statement.{statement}
-use Rattle.header.proofs.has_required.Tie as tie
+use Rattle.header.proofs.values.has_required.Statement.{statement}
+use Rattle.header.proofs.values.has_required.Tie as tie
 
 pub has-required-spec : {M : Type 1} → statement M
 has-required-spec =

@@ -1,7 +1,7 @@
--- `header::are_good` meets its contract. Assumes nothing.
+-- `header::values::are_good` meets its contract. Assumes nothing.
 use Rattle.header.proofs.Checks.{Checking, checking}
-use Rattle.header.proofs.are_good.Statement.{statement}
-use Rattle.header.proofs.are_good.Tie as tie
+use Rattle.header.proofs.values.are_good.Statement.{statement}
+use Rattle.header.proofs.values.are_good.Tie as tie
 
 abbrev Inv-loop : tie.InvT-loop
 Inv-loop order head places code₀ code = Checking order head places code
