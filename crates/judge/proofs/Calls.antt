@@ -16,20 +16,16 @@ use Rattle.tables.specs.Cut.{Cell}
 use Rattle.tables.proofs.Words.{word-part, bytes-take, bytes-drop}
 use Rattle.tables.proofs.Change.{removed, removed-last, removed-next}
 use Rattle.tables.proofs.Written.{put-joined}
-use Rattle.memory.specs.Sound.{Held}
 use Rattle.memory.proofs.Held.{held-counted}
 use Rattle.memory.proofs.Puts.{call-appended, call-removed}
-use Rattle.judge.specs.Judging.{PeerAt}
+use Rattle.slots.specs.Slots.{Seated}
 use Rattle.judge.specs.Steps.{Holds, Began, Ended}
 
 -- ---- how many
 
-pub held-in : {m : List ℕ} {i : ℕ} → PeerAt m i → Held m
-held-in p = record { sized = p .sized; held = p .held }
-
-pub holds-calls : {m : List ℕ} {i w n : ℕ} → PeerAt m i → w ≡ wordAt Little m (4 + 3292 * i + 76) → n ≡ min w 16 → Holds m i n
+pub holds-calls : {m : List ℕ} {i w n : ℕ} → Seated m i → w ≡ wordAt Little m (4 + 3292 * i + 76) → n ≡ min w 16 → Holds m i n
 holds-calls {m} {i} p e f =
-    let few : wordAt Little m (4 + 3292 * i + 76) ≤ 16 = held-counted m i (held-in p) (p .below) (p .some) .fewCalls in
+    let few : wordAt Little m (4 + 3292 * i + 76) ≤ 16 = held-counted m i (p .held) (p .below) (p .some) .fewCalls in
     record { caller = p; count = omega arith; few = omega arith }
 
 pub ruleset counting = (holds-calls, needs)
@@ -42,7 +38,7 @@ pub call-began : (m m₁ m₂ m₃ : List ℕ) (i n callee serial : ℕ) → Hol
     → m₃ ≡ take (4 + 3292 * i + 76) m₂ ++ (wordBytes (n + 1) ++ drop (4 + 3292 * i + 76 + 4) m₂)
     → Began m i callee serial m₃
 call-began m m₁ m₂ m₃ i n callee serial h l b e₁ e₂ e₃ =
-    let p : PeerAt m i = h .caller in
+    let p : Seated m i = h .caller in
     let c : ℕ = 4 + 3292 * i + 80 + 8 * n in
     let s : length m ≡ 52676 = p .sized in
     let o : i < 16 = p .below in
@@ -52,7 +48,7 @@ call-began m m₁ m₂ m₃ i n callee serial h l b e₁ e₂ e₃ =
     ∙ put-joined m (wordBytes callee) (wordBytes serial) c 4 4 (omega arith) (word-length callee) in
     record {
       is =
-          call-appended m (λ j. b j .fits) (held-in p) i o (p .some) (record { callee = callee; serial = serial }) m₂ m₃ n c (h .count) l refl e e₃;
+          call-appended m (λ j. b j .fits) (p .held) i o (p .some) (record { callee = callee; serial = serial }) m₂ m₃ n c (h .count) l refl e e₃;
     }
 
 pub ruleset beginning = (call-began, needs)
@@ -63,7 +59,7 @@ pub ruleset beginning = (call-began, needs)
 pub call-cell : (m : List ℕ) (i n k : ℕ) → Holds m i n → k < n
     → Cell (take (4 + 3292 * i + 76 + 4 + 128 - (4 + 3292 * i + 76 + 4)) (drop (4 + 3292 * i + 76 + 4) m)) (8 * k) 8 (8 * n)
 call-cell m i n k h l =
-    let p : PeerAt m i = h .caller in
+    let p : Seated m i = h .caller in
     let s : length m ≡ 52676 = p .sized in
     let o : i < 16 = p .below in
     let f : n ≤ 16 = h .few in
@@ -78,11 +74,11 @@ pub call-ended : (m m₂ y : List ℕ) (i n k : ℕ) → Holds m i n → k < n �
     ++ (wordBytes (n - 1) ++ drop (4 + 3292 * i + 76 + 4) (take (4 + 3292 * i + 76 + 4) m ++ (y ++ drop (4 + 3292 * i + 76 + 4 + 128 - (4 + 3292 * i + 76 + 4)) (drop (4 + 3292 * i + 76 + 4) m))))
     → Ended m i k m₂
 call-ended m m₂ y i n k h l b ey e₂ =
-    let p : PeerAt m i = h .caller in
+    let p : Seated m i = h .caller in
     let a : ℕ = 4 + 3292 * i + 76 + 4 in
     record {
       is =
-          call-removed m (λ j. b j .fits) (held-in p) i (p .below) (p .some) k
+          call-removed m (λ j. b j .fits) (p .held) i (p .below) (p .some) k
           (take a m ++ (y ++ drop (a + 128 - a) (drop a m))) m₂ y n (h .count) l (rw (cut-at a 128 m) at ey) (put-at a 128 m y) e₂;
     }
 

@@ -1,6 +1,6 @@
 // The pending calls of a slot, a table in its caller's slot: one begun, one ended.
 ghost use Prim.Native.Nat.{_<_};
-ghost use Rattle.judge.specs.Judging.{PeerAt};
+ghost use Rattle.slots.specs.Slots.{Seated};
 ghost use Rattle.judge.specs.Steps.{Holds, Began, Ended};
 
 // The peer of slot i, which has n pending calls, awaits a reply of the callee to the serial.
@@ -27,7 +27,7 @@ pub fn end_call(memory: &mut [u8], i: usize, n: usize, k: usize)
 
 // How many pending calls the peer of slot i has.
 pub fn calls_at(memory: &[u8], i: usize) -> usize
-    requires { ⌜ PeerAt (now memory) i ⌝ }
+    requires { ⌜ Seated (now memory) i ⌝ }
     ensures { λ r. ⌜ Holds (now (memory .entry)) i r ⌝ }
 {
     wire::least(slots::word_at(memory, i, 76) as usize, 16)

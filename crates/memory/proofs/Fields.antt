@@ -13,7 +13,7 @@ use Rattle.policy.specs.Names.{cellOf}
 use Rattle.stream.specs.Tail.{Tail}
 use Rattle.rules.specs.State.{Pending, Peer, free, peer, State, putSlot, withNames, withPending, withStream}
 use Rattle.memory.specs.Layout.{slotStart}
-use Rattle.memory.specs.Encoding.{pendingBytes, headBytes, peerBytes, slotBytes, memoryOf}
+use Rattle.memory.specs.Encoding.{pendingBytes, headBytes, streamBytes, peerBytes, slotBytes, memoryOf}
 use Rattle.memory.proofs.Frame.{head-length, put-memory, memory-at}
 
 pub peer-bytes : (p : Peer Tail) → slotBytes (peer p) ≡ peerBytes p
@@ -21,9 +21,6 @@ unfolding slotBytes
 peer-bytes p = refl
 
 -- ---- what stands before each field
-
-abbrev pub stream : Tail → List ℕ
-stream t = wordBytes (t .taken) ++ headBytes (t .head)
 
 unfoldable pub beforeGids : Peer Tail → List ℕ
 beforeGids p = wordBytes (p .number) ++ wordBytes (p .uid)
@@ -53,7 +50,7 @@ pub before-stream : (p : Peer Tail) → length (beforeStream p) ≡ 1236
 unfolding beforeStream
 before-stream p = simp (length-append, before-names, table-length)
 
-pub stream-length : (t : Tail) → length (stream t) ≡ 2056
+pub stream-length : (t : Tail) → length (streamBytes t) ≡ 2056
 stream-length t = simp (length-append, word-length, head-length)
 
 -- ---- the bytes of a peer, split at each field
@@ -61,26 +58,26 @@ stream-length t = simp (length-append, word-length, head-length)
 pub split-gids : (p : Peer Tail) → slotBytes (peer p)
     ≡ beforeGids p
     ++ (tableBytes 4 16 wordBytes (p .gids)
-    ++ (tableBytes 8 16 pendingBytes (p .pending) ++ (tableBytes 256 4 cellOf (p .names) ++ stream (p .stream))))
+    ++ (tableBytes 8 16 pendingBytes (p .pending) ++ (tableBytes 256 4 cellOf (p .names) ++ streamBytes (p .stream))))
 unfolding slotBytes peerBytes beforeGids
 split-gids p = sym (append-assoc (wordBytes (p .number)) (wordBytes (p .uid)) _)
 
 pub split-pending : (p : Peer Tail) → slotBytes (peer p)
-    ≡ beforePending p ++ (tableBytes 8 16 pendingBytes (p .pending) ++ (tableBytes 256 4 cellOf (p .names) ++ stream (p .stream)))
+    ≡ beforePending p ++ (tableBytes 8 16 pendingBytes (p .pending) ++ (tableBytes 256 4 cellOf (p .names) ++ streamBytes (p .stream)))
 unfolding beforePending
 split-pending p = split-gids p ∙ sym (append-assoc (beforeGids p) (tableBytes 4 16 wordBytes (p .gids)) _)
 
 pub split-names : (p : Peer Tail) → slotBytes (peer p)
-    ≡ beforeNames p ++ (tableBytes 256 4 cellOf (p .names) ++ stream (p .stream))
+    ≡ beforeNames p ++ (tableBytes 256 4 cellOf (p .names) ++ streamBytes (p .stream))
 unfolding beforeNames
 split-names p = split-pending p ∙ sym (append-assoc (beforePending p) (tableBytes 8 16 pendingBytes (p .pending)) _)
 
-pub split-stream : (p : Peer Tail) → slotBytes (peer p) ≡ beforeStream p ++ (stream (p .stream) ++ [])
+pub split-stream : (p : Peer Tail) → slotBytes (peer p) ≡ beforeStream p ++ (streamBytes (p .stream) ++ [])
 unfolding beforeStream
 split-stream p =
     split-names p
-    ∙ sym (append-assoc (beforeNames p) (tableBytes 256 4 cellOf (p .names)) (stream (p .stream)))
-    ∙ ap (λ (z : List ℕ). (beforeNames p ++ tableBytes 256 4 cellOf (p .names)) ++ z) (sym (append-nil (stream (p .stream))))
+    ∙ sym (append-assoc (beforeNames p) (tableBytes 256 4 cellOf (p .names)) (streamBytes (p .stream)))
+    ∙ ap (λ (z : List ℕ). (beforeNames p ++ tableBytes 256 4 cellOf (p .names)) ++ z) (sym (append-nil (streamBytes (p .stream))))
 
 -- ---- a field put
 
@@ -90,22 +87,22 @@ unfolding beforePending beforeGids
 put-pending p ws =
     rw (split-pending (withPending p ws), split-pending p)
     (part-put (beforePending p) (tableBytes 8 16 pendingBytes (p .pending)) (tableBytes 8 16 pendingBytes ws)
-    (tableBytes 256 4 cellOf (p .names) ++ stream (p .stream)) 76 132 (before-pending p) (table-length 8 16 pendingBytes (p .pending)))
+    (tableBytes 256 4 cellOf (p .names) ++ streamBytes (p .stream)) 76 132 (before-pending p) (table-length 8 16 pendingBytes (p .pending)))
 
 pub put-names : (p : Peer Tail) (ns : List (List ℕ)) → slotBytes (peer (withNames p ns))
     ≡ take 208 (slotBytes (peer p)) ++ (tableBytes 256 4 cellOf ns ++ drop 1236 (slotBytes (peer p)))
 unfolding beforeNames beforePending beforeGids
 put-names p ns =
     rw (split-names (withNames p ns), split-names p)
-    (part-put (beforeNames p) (tableBytes 256 4 cellOf (p .names)) (tableBytes 256 4 cellOf ns) (stream (p .stream)) 208 1028
+    (part-put (beforeNames p) (tableBytes 256 4 cellOf (p .names)) (tableBytes 256 4 cellOf ns) (streamBytes (p .stream)) 208 1028
     (before-names p) (table-length 256 4 cellOf (p .names)))
 
 pub put-stream : (p : Peer Tail) (t : Tail) → slotBytes (peer (withStream p t))
-    ≡ take 1236 (slotBytes (peer p)) ++ (wordBytes (t .taken) ++ headBytes (t .head))
+    ≡ take 1236 (slotBytes (peer p)) ++ streamBytes t
 unfolding beforeStream beforeNames beforePending beforeGids
 put-stream p t =
-    rw (split-stream (withStream p t), split-stream p, take-at (beforeStream p) (stream (p .stream) ++ []) 1236 (before-stream p))
-    (ap (λ (z : List ℕ). beforeStream p ++ z) (append-nil (stream t)))
+    rw (split-stream (withStream p t), split-stream p, take-at (beforeStream p) (streamBytes (p .stream) ++ []) 1236 (before-stream p))
+    (ap (λ (z : List ℕ). beforeStream p ++ z) (append-nil (streamBytes t)))
 
 -- the count of bytes taken alone
 pub put-taken : (p : Peer Tail) (n : ℕ) → slotBytes (peer (withStream p (record { taken = n; head = p .stream .head })))
@@ -113,7 +110,7 @@ pub put-taken : (p : Peer Tail) (n : ℕ) → slotBytes (peer (withStream p (rec
 unfolding beforeStream beforeNames beforePending beforeGids
 put-taken p n =
     let t : Tail = record { taken = n; head = p .stream .head } in
-    rw (split-stream (withStream p t), split-stream p, append-nil (stream t), append-nil (stream (p .stream)))
+    rw (split-stream (withStream p t), split-stream p, append-nil (streamBytes t), append-nil (streamBytes (p .stream)))
     (part-put (beforeStream p) (wordBytes (p .stream .taken)) (wordBytes n) (headBytes (p .stream .head)) 1236 4
     (before-stream p) (word-length (p .stream .taken)))
 
@@ -143,6 +140,6 @@ names-bytes p =
     rw (split-names p)
     (part-at (beforeNames p) (tableBytes 256 4 cellOf (p .names)) _ 208 1028 (before-names p) (table-length 256 4 cellOf (p .names)))
 
-pub stream-bytes : (p : Peer Tail) → drop 1236 (slotBytes (peer p)) ≡ wordBytes (p .stream .taken) ++ headBytes (p .stream .head)
+pub stream-bytes : (p : Peer Tail) → drop 1236 (slotBytes (peer p)) ≡ streamBytes (p .stream)
 stream-bytes p =
-    rw (split-stream p, append-nil (stream (p .stream))) (drop-at (beforeStream p) (stream (p .stream)) 1236 (before-stream p))
+    rw (split-stream p, append-nil (streamBytes (p .stream))) (drop-at (beforeStream p) (streamBytes (p .stream)) 1236 (before-stream p))

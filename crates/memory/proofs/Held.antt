@@ -18,11 +18,11 @@ use Rattle.policy.specs.Names.{cellOf}
 use Rattle.stream.specs.Tail.{Tail}
 use Rattle.rules.specs.State.{Peer, free, peer}
 use Rattle.memory.specs.Layout.{slotStart}
-use Rattle.memory.specs.Encoding.{pendingBytes, slotBytes, slotOf, stateOf}
+use Rattle.memory.specs.Encoding.{pendingBytes, streamBytes, slotBytes, slotOf, stateOf}
 use Rattle.memory.specs.Good.{plain}
 use Rattle.memory.specs.Sound.{Held}
 use Rattle.memory.proofs.Reading.{slot-part, slot-at, numberAt, peerFrom, slot-free, slot-peer, gids-many, pending-many, names-many}
-use Rattle.memory.proofs.Fields.{beforeGids, beforePending, beforeNames, before-gids, before-pending, before-names, stream, split-gids, split-pending, split-names}
+use Rattle.memory.proofs.Fields.{beforeGids, beforePending, beforeNames, before-gids, before-pending, before-names, split-gids, split-pending, split-names}
 use Rattle.memory.proofs.Slots.{head-count}
 use Rattle.memory.proofs.Good.{good-plain}
 
@@ -62,7 +62,7 @@ calls-count p h =
 names-count : (p : Peer Tail) → length (p .names) < 4294967296 → wordAt Little (slotBytes (peer p)) 208 ≡ length (p .names)
 names-count p h =
     sym (word-front (slotBytes (peer p)) 208)
-    ∙ rw (split-names p, drop-at (beforeNames p) (tableBytes 256 4 cellOf (p .names) ++ stream (p .stream)) 208 (before-names p))
+    ∙ rw (split-names p, drop-at (beforeNames p) (tableBytes 256 4 cellOf (p .names) ++ streamBytes (p .stream)) 208 (before-names p))
     (table-count 256 4 cellOf (p .names) _ h)
 
 -- ---- counts of the peer whose slot begins at a

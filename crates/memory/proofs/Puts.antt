@@ -16,7 +16,7 @@ use Rattle.policy.specs.Names.{cellOf}
 use Rattle.stream.specs.Tail.{Tail}
 use Rattle.rules.specs.State.{Pending, Peer, peer, putSlot, withNames, withPending, withStream}
 use Rattle.memory.specs.Layout.{slotStart}
-use Rattle.memory.specs.Encoding.{pendingBytes, headBytes, slotBytes, memoryOf, stateOf}
+use Rattle.memory.specs.Encoding.{pendingBytes, streamBytes, slotBytes, memoryOf, stateOf}
 use Rattle.memory.specs.Sound.{Held}
 use Rattle.memory.proofs.Frame.{pending-length, cell-length, slot-length}
 use Rattle.memory.proofs.Fields.{put-field, put-names, put-pending, put-stream, put-taken, names-bytes, pending-bytes}
@@ -78,11 +78,11 @@ module _ (m : List ℕ) (bytes : (j : ℕ) → getD m j 0 < 256) (g : Held m) (i
       field-put (withStream p (record { taken = n; head = p .stream .head })) (wordBytes n) 1236 4 (omega arith) (put-taken p n)
 
   pub stream-put : (t : Tail) → memoryOf (putSlot (stateOf m) i (peer (withStream (peerFrom m (slotStart i)) t)))
-      ≡ take (slotStart i + 1236) m ++ ((wordBytes (t .taken) ++ headBytes (t .head)) ++ drop (slotStart i + 1236 + 2056) m)
+      ≡ take (slotStart i + 1236) m ++ (streamBytes t ++ drop (slotStart i + 1236 + 2056) m)
   stream-put t =
       let p = peerFrom m (slotStart i) in
       let s = slotBytes (peer p) in
-      let x = wordBytes (t .taken) ++ headBytes (t .head) in
+      let x = streamBytes t in
       let e : x ≡ x ++ drop 3292 s = sym (ap (λ (z : List ℕ). x ++ z) (drop-of-length-le s {i = 3292} (omega (arith, slot-length (peer p)))) ∙ append-nil x) in
       field-put (withStream p t) x 1236 2056 (omega arith) (put-stream p t ∙ ap (λ (z : List ℕ). take 1236 s ++ z) e)
 

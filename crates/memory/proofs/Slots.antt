@@ -18,9 +18,9 @@ use Rattle.tables.proofs.Table.{table-again}
 use Rattle.policy.specs.Names.{cellOf, nameOf}
 use Rattle.stream.specs.Tail.{Tail}
 use Rattle.rules.specs.State.{Peer, free, peer}
-use Rattle.memory.specs.Encoding.{pendingBytes, headBytes, peerBytes, slotBytes, wordOf, pendingOf, tailOf, peerOf, slotOf}
+use Rattle.memory.specs.Encoding.{pendingBytes, headBytes, streamBytes, peerBytes, slotBytes, wordOf, pendingOf, tailOf, peerOf, slotOf}
 use Rattle.memory.proofs.Frame.{pending-length, cell-length, free-bytes}
-use Rattle.memory.proofs.Fields.{beforeGids, beforePending, beforeNames, before-gids, before-pending, before-names, stream, split-gids, split-pending, split-names, stream-bytes}
+use Rattle.memory.proofs.Fields.{beforeGids, beforePending, beforeNames, before-gids, before-pending, before-names, split-gids, split-pending, split-names, stream-bytes}
 
 -- what the bytes of a slot can hold
 pub record Fits (p : Peer Tail) : Type 0 where
@@ -63,7 +63,7 @@ calls-back p h e =
 pub names-back : (p : Peer Tail) → length (p .names) ≤ 4 → map nameOf (map cellOf (p .names)) ≡ p .names
     → tableOf 256 4 nameOf (drop 208 (slotBytes (peer p))) ≡ p .names
 names-back p h e =
-    rw (split-names p, drop-at (beforeNames p) (tableBytes 256 4 cellOf (p .names) ++ stream (p .stream)) 208 (before-names p))
+    rw (split-names p, drop-at (beforeNames p) (tableBytes 256 4 cellOf (p .names) ++ streamBytes (p .stream)) 208 (before-names p))
     (table-again 256 4 cellOf cell-length nameOf (p .names) _ h (omega arith) e)
 
 -- the head behind the bytes d, of which the first 1236 are something else

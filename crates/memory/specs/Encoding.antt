@@ -21,13 +21,16 @@ pendingBytes w = wordBytes (w .callee) ++ wordBytes (w .serial)
 unfoldable pub headBytes : List ℕ → List ℕ
 headBytes h = wordBytes (length h) ++ pad 2048 h
 
+abbrev pub streamBytes : Tail → List ℕ
+streamBytes t = wordBytes (t .taken) ++ headBytes (t .head)
+
 unfoldable pub peerBytes : Peer Tail → List ℕ
 peerBytes p =
     wordBytes (p .number)
     ++ (wordBytes (p .uid)
     ++ (tableBytes 4 16 wordBytes (p .gids)
     ++ (tableBytes 8 16 pendingBytes (p .pending)
-    ++ (tableBytes 256 4 cellOf (p .names) ++ (wordBytes (p .stream .taken) ++ headBytes (p .stream .head))))))
+    ++ (tableBytes 256 4 cellOf (p .names) ++ streamBytes (p .stream)))))
 
 unfoldable pub slotBytes : Slot Tail → List ℕ
 slotBytes free = replicate slotLength 0

@@ -25,20 +25,18 @@ use Rattle.stream.specs.Tail.{Tail, tails, closed, fresh, goodTail}
 use Rattle.stream.proofs.Good.{fresh-good, open-more}
 use Rattle.stream.proofs.Pushes.{offer-whole}
 use Rattle.rules.specs.State.{Peer, Slot, free, peer, State, putSlot, withStream}
-use Rattle.memory.specs.Encoding.{headBytes, memoryOf, stateOf}
+use Rattle.memory.specs.Encoding.{headBytes, streamBytes, memoryOf, stateOf}
 use Rattle.memory.specs.Sound.{Sound, Held}
-use Rattle.memory.proofs.Frame.{head-length, memory-length}
+use Rattle.memory.proofs.Frame.{memory-length}
+use Rattle.memory.proofs.Fields.{stream-length}
 use Rattle.memory.proofs.Reading.{numberAt, slot-free, slot-peer, sixteen}
 use Rattle.memory.proofs.Sound.{state-again, good-memory}
 use Rattle.memory.proofs.Good.{held-of}
 use Rattle.sound.proofs.Put.{put-there}
 use Rattle.sound.proofs.Renew.{stream-sound}
-use Rattle.slots.specs.Slots.{peerAt}
-use Rattle.pieces.specs.Fed.{streamBytes, Seat, Running, cleared, headIn, Completed}
+use Rattle.slots.specs.Slots.{peerAt, Seated}
+use Rattle.pieces.specs.Fed.{cleared, headIn, Completed}
 use Rattle.pieces.proofs.Seats.{sound, peer-is, fine, cleared-is}
-
-stream-length : (t : Tail) → length (streamBytes t) ≡ 2056
-stream-length t = length-append (wordBytes (t .taken)) (headBytes (t .head)) ∙ omega (arith, word-length (t .taken), head-length (t .head))
 
 -- ---- the bytes of a stream put into memory
 
@@ -81,16 +79,16 @@ abbrev peerOr : Peer Tail → Slot Tail → Peer Tail
 peerOr d free = d
 peerOr d (peer p) = p
 
-module _ (m : List ℕ) (f : (j : ℕ) → Fits w8 (getD m j 0)) (i : ℕ) (s : Running m i) where
+module _ (m : List ℕ) (f : (j : ℕ) → Fits w8 (getD m j 0)) (i : ℕ) (s : Seated m i) where
   -- the state in which the message is consumed
   abbrev pub consumed : State Tail
   consumed = putSlot (stateOf m) i (peer (withStream (peerAt m i) fresh))
 
   pub consumed-sound : Sound consumed
-  consumed-sound = stream-sound (stateOf m) i (peerAt m i) (sound m f i (s .seat)) (peer-is m f i (s .seat)) fresh fresh-good refl
+  consumed-sound = stream-sound (stateOf m) i (peerAt m i) (sound m f i s) (peer-is m f i s) fresh fresh-good refl
 
   pub consumed-at : getD (consumed .slots) i free ≡ peer (withStream (peerAt m i) fresh)
-  consumed-at = put-there (stateOf m) i (peerAt m i) (withStream (peerAt m i) fresh) (peer-is m f i (s .seat))
+  consumed-at = put-there (stateOf m) i (peerAt m i) (withStream (peerAt m i) fresh) (peer-is m f i s)
 
   pub consumed-again : stateOf (memoryOf consumed) ≡ consumed
   consumed-again = state-again consumed consumed-sound
@@ -113,7 +111,7 @@ module _ (m : List ℕ) (f : (j : ℕ) → Fits w8 (getD m j 0)) (i : ℕ) (s : 
   consumed-length : length (memoryOf consumed) ≡ 52676
   consumed-length = memory-length consumed (consumed-sound .sixteen)
 
-  consumed-seat : Seat (memoryOf consumed) i
+  consumed-seat : Seated (memoryOf consumed) i
   consumed-seat =
       record {
         held = held-of (memoryOf consumed) (good-memory consumed consumed-sound);
@@ -123,21 +121,21 @@ module _ (m : List ℕ) (f : (j : ℕ) → Fits w8 (getD m j 0)) (i : ℕ) (s : 
       }
 
   -- what the bytes of a whole message leave, where `after` is memory with them
-  module _ (image piece after : List ℕ) (x : Header) (g : GoodImage image)
+  module _ (image piece after : List ℕ) (x : Header) (g : GoodImage image) (o : closed (peerAt m i .stream) ≡ false)
       (e : after ≡ take (4 + 3292 * i + 1236) m ++ (streamBytes (offer tails (peerAt m i .stream) piece .stream) ++ drop (4 + 3292 * i + 1236 + 2056) m))
       (v : whole (take (x .head) (pad 2048 (offer tails (peerAt m i .stream) piece .stream .head))) x ≡ offer tails (peerAt m i .stream) piece .verdict) where
     pub consumed-clear : cleared after i ≡ memoryOf consumed
     consumed-clear =
         ap (λ (z : List ℕ). cleared z i) e
         ∙ cleared-put m i (s .sized) (s .below) (offer tails (peerAt m i .stream) piece .stream)
-        ∙ cleared-is m f i (s .seat)
+        ∙ cleared-is m f i s
 
     head-read : (readHeader (take (x .head) (pad 2048 (offer tails (peerAt m i .stream) piece .stream .head))) ≡ Whole x)
         × (length (take (x .head) (pad 2048 (offer tails (peerAt m i .stream) piece .stream .head))) ≡ x .head)
     head-read =
         let t = peerAt m i .stream in
-        let k : goodTail t ≡ true = fine m f i (s .seat) .tail in
-        offer-whole t piece k (open-more t k (s .runs)) _ x (sym v)
+        let k : goodTail t ≡ true = fine m f i s .tail in
+        offer-whole t piece k (open-more t k o) _ x (sym v)
 
     head-small : x .head ≤ 2048
     head-small = whole-fits _ x (head-read .0) .head-small
@@ -162,7 +160,7 @@ module _ (m : List ℕ) (f : (j : ℕ) → Fits w8 (getD m j 0)) (i : ℕ) (s : 
           good = g;
           sized = after-length;
           below = s .below;
-          seat = subst (λ (z : List ℕ). Seat z i) (sym consumed-clear) consumed-seat;
+          seat = subst (λ (z : List ℕ). Seated z i) (sym consumed-clear) consumed-seat;
           read = ap readHeader consumed-head ∙ head-read .0;
           small = head-small;
         }

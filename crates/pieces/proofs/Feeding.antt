@@ -18,8 +18,8 @@ use Rattle.stream.specs.Contracts.{tailIn, verdictOf, Open, Gives, Advanced}
 use Rattle.stream.specs.declared.Stream.{Stream}
 use Rattle.stream.specs.declared.Advance.{Advance}
 use Rattle.stream.proofs.Good.{tail-fits, open-more}
-use Rattle.memory.specs.Encoding.{headBytes}
-use Rattle.pieces.specs.Fed.{streamBytes, streamIn, Opens, Fed}
+use Rattle.memory.specs.Encoding.{headBytes, streamBytes}
+use Rattle.pieces.specs.Fed.{streamIn, Opens, Fed}
 
 module _ (x : List ℕ) (o : Opens x) where
   fits : (streamIn x .taken < 134217728) × (length (streamIn x .head) ≤ 2048)
@@ -76,7 +76,7 @@ module _ (x : List ℕ) (o : Opens x) where
       → x₁ ≡ take 8 x ++ (region ++ drop 2048 (drop 8 x))
       → x₂ ≡ take 0 x₁ ++ (wordBytes (r .stream .taken) ++ drop 4 x₁)
       → x₃ ≡ take 4 x₂ ++ (wordBytes (r .stream .stored) ++ drop 8 x₂)
-      → Fed (offer tails (streamIn x) piece) (length piece) r x₃
+      → Fed (offer tails (streamIn x) piece) r x₃
   unfolding headBytes
   fed s p q piece region x₁ x₂ x₃ r a e₁ e₂ e₃ =
       let g : Gives (offer tails (streamIn x) piece) (length piece) r region
@@ -94,7 +94,6 @@ module _ (x : List ℕ) (o : Opens x) where
         taken = g .taken;
         verdict = ap (λ (y : List ℕ). verdictOf y (r .event)) (sym (g .padded)) ∙ g .verdict;
         bytes = e₃ ∙ rw (t₂, d₂) (counted g);
-        within = g .within;
       }
     where
       counted : Gives (offer tails (streamIn x) piece) (length piece) r region

@@ -20,7 +20,7 @@ use Rattle.stream.specs.Tail.{Tail, tails, closed, fresh, goodTail}
 use Rattle.stream.specs.Contracts.{tailOf, GoodTail}
 use Rattle.stream.specs.declared.Advance.{Advance}
 use Rattle.rules.specs.State.{Peer, free, peer, putSlot, withStream}
-use Rattle.memory.specs.Encoding.{headBytes, memoryOf, stateOf}
+use Rattle.memory.specs.Encoding.{headBytes, streamBytes, memoryOf, stateOf}
 use Rattle.memory.specs.Sound.{Sound, Held}
 use Rattle.memory.proofs.Reading.{numberAt, peerFrom, slot-peer}
 use Rattle.memory.proofs.Held.{held-peer, held-counted, Counted}
@@ -29,14 +29,14 @@ use Rattle.memory.proofs.Good.{good-sound}
 use Rattle.memory.proofs.Puts.{stream-put}
 use Rattle.sound.proofs.Kept.{Fine}
 use Rattle.sound.proofs.Put.{peer-fine}
-use Rattle.slots.specs.Slots.{peerAt}
-use Rattle.pieces.specs.Fed.{streamBytes, streamIn, Opens, Fed, Seat, Running, FedAt, cleared}
+use Rattle.slots.specs.Slots.{peerAt, Seated}
+use Rattle.pieces.specs.Fed.{streamIn, Opens, Fed, FedAt, cleared}
 
 fresh-bytes : streamBytes fresh ≡ replicate 2056 0
 unfolding wordBytes headBytes pad
 fresh-bytes = refl
 
-module _ (m : List ℕ) (f : (j : ℕ) → Fits w8 (getD m j 0)) (i : ℕ) (s : Seat m i) where
+module _ (m : List ℕ) (f : (j : ℕ) → Fits w8 (getD m j 0)) (i : ℕ) (s : Seated m i) where
   pub sound : Sound (stateOf m)
   sound = good-sound m (λ j. f j .fits) (s .held .held)
 
@@ -77,14 +77,14 @@ module _ (m : List ℕ) (f : (j : ℕ) → Fits w8 (getD m j 0)) (i : ℕ) (s : 
       })
 
   pub fed-at : (piece x after : List ℕ) (r : Advance)
-      → Fed (offer tails (streamIn (take (4 + 3292 * i + 1236 + 2056 - (4 + 3292 * i + 1236)) (drop (4 + 3292 * i + 1236) m))) piece) (length piece) r x
+      → Fed (offer tails (streamIn (take (4 + 3292 * i + 1236 + 2056 - (4 + 3292 * i + 1236)) (drop (4 + 3292 * i + 1236) m))) piece) r x
       → after ≡ take (4 + 3292 * i + 1236) m ++ (x ++ drop (4 + 3292 * i + 1236 + 2056 - (4 + 3292 * i + 1236)) (drop (4 + 3292 * i + 1236) m))
-      → FedAt m i (offer tails (peerAt m i .stream) piece) (length piece) r after
+      → FedAt m i (offer tails (peerAt m i .stream) piece) r after
   fed-at piece x after r d e =
       let q : streamIn (take (4 + 3292 * i + 1236 + 2056 - (4 + 3292 * i + 1236)) (drop (4 + 3292 * i + 1236) m)) ≡ peerAt m i .stream
       = ap streamIn (cut-at (4 + 3292 * i + 1236) 2056 m) ∙ stream-in in
-      let g : Fed (offer tails (peerAt m i .stream) piece) (length piece) r x
-      = subst (λ (t : Tail). Fed (offer tails t piece) (length piece) r x) q d in
+      let g : Fed (offer tails (peerAt m i .stream) piece) r x
+      = subst (λ (t : Tail). Fed (offer tails t piece) r x) q d in
       record {
         taken = g .taken;
         verdict = g .verdict;
@@ -93,35 +93,30 @@ module _ (m : List ℕ) (f : (j : ℕ) → Fits w8 (getD m j 0)) (i : ℕ) (s : 
             e
             ∙ put-at (4 + 3292 * i + 1236) 2056 m x
             ∙ rw (g .bytes) (sym (stream-put m (λ j. f j .fits) (s .held) i (s .below) (s .some) (offer tails (peerAt m i .stream) piece .stream)));
-        within = g .within;
       }
 
-  -- the region of its head
+  -- the region of its head, as the code lends it
+  tail-at : (t n : ℕ) → t ≡ wordAt Little m (4 + 3292 * i + 1236) → n ≡ wordAt Little m (4 + 3292 * i + 1240)
+      → tailOf (take (4 + 3292 * i + 1244 + 2048 - (4 + 3292 * i + 1244)) (drop (4 + 3292 * i + 1244) m)) t n ≡ peerAt m i .stream
+  tail-at t n p q =
+      let k : n ≤ 2048 = rw (← q) at (counts .small) in
+      let e : min (wordAt Little m (4 + 3292 * i + 1240)) 2048 ≡ n = omega arith in
+      rw (cut-at (4 + 3292 * i + 1244) 2048 m, e, ← p) (ap (λ (h : List ℕ). record { taken = t; head = h }) (take-take n 2048 (drop (4 + 3292 * i + 1244) m) k))
+
   pub closed-at : (t n : ℕ) → t ≡ wordAt Little m (4 + 3292 * i + 1236) → n ≡ wordAt Little m (4 + 3292 * i + 1240)
       → GoodTail (take (4 + 3292 * i + 1244 + 2048 - (4 + 3292 * i + 1244)) (drop (4 + 3292 * i + 1244) m)) t n
   closed-at t n p q =
-      let k : n ≤ 2048 = rw (← q) at (counts .small) in
-      rw (cut-at (4 + 3292 * i + 1244) 2048 m)
-      (record {
+      record {
         inside =
-            rw (length-take-le 2048 (drop (4 + 3292 * i + 1244) m) (omega (arith, length-drop (4 + 3292 * i + 1244) m, s .sized, s .below))) k;
+            rw (cut-at (4 + 3292 * i + 1244) 2048 m, length-take-le 2048 (drop (4 + 3292 * i + 1244) m) (omega (arith, length-drop (4 + 3292 * i + 1244) m, s .sized, s .below)))
+            (rw (← q) at (counts .small));
         good = ap goodTail (tail-at t n p q) ∙ fine .tail;
-      })
-    where
-      tail-at : (t n : ℕ) → t ≡ wordAt Little m (4 + 3292 * i + 1236) → n ≡ wordAt Little m (4 + 3292 * i + 1240)
-          → tailOf (take 2048 (drop (4 + 3292 * i + 1244) m)) t n ≡ peerAt m i .stream
-      tail-at t n p q =
-          let k : n ≤ 2048 = rw (← q) at (counts .small) in
-          let e : min (wordAt Little m (4 + 3292 * i + 1240)) 2048 ≡ n = omega arith in
-          rw (e, ← p) (ap (λ (h : List ℕ). record { taken = t; head = h }) (take-take n 2048 (drop (4 + 3292 * i + 1244) m) k))
+      }
 
   pub closed-is : (t n : ℕ) (r : Bool) → t ≡ wordAt Little m (4 + 3292 * i + 1236) → n ≡ wordAt Little m (4 + 3292 * i + 1240)
       → r ≡ closed (tailOf (take (4 + 3292 * i + 1244 + 2048 - (4 + 3292 * i + 1244)) (drop (4 + 3292 * i + 1244) m)) t n)
       → r ≡ closed (peerAt m i .stream)
-  closed-is t n r p q z =
-      let k : n ≤ 2048 = rw (← q) at (counts .small) in
-      let e : min (wordAt Little m (4 + 3292 * i + 1240)) 2048 ≡ n = omega arith in
-      z ∙ rw (cut-at (4 + 3292 * i + 1244) 2048 m, e, ← p, take-take n 2048 (drop (4 + 3292 * i + 1244) m) k)
+  closed-is t n r p q z = z ∙ ap closed (tail-at t n p q)
 
   -- zeros over its stream
   pub cleared-is : cleared m i ≡ memoryOf (putSlot (stateOf m) i (peer (withStream (peerAt m i) fresh)))
@@ -139,14 +134,4 @@ settled-at m z i h k q =
     ∙ length-take-le 2056 (drop (4 + 3292 * i + 1236) m) (omega (arith, length-drop (4 + 3292 * i + 1236) m)) in
     put-at (4 + 3292 * i + 1236) 2056 m z ∙ rw (q, l)
 
-module _ (m : List ℕ) (f : (j : ℕ) → Fits w8 (getD m j 0)) (i : ℕ) (s : Running m i) where
-  pub runs-open : Opens (take (4 + 3292 * i + 1236 + 2056 - (4 + 3292 * i + 1236)) (drop (4 + 3292 * i + 1236) m))
-  runs-open = opens-at m f i (s .seat) (s .runs)
-
-  pub runs-fed : (piece x after : List ℕ) (r : Advance)
-      → Fed (offer tails (streamIn (take (4 + 3292 * i + 1236 + 2056 - (4 + 3292 * i + 1236)) (drop (4 + 3292 * i + 1236) m))) piece) (length piece) r x
-      → after ≡ take (4 + 3292 * i + 1236) m ++ (x ++ drop (4 + 3292 * i + 1236 + 2056 - (4 + 3292 * i + 1236)) (drop (4 + 3292 * i + 1236) m))
-      → FedAt m i (offer tails (peerAt m i .stream) piece) (length piece) r after
-  runs-fed = fed-at m f i (s .seat)
-
-pub ruleset seats = (runs-open, runs-fed, closed-at, closed-is, settled-at, needs)
+pub ruleset seats = (opens-at, fed-at, closed-at, closed-is, settled-at, needs)

@@ -5,7 +5,7 @@ use mathlib.Core.List.{List, _++_}
 use Prim.Native.Nat.{ℕ, _+_, _*_, _≤_, _<_, min}
 use lib.ListN.{length, take, drop, replicate}
 use Rattle.wire.specs.Bytes.{pad}
-use Rattle.wire.specs.Words.{wordAt, wordBytes}
+use Rattle.wire.specs.Words.{wordAt}
 use Rattle.wire.specs.declared.Order.the-variants.{Little}
 use Rattle.header.specs.Header.{readHeader}
 use Rattle.header.specs.declared.Header.{Header}
@@ -16,16 +16,10 @@ use Rattle.stream.specs.Tail.{Tail, tails, closed, goodTail}
 use Rattle.stream.specs.Contracts.{verdictOf}
 use Rattle.stream.specs.declared.Advance.{Advance}
 use Rattle.rules.specs.State.{Peer, peer, putSlot, withStream}
-use Rattle.memory.specs.Encoding.{headBytes, memoryOf, stateOf}
-use Rattle.memory.specs.Sound.{Held}
-use Rattle.memory.proofs.Reading.{numberAt}
-use Rattle.slots.specs.Slots.{peerAt}
+use Rattle.memory.specs.Encoding.{streamBytes, memoryOf, stateOf}
+use Rattle.slots.specs.Slots.{peerAt, Seated}
 
--- the bytes of a stream in its slot
-abbrev pub streamBytes : Tail → List ℕ
-streamBytes t = wordBytes (t .taken) ++ headBytes (t .head)
-
--- the stream that they say
+-- the stream that its bytes in a slot say
 abbrev pub streamIn : List ℕ → Tail
 streamIn x = record { taken = wordAt Little x 0; head = take (min (wordAt Little x 4) 2048) (drop 8 x) }
 
@@ -37,33 +31,17 @@ pub record Opens (x : List ℕ) : Type 0 where
   pub runs : closed (streamIn x) ≡ false
 
 -- what an offer comes to: r reports it, and x is the bytes of the stream that it leaves
-pub record Fed (o : Offer Tail) (n : ℕ) (r : Advance) (x : List ℕ) : Type 0 where
+pub record Fed (o : Offer Tail) (r : Advance) (x : List ℕ) : Type 0 where
   pub taken : r .taken ≡ o .taken
   pub verdict : verdictOf (pad 2048 (o .stream .head)) (r .event) ≡ o .verdict
   pub bytes : x ≡ streamBytes (o .stream)
-  pub within : r .taken ≤ n
-
--- slot i of good memory has a peer
-pub record Seat (m : List ℕ) (i : ℕ) : Type 0 where
-  pub held : Held m
-  pub sized : length m ≡ 52676
-  pub below : i < 16
-  pub some : numberAt m i ≡ 0 → ⊥
-
--- the same, and its stream is open
-pub record Running (m : List ℕ) (i : ℕ) : Type 0 where
-  pub seat : Seat m i
-  pub sized : length m ≡ 52676
-  pub below : i < 16
-  pub runs : closed (peerAt m i .stream) ≡ false
 
 -- what an offer to slot i comes to, in memory
-pub record FedAt (m : List ℕ) (i : ℕ) (o : Offer Tail) (n : ℕ) (r : Advance) (after : List ℕ) : Type 0 where
+pub record FedAt (m : List ℕ) (i : ℕ) (o : Offer Tail) (r : Advance) (after : List ℕ) : Type 0 where
   pub taken : r .taken ≡ o .taken
   pub verdict : verdictOf (pad 2048 (o .stream .head)) (r .event) ≡ o .verdict
   pub bytes : after ≡ take (4 + 3292 * i + 1236) m ++ (streamBytes (o .stream) ++ drop (4 + 3292 * i + 1236 + 2056) m)
   pub memory : after ≡ memoryOf (putSlot (stateOf m) i (peer (withStream (peerAt m i) (o .stream))))
-  pub within : r .taken ≤ n
 
 -- ---- a whole message
 
@@ -80,6 +58,6 @@ pub record Completed (image m : List ℕ) (i : ℕ) (x : Header) : Type 0 where
   pub good : GoodImage image
   pub sized : length m ≡ 52676
   pub below : i < 16
-  pub seat : Seat (cleared m i) i
+  pub seat : Seated (cleared m i) i
   pub read : readHeader (headIn m i (x .head)) ≡ Whole x
   pub small : x .head ≤ 2048

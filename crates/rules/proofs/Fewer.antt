@@ -1,4 +1,5 @@
 -- A list with some of its things gone and the later ones moved down. Assumes nothing.
+use mathlib.Core.Path.{_≡_, refl}
 use mathlib.Core.Bool.{Bool, true, false, cond}
 use mathlib.Core.List.{List, [], _∷_}
 use Prim.Native.Nat.{ℕ, _≤_}
@@ -24,30 +25,26 @@ fewer-length none = omega arith
 fewer-length (skip f) = let h = fewer-length f in omega arith
 fewer-length (keep f) = let h = fewer-length f in omega arith
 
+-- what drops the things that pass a test, where `rest` is what it makes of those after one
+dropped-fewer : {A : Type 0} (t : A → Bool) (out rest : List A → List A) → out [] ≡ []
+    → ((x : A) (xs : List A) → out (x ∷ xs) ≡ cond (t x) (rest xs) (x ∷ out xs)) → ((xs : List A) → Fewer xs (out xs) → Fewer xs (rest xs))
+    → (xs : List A) → Fewer xs (out xs)
+dropped-fewer t out rest e s k [] = rw e none
+dropped-fewer t out rest e s k (x ∷ xs) = rw (s x xs) (go (t x) (dropped-fewer t out rest e s k xs))
+  where
+    go : (b : Bool) → Fewer xs (out xs) → Fewer (x ∷ xs) (cond b (rest xs) (x ∷ out xs))
+    go true f = skip (k xs f)
+    go false f = keep f
+
 -- a name released, a wait ended, and all the waits for a callee
 pub released-fewer : (name : List ℕ) (xs : List (List ℕ)) → Fewer xs (released name xs)
 unfolding released
-released-fewer name [] = none
-released-fewer name (x ∷ xs) = go (same x name) (released-fewer name xs)
-  where
-    go : (b : Bool) → Fewer xs (released name xs) → Fewer (x ∷ xs) (cond b xs (x ∷ released name xs))
-    go true f = skip (all-kept xs)
-    go false f = keep f
+released-fewer name xs = dropped-fewer (λ x. same x name) (released name) (λ l. l) refl (λ x l. refl) (λ l f. all-kept l) xs
 
 pub ended-fewer : (callee serial : ℕ) (ws : List Pending) → Fewer ws (ended callee serial ws)
 unfolding ended
-ended-fewer callee serial [] = none
-ended-fewer callee serial (w ∷ ws) = go (isCall callee serial w) (ended-fewer callee serial ws)
-  where
-    go : (b : Bool) → Fewer ws (ended callee serial ws) → Fewer (w ∷ ws) (cond b ws (w ∷ ended callee serial ws))
-    go true f = skip (all-kept ws)
-    go false f = keep f
+ended-fewer callee serial ws = dropped-fewer (isCall callee serial) (ended callee serial) (λ l. l) refl (λ w l. refl) (λ l f. all-kept l) ws
 
 pub ended-all-fewer : (callee : ℕ) (ws : List Pending) → Fewer ws (endedAll callee ws)
 unfolding endedAll
-ended-all-fewer callee [] = none
-ended-all-fewer callee (w ∷ ws) = go (eqb (w .callee) callee) (ended-all-fewer callee ws)
-  where
-    go : (b : Bool) → Fewer ws (endedAll callee ws) → Fewer (w ∷ ws) (cond b (endedAll callee ws) (w ∷ endedAll callee ws))
-    go true f = skip f
-    go false f = keep f
+ended-all-fewer callee ws = dropped-fewer (λ w. eqb (w .callee) callee) (endedAll callee) (endedAll callee) refl (λ w l. refl) (λ l f. f) ws

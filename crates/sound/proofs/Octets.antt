@@ -13,8 +13,9 @@ use Rattle.header.specs.declared.Header.{Header}
 use Rattle.header.specs.declared.Reading.{Reading}
 use Rattle.header.specs.declared.Reading.the-variants.{Short, Broken, Whole}
 use Rattle.stream.specs.Stream.{Verdict, more, broken, whole, Streams, Offer, offer, settled}
+use Rattle.stream.specs.Steps.{follows}
 use Rattle.stream.specs.Tail.{Tail, finished, push, judge, tails, headEnd}
-use Rattle.rules.proofs.Seen.{ruled, offer-cons}
+use Rattle.stream.proofs.Offers.{offer-step}
 use Rattle.memory.proofs.Octets.{every-snoc}
 use Rattle.memory.specs.Sound.{every, octet}
 
@@ -30,10 +31,10 @@ unfolding offer
 taken-octets t [] e h = e
 taken-octets t (b ∷ p) e h =
     let pushed = push-octets t b e (both-first (octet b) (every octet p) h) in
-    rw (offer-cons tails t b p) (go (judge (push t b)) pushed (taken-octets (push t b) p pushed (both-second (octet b) (every octet p) h)))
+    rw (offer-step tails t b p) (go (judge (push t b)) pushed (taken-octets (push t b) p pushed (both-second (octet b) (every octet p) h)))
   where
     go : (v : Verdict) → every octet (push t b .head) ≡ true → every octet (offer tails (push t b) p .stream .head) ≡ true
-        → every octet (ruled v (push t b) (offer tails (push t b) p) .stream .head) ≡ true
+        → every octet (follows v (push t b) (offer tails (push t b) p) .stream .head) ≡ true
     go more a ih = ih
     go (broken n) a ih = a
     go (whole k x) a ih = a
@@ -54,12 +55,12 @@ pub offer-judge : {S : Type 0} (O : Streams S) (s : S) (p h : List ℕ) (x : Hea
 unfolding offer
 offer-judge O s [] h x e = let z : _≡_ {A = ℕ} 0 1 = cc in absurd (omega arith)
 offer-judge {S} O s (b ∷ p) h x e =
-    rw (offer-cons O s b p) (go (O .judge (O .push s b)) refl (ap (λ (o : Offer S). o .verdict) (sym (offer-cons O s b p)) ∙ e)
+    rw (offer-step O s b p) (go (O .judge (O .push s b)) refl (ap (λ (o : Offer S). o .verdict) (sym (offer-step O s b p)) ∙ e)
     (offer-judge O (O .push s b) p h x))
   where
-    go : (v : Verdict) → O .judge (O .push s b) ≡ v → ruled v (O .push s b) (offer O (O .push s b) p) .verdict ≡ whole h x
+    go : (v : Verdict) → O .judge (O .push s b) ≡ v → follows v (O .push s b) (offer O (O .push s b) p) .verdict ≡ whole h x
         → (offer O (O .push s b) p .verdict ≡ whole h x → O .judge (offer O (O .push s b) p .stream) ≡ whole h x)
-        → O .judge (ruled v (O .push s b) (offer O (O .push s b) p) .stream) ≡ whole h x
+        → O .judge (follows v (O .push s b) (offer O (O .push s b) p) .stream) ≡ whole h x
     go more q a ih = ih a
     go (broken n) q a ih = let z : _≡_ {A = ℕ} 0 1 = cc in absurd (omega arith)
     go (whole k y) q a ih = q ∙ a
