@@ -2,6 +2,8 @@
 use policy::Uid;
 use rules::Connected;
 use rules::Gone;
+use rules::no_connect;
+use rules::no_gone;
 use wire::Order;
 ghost use mathlib.Core.Path.{_≡_};
 ghost use mathlib.Core.List.{_++_};
@@ -12,7 +14,7 @@ ghost use Rattle.image.specs.Contracts.{GoodImage};
 ghost use Rattle.policy.specs.Decisions.{mayOwn};
 ghost use Rattle.stream.specs.Tail.{tails};
 ghost use Rattle.rules.specs.Pending.{endedAll};
-ghost use Rattle.rules.specs.Calls.{noConnect, connect, own, release, disconnect};
+ghost use Rattle.rules.specs.Calls.{connect, own, release, disconnect};
 ghost use Rattle.memory.specs.Encoding.{pendingBytes, pendingOf, stateOf};
 ghost use Rattle.memory.specs.Sound.{Held};
 ghost use Rattle.memory.specs.Calls.{stored, Did};
@@ -43,16 +45,6 @@ fn admit(memory: &mut [u8], i: usize, number: u32, uid: u32, gids: &[u32])
     wire::put_u32(memory, 0, number);
 }
 
-fn refused(answer: u8) -> Connected
-    ensures { λ r. ⌜ r ≡ noConnect answer ⌝ }
-{
-    Connected {
-        answer,
-        number: 0,
-        slot: 0,
-    }
-}
-
 // Gives the lowest free slot and the next number: 38, 39.
 fn enter(memory: &mut [u8], uid: u32, gids: &[u32]) -> Connected
     requires { ⌜ (Held (now memory)) × (length (now gids) ≤ 16) ⌝ }
@@ -60,11 +52,11 @@ fn enter(memory: &mut [u8], uid: u32, gids: &[u32]) -> Connected
 {
     let slot = slots::find_free(memory);
     if slot == 16 {
-        return refused(38);
+        return no_connect(38);
     }
     let last = slots::last_of(memory);
     if last == 4294967295 {
-        return refused(39);
+        return no_connect(39);
     }
     admit(memory, slot, last + 1, uid, gids);
     Connected {
@@ -80,10 +72,10 @@ pub fn connect(image: &[u8], memory: &mut [u8], uid: u32, gids: &[u32]) -> Conne
     ensures { λ r. ⌜ Did (stored (connect tails (now (image .entry)) (stateOf (now (memory .entry))) uid (now (gids .entry)))) r (now (memory .exit)) ⌝ }
 {
     if 16 < gids.len() {
-        return refused(37);
+        return no_connect(37);
     }
     if !policy::may_connect(image, Uid(uid), gids) {
-        return refused(36);
+        return no_connect(36);
     }
     enter(memory, uid, gids)
 }
@@ -151,10 +143,7 @@ pub fn disconnect(memory: &mut [u8], peer: u32) -> Gone
 {
     let i = slots::find(memory, peer, 0);
     if i == 16 {
-        return Gone {
-            answer: 30,
-            bytes: 0,
-        };
+        return no_gone(30);
     }
     let bytes = slots::word_at(memory, i, 1236);
     leave(memory, i, peer);

@@ -15,7 +15,7 @@ use Rattle.rules.specs.State.{firstBy}
 use Rattle.rules.specs.Calls.{slotAt, isOwner}
 use Rattle.memory.specs.Encoding.{stateOf}
 use Rattle.memory.proofs.Reading.{numberAt, slot-free, slot-peer}
-use Rattle.memory.proofs.Search.{Looking as Finding, Found, looking-begins as finding-begins, looking-hit as finding-hit, looking-miss as finding-miss, looking-ends as finding-ends}
+use Rattle.memory.proofs.Search.{looking-begins as finding-begins, tested-hit, tested-miss, tested-ends}
 use Rattle.slots.specs.Slots.{peerAt, nameAt, namePlace}
 use Rattle.slots.proofs.Cells.{names-next, name-byte, before, owns-first}
 
@@ -79,15 +79,4 @@ module _ (m : List ℕ) (i : ℕ) (h : i < 16) (name : List ℕ) (n : ℕ) (e : 
 
 pub ruleset owners = (owner-none, owner-some, needs)
 
-module _ {name m : List ℕ} {from i : ℕ} (f : Finding (isOwner name) m from i) (h : i < 16) {r : Bool}
-    (e : r ≡ isOwner name (slotAt (stateOf m) i)) where
-  pub owner-hit : r ≡ true → Found (isOwner name) m from i
-  owner-hit q = finding-hit (isOwner name) m from i f h (sym e ∙ q)
-
-  pub owner-miss : r ≡ false → Finding (isOwner name) m from (i + 1)
-  owner-miss q = finding-miss (isOwner name) m from i f h (sym e ∙ q)
-
-pub owner-ends : {name m : List ℕ} {from i : ℕ} → Finding (isOwner name) m from i → 16 ≤ i → Found (isOwner name) m from i
-owner-ends {name} {m} {from} {i} f h = finding-ends (isOwner name) m from i f h
-
-pub ruleset finding-owner = (finding-begins, owner-hit, owner-miss, owner-ends, needs)
+pub ruleset finding-owner = (finding-begins, tested-hit, tested-miss, tested-ends, needs)
