@@ -1,20 +1,18 @@
 -- Pending calls of a slot written: one more at the end, one taken out. Assumes nothing.
-use mathlib.Core.Path.{_≡_, refl, sym, ap, ap₂, _∙_}
+use mathlib.Core.Path.{_≡_, refl, ap, _∙_}
 use mathlib.Core.List.{List, _++_}
 use Prim.Native.Nat.{ℕ, _+_, _-_, _*_, _≤_, _<_, min}
 use native.Mathlib.Omega.{arith}
-use native.Mathlib.Nat.{add-zero}
-use lib.ListN.{length, take, drop, getD, replicate, length-append, length-drop}
-use lib.Seq.{drop-drop, take-add, length-take-le}
+use lib.ListN.{length, take, drop, getD, length-drop}
+use lib.Seq.{length-take-le}
 use mir.Syntax.{w8}
 use mir.Val.{Fits}
 use borrow.Author.Needs.{needs}
 use Rattle.wire.specs.Words.{wordAt, wordBytes}
 use Rattle.wire.specs.declared.Order.the-variants.{Little}
-use Rattle.wire.proofs.Words.{cut-at, put-at, bytes-again, word-length}
+use Rattle.wire.proofs.Words.{cut-at, put-at, word-length}
 use Rattle.tables.specs.Cut.{Cell}
-use Rattle.tables.proofs.Words.{word-part, bytes-take, bytes-drop}
-use Rattle.tables.proofs.Change.{removed, removed-last, removed-next}
+use Rattle.tables.proofs.Change.{removed}
 use Rattle.tables.proofs.Written.{put-joined}
 use Rattle.memory.proofs.Held.{held-counted}
 use Rattle.memory.proofs.Puts.{call-appended, call-removed}

@@ -1,5 +1,5 @@
 -- A message by its destination, and the judgement of a whole message. Assumes nothing.
-use mathlib.Core.Path.{_≡_, refl, sym, ap, subst, _∙_}
+use mathlib.Core.Path.{_≡_, subst}
 use mathlib.Core.Bool.{Bool, true, false, cond}
 use mathlib.Core.List.{List, [], _∷_}
 use Prim.Native.Nat.{ℕ, _≤_, _<_}
@@ -17,7 +17,7 @@ use Rattle.policy.specs.Names.{busName}
 use Rattle.rules.specs.Judge.{refusal, refused, passed, maySend, toBus, isReply, judged}
 use Rattle.rules.specs.declared.Judgement.{Judgement}
 use Rattle.rules.specs.declared.Receiver.the-variants as to
-use Rattle.memory.specs.Encoding.{memoryOf, stateOf}
+use Rattle.memory.specs.Encoding.{stateOf}
 use Rattle.memory.proofs.Reading.{slot-peer}
 use Rattle.slots.specs.Slots.{peerAt, Seated}
 use Rattle.judge.specs.declared.address.Destination.{Destination}

@@ -1,32 +1,30 @@
 -- A whole message: its head stands in its slot, and memory is good once its stream is cleared. Assumes nothing.
 use mathlib.Core.Path.{_≡_, refl, sym, ap, ap₂, subst, _∙_}
-use mathlib.Core.Bool.{Bool, true, false}
-use mathlib.Core.List.{List, [], _∷_, _++_, append-assoc}
-use Prim.Native.Nat.{ℕ, _+_, _-_, _*_, _≤_, _<_, min}
+use mathlib.Core.Bool.{true, false}
+use mathlib.Core.List.{List, _++_, append-assoc}
+use Prim.Native.Nat.{ℕ, _+_, _*_, _≤_, _<_}
 use native.Mathlib.Omega.{arith}
-use lib.ListN.{length, take, drop, getD, replicate, length-append, length-take, length-drop}
-use lib.Seq.{take-at, drop-at, drop-drop, take-take, take-append-le, drop-append-le, length-take-le, getD-set-same}
+use lib.ListN.{length, take, drop, getD, replicate, length-append, length-drop}
+use lib.Seq.{take-at, drop-at, take-append-le, length-take-le}
 use mir.Syntax.{w8}
 use mir.Val.{Fits}
-use borrow.Author.Needs.{needs}
 use Rattle.wire.specs.Bytes.{pad}
-use Rattle.wire.specs.Words.{wordAt, wordBytes}
-use Rattle.wire.specs.declared.Order.the-variants.{Little}
+use Rattle.wire.specs.Words.{wordBytes}
 use Rattle.wire.proofs.Texts.{pad-length}
 use Rattle.wire.proofs.Words.{word-length}
 use Rattle.header.specs.Header.{readHeader}
 use Rattle.header.specs.declared.Header.{Header}
 use Rattle.header.specs.declared.Reading.the-variants.{Whole}
-use Rattle.header.proofs.Readings.{Fitting, whole-fits}
+use Rattle.header.proofs.Readings.{whole-fits}
 use Rattle.image.specs.Contracts.{GoodImage}
-use Rattle.tables.proofs.Parts.{take-past, drop-past}
-use Rattle.stream.specs.Stream.{Offer, offer, whole}
+use Rattle.tables.proofs.Parts.{drop-past}
+use Rattle.stream.specs.Stream.{offer, whole}
 use Rattle.stream.specs.Tail.{Tail, tails, closed, fresh, goodTail}
 use Rattle.stream.proofs.Good.{fresh-good, open-more}
 use Rattle.stream.proofs.Pushes.{offer-whole}
 use Rattle.rules.specs.State.{Peer, Slot, free, peer, State, putSlot, withStream}
 use Rattle.memory.specs.Encoding.{headBytes, streamBytes, memoryOf, stateOf}
-use Rattle.memory.specs.Sound.{Sound, Held}
+use Rattle.memory.specs.Sound.{Sound}
 use Rattle.memory.proofs.Frame.{memory-length}
 use Rattle.memory.proofs.Fields.{stream-length}
 use Rattle.memory.proofs.Reading.{numberAt, slot-free, slot-peer, sixteen}

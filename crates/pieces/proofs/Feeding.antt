@@ -1,10 +1,9 @@
 -- The bytes of a stream in its slot: its counts, its head, zeros; and what an offer leaves of them. Assumes nothing.
-use mathlib.Core.Path.{_≡_, refl, sym, ap, ap₂, subst, _∙_}
-use mathlib.Core.Bool.{true, false}
-use mathlib.Core.List.{List, [], _∷_, _++_, append-nil}
-use Prim.Native.Nat.{ℕ, _+_, _-_, _≤_, _<_, min}
+use mathlib.Core.Path.{_≡_, sym, ap, subst, _∙_}
+use mathlib.Core.List.{List, [], _++_, append-nil}
+use Prim.Native.Nat.{ℕ, _≤_, _<_, min}
 use native.Mathlib.Omega.{arith}
-use lib.ListN.{length, take, drop, length-append, length-take, length-drop, drop-of-length-le}
+use lib.ListN.{length, take, drop, length-drop, drop-of-length-le}
 use lib.Seq.{take-at, drop-at, drop-drop, take-all, length-take-le}
 use borrow.Author.Needs.{needs}
 use Rattle.wire.specs.Bytes.{pad}
@@ -12,8 +11,8 @@ use Rattle.wire.specs.Words.{wordAt, wordBytes}
 use Rattle.wire.specs.declared.Order.the-variants.{Little}
 use Rattle.wire.proofs.Texts.{pad-length}
 use Rattle.wire.proofs.Words.{word-length, word-again, word-drop}
-use Rattle.stream.specs.Stream.{Offer, offer, more}
-use Rattle.stream.specs.Tail.{Tail, tails, closed, judge, goodTail}
+use Rattle.stream.specs.Stream.{offer}
+use Rattle.stream.specs.Tail.{Tail, tails, judge, goodTail}
 use Rattle.stream.specs.Contracts.{tailIn, verdictOf, Open, Gives, Advanced}
 use Rattle.stream.specs.declared.Stream.{Stream}
 use Rattle.stream.specs.declared.Advance.{Advance}

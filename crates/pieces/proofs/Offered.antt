@@ -1,36 +1,33 @@
 -- What a piece comes to, case by case. Assumes nothing.
-use mathlib.Core.Path.{_≡_, refl, sym, ap, ap₂, subst, _∙_}
+use mathlib.Core.Path.{_≡_, sym, ap, _∙_}
 use mathlib.Core.Bool.{Bool, true, false}
-use mathlib.Core.List.{List, [], _∷_, _++_}
-use Prim.Native.Nat.{ℕ, _+_, _-_, _*_, _≤_, _<_}
+use mathlib.Core.List.{List}
+use Prim.Native.Nat.{ℕ, _-_, _<_}
 use native.Mathlib.Omega.{arith}
-use lib.ListN.{length, take, drop, getD, length-drop, List·getD-eq-default}
-use lib.Seq.{length-take-le}
-use lib.Dec.{eqb}
+use lib.ListN.{take, getD, List·getD-eq-default}
 use mir.Syntax.{w8}
 use mir.Val.{Fits}
 use borrow.Author.Needs.{needs}
 use Rattle.wire.specs.Bytes.{pad}
 use Rattle.header.specs.declared.Header.{Header}
-use Rattle.header.proofs.Readings.{Fitting, whole-fits}
 use Rattle.image.specs.Contracts.{GoodImage}
-use Rattle.stream.specs.Stream.{Verdict, more, broken, whole, Offer, offer}
+use Rattle.stream.specs.Stream.{more, broken, whole, Offer, offer}
 use Rattle.stream.specs.Tail.{Tail, tails, closed, fresh}
 use Rattle.stream.specs.Contracts.{verdictOf}
 use Rattle.stream.specs.declared.Event.{Event}
 use Rattle.stream.specs.declared.Event.the-variants as event
 use Rattle.stream.specs.declared.Advance.{Advance}
-use Rattle.rules.specs.State.{Peer, Slot, free, peer, State, isPeer, firstBy, putSlot, withStream}
-use Rattle.rules.specs.Judge.{Judged, refusal, judged}
-use Rattle.rules.specs.Calls.{Step, stays, slotAt, noPiece, offered, offeredTo, pieceAt, piece}
+use Rattle.rules.specs.State.{Peer, free, peer, State, isPeer, firstBy, putSlot, withStream}
+use Rattle.rules.specs.Judge.{refusal, judged}
+use Rattle.rules.specs.Calls.{stays, slotAt, noPiece, offeredTo, piece}
 use Rattle.rules.specs.declared.Judgement.{Judgement}
 use Rattle.rules.specs.declared.Taken.{Taken}
 use Rattle.memory.specs.Encoding.{memoryOf, stateOf}
 use Rattle.memory.specs.Sound.{Held}
 use Rattle.memory.specs.Calls.{stored, Did}
-use Rattle.memory.proofs.Reading.{numberAt, sixteen, slot-peer}
+use Rattle.memory.proofs.Reading.{sixteen, slot-peer}
 use Rattle.memory.proofs.Search.{Found}
-use Rattle.memory.proofs.Find.{found-first, found-some, found-is}
+use Rattle.memory.proofs.Find.{found-first, found-some}
 use Rattle.memory.proofs.Good.{good-is}
 use Rattle.slots.specs.Slots.{peerAt, Seated}
 use Rattle.judge.specs.Judging.{Message, Judges}

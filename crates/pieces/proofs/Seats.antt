@@ -1,10 +1,10 @@
 -- The stream of a slot, in good memory. Assumes nothing.
-use mathlib.Core.Path.{_≡_, refl, sym, ap, ap₂, subst, _∙_}
-use mathlib.Core.Bool.{Bool, true, false}
-use mathlib.Core.List.{List, [], _∷_, _++_, append-nil}
+use mathlib.Core.Path.{_≡_, refl, sym, ap, subst, _∙_}
+use mathlib.Core.Bool.{Bool, false}
+use mathlib.Core.List.{List, _++_}
 use Prim.Native.Nat.{ℕ, _+_, _-_, _*_, _≤_, _<_, min}
 use native.Mathlib.Omega.{arith}
-use lib.ListN.{length, take, drop, getD, replicate, length-take, length-drop}
+use lib.ListN.{length, take, drop, getD, replicate, length-drop}
 use lib.Seq.{drop-drop, take-take, length-take-le}
 use mir.Syntax.{w8}
 use mir.Val.{Fits}
@@ -15,14 +15,14 @@ use Rattle.wire.specs.declared.Order.the-variants.{Little}
 use Rattle.wire.proofs.Words.{cut-at, put-at}
 use Rattle.tables.proofs.Parts.{drop-take}
 use Rattle.tables.proofs.Words.{word-part}
-use Rattle.stream.specs.Stream.{Offer, offer}
+use Rattle.stream.specs.Stream.{offer}
 use Rattle.stream.specs.Tail.{Tail, tails, closed, fresh, goodTail}
 use Rattle.stream.specs.Contracts.{tailOf, GoodTail}
 use Rattle.stream.specs.declared.Advance.{Advance}
-use Rattle.rules.specs.State.{Peer, free, peer, putSlot, withStream}
+use Rattle.rules.specs.State.{free, peer, putSlot, withStream}
 use Rattle.memory.specs.Encoding.{headBytes, streamBytes, memoryOf, stateOf}
-use Rattle.memory.specs.Sound.{Sound, Held}
-use Rattle.memory.proofs.Reading.{numberAt, peerFrom, slot-peer}
+use Rattle.memory.specs.Sound.{Sound}
+use Rattle.memory.proofs.Reading.{slot-peer}
 use Rattle.memory.proofs.Held.{held-peer, held-counted, Counted}
 use Rattle.memory.proofs.Fields.{stream-bytes}
 use Rattle.memory.proofs.Good.{good-sound}

@@ -11,11 +11,11 @@ use Rattle.header.specs.Header.{readHeader}
 use Rattle.header.specs.declared.Header.{Header}
 use Rattle.header.specs.declared.Reading.the-variants.{Whole}
 use Rattle.image.specs.Contracts.{GoodImage}
-use Rattle.stream.specs.Stream.{Offer, offer}
-use Rattle.stream.specs.Tail.{Tail, tails, closed, goodTail}
+use Rattle.stream.specs.Stream.{Offer}
+use Rattle.stream.specs.Tail.{Tail, closed, goodTail}
 use Rattle.stream.specs.Contracts.{verdictOf}
 use Rattle.stream.specs.declared.Advance.{Advance}
-use Rattle.rules.specs.State.{Peer, peer, putSlot, withStream}
+use Rattle.rules.specs.State.{peer, putSlot, withStream}
 use Rattle.memory.specs.Encoding.{streamBytes, memoryOf, stateOf}
 use Rattle.slots.specs.Slots.{peerAt, Seated}
 

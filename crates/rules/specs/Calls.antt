@@ -1,11 +1,10 @@
 -- The guard's calls, as 01 words them, once, over any streams. Each is asked with a good image and good memory: 50 and 51 come before.
 -- Assumes nothing: these are definitions.
-use mathlib.Core.Bool.{Bool, true, false, cond}
+use mathlib.Core.Bool.{Bool, false, cond}
 use mathlib.Core.List.{List, [], _∷_, _++_, map}
 use Prim.Native.Nat.{ℕ, _+_}
 use lib.Dec.{ltb, leb}
 use lib.ListN.{length, getD, set, replicate}
-use Rattle.header.specs.declared.Header.{Header}
 use Rattle.wire.specs.Bytes.{same}
 use Rattle.policy.specs.Names.{owns}
 use Rattle.policy.specs.Decisions.{mayConnect, mayOwn}
@@ -13,8 +12,7 @@ use Rattle.stream.specs.Stream.{Verdict, more, broken, whole, Streams, Offer, o
 use Rattle.rules.specs.State.{Slot, free, peer, Peer, State, isFree, isPeer, firstBy, putSlot, withNames, withStream}
 use Rattle.rules.specs.Addresses.{ownable}
 use Rattle.rules.specs.Pending.{bereft}
-use Rattle.rules.specs.Judge.{Judged, refusal, judged}
-use Rattle.rules.specs.declared.Judgement.{Judgement}
+use Rattle.rules.specs.Judge.{refusal, judged}
 use Rattle.rules.specs.declared.Connected.{Connected}
 use Rattle.rules.specs.declared.Taken.{Taken}
 use Rattle.rules.specs.declared.Gone.{Gone}

@@ -10,7 +10,7 @@ use Rattle.header.specs.declared.Header.{Header}
 use Rattle.policy.specs.Names.{busName}
 use Rattle.policy.specs.Matching.{Message, fieldOf, messageOf}
 use Rattle.policy.specs.Decisions.{send, receive, mayTransact}
-use Rattle.rules.specs.State.{Slot, free, peer, Peer, Pending, State, putSlot, withPending}
+use Rattle.rules.specs.State.{Slot, free, peer, Peer, State, putSlot, withPending}
 use Rattle.rules.specs.Addresses.{Address, absent, bus, slot, unknown, resolve}
 use Rattle.rules.specs.Pending.{awaits, ended}
 use Rattle.rules.specs.declared.Receiver.{Receiver}
