@@ -5,16 +5,13 @@ use mathlib.Core.List.{List, _++_}
 use Prim.Native.Nat.{ℕ, _+_, _-_, _≤_, _<_}
 use native.Mathlib.Omega.{arith}
 use lib.Dec.{ltb, eqb}
-use lib.ListN.{length, take, drop, getD}
-use lib.Seq.{getD-take, take-at, take-take}
+use lib.ListN.{length, take, getD}
+use lib.Seq.{getD-take, take-at}
 use borrow.Author.Tests.{ltb-false}
 use Rattle.wire.specs.Words.{wordAt}
 use Rattle.wire.proofs.Words.{word-take}
-use Rattle.wire.proofs.Parts.{drop-take}
 use Rattle.header.specs.declared.Fixed.{Fixed}
 use Rattle.header.specs.declared.Fixed.the-variants.{Broken, Sizes}
-use Rattle.header.specs.declared.Place.{Place}
-use Rattle.header.specs.Fields.{textAt}
 use Rattle.header.specs.Fixed.{orderOf, isOrder, serialOf, arrayLength, headLength, messageLength, sizesOf, fixedPart}
 
 pub head-low : (s : List ℕ) → 16 ≤ headLength s
@@ -58,7 +55,6 @@ head-append s t h = sym (head-front (length s) (s ++ t) h) ∙ ap headLength (ta
 -- ---- the fixed part, where it has none of 1 to 6
 
 pub record Good (s : List ℕ) (head message : ℕ) : Type 0 where
-  pub kind : eqb (getD s 1 0) 0 ≡ false
   pub serial : eqb (serialOf s) 0 ≡ false
   pub head-is : head ≡ headLength s
   pub message-is : message ≡ messageLength s
@@ -109,17 +105,9 @@ fixed-good s {head} {message} e =
     let x : head ≡ headLength s = cc in
     let y : message ≡ messageLength s = cc in
     record {
-      kind = e₃ .0;
       serial = e₄ .0;
       head-is = x;
       message-is = y;
       array = ltb-false 2032 (arrayLength s) (e₅ .0);
       message-small = rw y (ltb-false 134217728 (messageLength s) (e₆ .0));
     }
-
--- ---- a value is the same in the head and in the bytes that begin with it
-
-pub text-front : (n : ℕ) (s : List ℕ) (p : Place) → p .at + p .len ≤ n → textAt (take n s) p ≡ textAt s p
-text-front n s p h =
-    let e : n ≡ p .at + (n - p .at) = omega arith in
-    rw (e, drop-take (p .at) (n - p .at) s) (take-take (p .len) (n - p .at) (drop (p .at) s) (omega arith))

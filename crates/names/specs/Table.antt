@@ -1,4 +1,4 @@
--- Worked examples of the name rules, as a table, with T9 of the paper. Assumes nothing: these are definitions.
+-- Worked examples of the name rules, as a table, with T9 of 01's bench table. Assumes nothing: these are definitions.
 use mathlib.Core.Bool.{Bool, true, false}
 use mathlib.Core.List.{List, [], _∷_, _++_}
 use Prim.Native.Nat.{ℕ}
@@ -18,7 +18,7 @@ abbrev pub answer : Question → Bool
 answer (named f s) = validName f s
 answer (under p s) = inNamespace p s
 
--- a question, and its answer by the paper
+-- a question, and its answer by 01
 abbrev pub Line : Type 0
 Line = Question × Bool
 

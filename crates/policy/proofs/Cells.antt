@@ -1,15 +1,12 @@
--- Names in cells: a law for each way through the search of them, and what a cell written down says. Assumes nothing.
+-- Names in cells: a law for each way through the search of them, and what the bus's cell says. Assumes nothing.
 use mathlib.Core.Path.{_≡_, refl, _∙_}
 use mathlib.Core.Bool.{Bool, true, false}
-use mathlib.Core.List.{List, [], _∷_, _++_}
+use mathlib.Core.List.{List, [], _∷_}
 use Prim.Native.Nat.{ℕ, suc, _+_, _-_, _*_, _/_, _≤_, _<_}
 use native.Mathlib.Omega.{arith}
-use lib.ListN.{length, take, drop, getD, length-append}
-use lib.Seq.{take-append-le, drop-at}
+use lib.ListN.{length, take, drop, getD}
 use Rattle.wire.specs.Bytes.{same, pad}
 use Rattle.wire.proofs.From.{first, skip}
-use Rattle.wire.proofs.Texts.{pad-length}
-use Rattle.wire.proofs.Parts.{take-pad}
 use Rattle.wire.proofs.Words.{cut-at}
 use Rattle.policy.specs.Names.{nameOf, cellNames, namesIn, cellOf, busName, owns}
 
@@ -46,26 +43,6 @@ module _ {names name : List ℕ} {j : ℕ} (v : Among names name j) where
   pub among-ends : length names / 256 ≤ j → owns (namesIn names) name ≡ false
   unfolding owns cellNames
   among-ends h = let e : length names / 256 - j ≡ 0 = omega arith in v .left ∙ rw e
-
--- ---- cells written down
-
-pub names-none : namesIn [] ≡ []
-unfolding namesIn cellNames
-names-none = refl
-
-module _ (x s : List ℕ) (h : length x ≤ 255) where
-  cell-taken : take (length x) (pad 255 x ++ s) ≡ x
-  cell-taken = take-append-le (length x) (pad 255 x) s (rw pad-length h) ∙ take-pad 255 x h
-
-  cell-dropped : drop 255 (pad 255 x ++ s) ≡ s
-  cell-dropped = drop-at (pad 255 x) s 255 (pad-length 255 x)
-
-  -- a region that begins with the cell of a name
-  pub names-cell : namesIn (cellOf x ++ s) ≡ x ∷ namesIn s
-  unfolding namesIn cellNames cellOf
-  names-cell =
-      let e : length (cellOf x ++ s) / 256 ≡ suc (length s / 256) = simp (length-append, pad-length) (omega arith) in
-      rw (e, cell-taken, cell-dropped)
 
 -- the bus owns just its own name
 pub bus-names : namesIn (cellOf busName) ≡ busName ∷ []

@@ -1,4 +1,4 @@
--- The worked examples T10 and T11 of the paper, as a table. Assumes nothing: these are definitions.
+-- T10 and T11 of 01's bench table, as a table. Assumes nothing: these are definitions.
 use mathlib.Core.Bool.{Bool, true, false}
 use mathlib.Core.List.{List, [], _∷_, _++_}
 use Prim.Native.Nat.{ℕ}
