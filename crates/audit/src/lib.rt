@@ -1,4 +1,16 @@
 // Is a lent memory good? Each slot is tested by itself, beside the slots after it.
+use memory::FIRST_BYTE;
+use memory::FIRST_CALLEE;
+use memory::FIRST_NAME;
+use memory::FIRST_SERIAL;
+use memory::GIDS_AT;
+use memory::HEAD_AT;
+use memory::MEMORY_LENGTH;
+use memory::NAMES_AT;
+use memory::PENDING_AT;
+use memory::SLOT_LENGTH;
+use memory::SLOTS_AT;
+use memory::TAKEN_AT;
 use names::Form;
 use wire::Order;
 ghost use mathlib.Core.Path.{_≡_};
@@ -24,7 +36,7 @@ fn is_name_good(memory: &[u8], i: usize, j: usize) -> bool
     requires { ⌜ (length (now memory) ≡ 52676) × (i < 16) × (j < 4) ⌝ }
     ensures { λ r. ⌜ (r ≡ nameTest (now (memory .entry)) i j) × (getD (now (memory .entry)) (4 + 3292 * i + 212 + 256 * j) 0 < 256) ⌝ }
 {
-    let at = 4 + 3292 * i + 212 + 256 * j;
+    let at = SLOTS_AT + SLOT_LENGTH * i + FIRST_NAME + 256 * j;
     let from = at + 1;
     let to = from + wire::wide(memory[at]) as usize;
     let name = &memory[from..to];
@@ -58,8 +70,8 @@ fn is_call_good(memory: &[u8], i: usize, j: usize) -> bool
     requires { ⌜ (length (now memory) ≡ 52676) × (i < 16) × (j < length (peerAt (now memory) i .pending)) × (length (peerAt (now memory) i .pending) ≤ 16) ⌝ }
     ensures { λ r. ⌜ r ≡ callTest (now (memory .entry)) i j ⌝ }
 {
-    let callee = slots::word_at(memory, i, 80 + 8 * j);
-    let serial = slots::word_at(memory, i, 84 + 8 * j);
+    let callee = slots::word_at(memory, i, FIRST_CALLEE + 8 * j);
+    let serial = slots::word_at(memory, i, FIRST_SERIAL + 8 * j);
     if 16 <= slots::find(memory, callee, 0) {
         return false;
     }
@@ -112,7 +124,7 @@ fn is_cell_plain(memory: &[u8], i: usize, j: usize) -> bool
     requires { ⌜ (length (now memory) ≡ 52676) × (i < 16) × (j < 4) ⌝ }
     ensures { λ r. ⌜ r ≡ plainCell (now (memory .entry)) i j ⌝ }
 {
-    let at = 4 + 3292 * i + 212 + 256 * j;
+    let at = SLOTS_AT + SLOT_LENGTH * i + FIRST_NAME + 256 * j;
     let from = at + 1 + wire::wide(memory[at]) as usize;
     wire::is_zero(memory, from, at + 256)
 }
@@ -122,7 +134,7 @@ fn are_cells_plain(memory: &[u8], i: usize) -> bool
     requires { ⌜ At (now memory) i ⌝ }
     ensures { λ r. ⌜ r ≡ cellsTest (now (memory .entry)) i ⌝ }
 {
-    let n = slots::word_at(memory, i, 208) as usize;
+    let n = slots::word_at(memory, i, NAMES_AT) as usize;
     if 4 < n {
         return false;
     }
@@ -133,7 +145,11 @@ fn are_cells_plain(memory: &[u8], i: usize) -> bool
         }
         j += 1;
     }
-    wire::is_zero(memory, 4 + 3292 * i + 212 + 256 * j, 4 + 3292 * i + 1236)
+    wire::is_zero(
+        memory,
+        SLOTS_AT + SLOT_LENGTH * i + FIRST_NAME + 256 * j,
+        SLOTS_AT + SLOT_LENGTH * i + TAKEN_AT,
+    )
 }
 
 // Every place of slot i that is not in use is zero.
@@ -141,11 +157,11 @@ fn is_shaped(memory: &[u8], i: usize) -> bool
     requires { ⌜ At (now memory) i ⌝ }
     ensures { λ r. ⌜ r ≡ shapeTest (now (memory .entry)) i ⌝ }
 {
-    let at = 4 + 3292 * i;
-    is_table(memory, at + 8, 4, 16)
-        & is_table(memory, at + 76, 8, 16)
+    let at = SLOTS_AT + SLOT_LENGTH * i;
+    is_table(memory, at + GIDS_AT, 4, 16)
+        & is_table(memory, at + PENDING_AT, 8, 16)
         & are_cells_plain(memory, i)
-        & is_table(memory, at + 1240, 1, 2048)
+        & is_table(memory, at + HEAD_AT, 1, 2048)
 }
 
 // The stream of slot i is good.
@@ -153,9 +169,9 @@ fn is_stream_good(memory: &[u8], i: usize) -> bool
     requires { ⌜ At (now memory) i ⌝ }
     ensures { λ r. ⌜ r ≡ goodTail (peerAt (now (memory .entry)) i .stream) ⌝ }
 {
-    let taken = slots::word_at(memory, i, 1236) as usize;
-    let stored = wire::least(slots::word_at(memory, i, 1240) as usize, 2048);
-    let from = 4 + 3292 * i + 1244;
+    let taken = slots::word_at(memory, i, TAKEN_AT) as usize;
+    let stored = wire::least(slots::word_at(memory, i, HEAD_AT) as usize, 2048);
+    let from = SLOTS_AT + SLOT_LENGTH * i + FIRST_BYTE;
     let to = from + 2048;
     stream::is_good(taken, &memory[from..to], stored)
 }
@@ -181,8 +197,8 @@ fn is_slot_good(memory: &[u8], i: usize, last: u32) -> bool
 {
     let number = slots::number_at(memory, i);
     if number == 0 {
-        let from = 4 + 3292 * i;
-        return wire::is_zero(memory, from, from + 3292);
+        let from = SLOTS_AT + SLOT_LENGTH * i;
+        return wire::is_zero(memory, from, from + SLOT_LENGTH);
     }
     if !is_shaped(memory, i) {
         return false;
@@ -194,7 +210,7 @@ fn is_slot_good(memory: &[u8], i: usize, last: u32) -> bool
 pub fn is_good(memory: &[u8]) -> bool
     ensures { λ r. ⌜ r ≡ good (now (memory .entry)) ⌝ }
 {
-    if memory.len() != 52676 {
+    if memory.len() != MEMORY_LENGTH {
         return false;
     }
     let last = slots::last_of(memory);

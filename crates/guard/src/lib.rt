@@ -1,5 +1,6 @@
 // The guard: six calls on lent memory. No call asks anything of its caller: images, memory, names and pieces may be any bytes.
 use image::Outcome;
+use memory::MEMORY_LENGTH;
 use rules::Connected;
 use rules::Gone;
 use rules::Taken;
@@ -23,7 +24,7 @@ fn is_image_good(image: &[u8]) -> bool
 pub fn start(memory: &mut [u8]) -> u8
     ensures { λ r. ⌜ Did (startOn (now (memory .entry))) r (now (memory .exit)) ⌝ }
 {
-    if memory.len() != 52676 {
+    if memory.len() != MEMORY_LENGTH {
         return 51;
     }
     wire::wipe(memory);

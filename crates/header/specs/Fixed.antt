@@ -19,7 +19,7 @@ orderOf s = cond (eqb (getD s 0 0) (byte "B")) Big Little
 abbrev pub isOrder : ℕ → Bool
 isOrder b = eqb b (byte "l") || eqb b (byte "B")
 
--- "Byte 1 type, 2 flags, 3 version 1. Then u32 body length, u32 serial, u32 field array length."
+-- "Byte 1 type, 2 flags (bit 0: no reply expected; others ignored), 3 version 1. Then u32 body length, u32 serial, u32 field array length."
 abbrev pub kindOf : List ℕ → ℕ
 kindOf s = getD s 1 0
 

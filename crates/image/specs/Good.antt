@@ -56,7 +56,7 @@ goodOwned image matcher s = cond (eqb matcher 0) (eqb (s .offset) 0 && eqb (s .l
 abbrev pub goodSubject : ℕ → ℕ → Bool
 goodSubject context subject = leb context 3 && (eqb context 1 || eqb context 2 || eqb subject 0)
 
--- "verdict (0 deny, 1 allow), matcher (0 any, 1, 2), zero": three bytes that connect and own rules share
+-- verdict 0 or 1, matcher 0 to 2, zero: three bytes that connect and own rules share
 abbrev pub goodMatcher : ℕ → ℕ → ℕ → Bool
 goodMatcher verdict matcher reserved = leb verdict 1 && leb matcher 2 && eqb reserved 0
 

@@ -20,15 +20,15 @@ use Rattle.memory.specs.Encoding.{slotBytes, slotOf, stateOf}
 abbrev pub nobody : (Slot Tail → Bool) → List (Slot Tail) → Bool
 nobody t slots = not (any t slots)
 
--- "A name is well-known, is not the bus's, and stands once": in the names after it, and in the slots after its own
+-- a name is one that a peer may own, and stands in none of the slots after its own and once in these
 unfoldable pub goodNames : List (List ℕ) → List (Slot Tail) → Bool
 goodNames names later = distinct (λ x. ownable x && nobody (isOwner x) later) (λ x y. same y x) names
 
--- "A wait's callee is connected, its serial is not 0, no triple stands twice"
+-- a wait's callee is connected, its serial is not 0, and no triple stands twice
 unfoldable pub goodPending : List (Slot Tail) → List Pending → Bool
 goodPending all ws = distinct (λ w. any (isPeer (w .callee)) all && leb 1 (w .serial)) sameCall ws
 
--- "Numbers are distinct, not 0 and not above the last number given"; at most 16 gids, 16 waits and 4 names
+-- numbers are distinct, not 0 and not above the last number given; at most 16 gids, 16 waits and 4 names
 unfoldable pub goodPeer : List (Slot Tail) → ℕ → Peer Tail → List (Slot Tail) → Bool
 goodPeer all last p later =
     leb 1 (p .number)

@@ -1,4 +1,11 @@
 // The calls about peers and their names, on a good image and good memory: connect, own, release, disconnect.
+use memory::FIRST_NAME;
+use memory::NAMES_AT;
+use memory::PENDING_AT;
+use memory::SLOT_LENGTH;
+use memory::SLOTS_AT;
+use memory::TAKEN_AT;
+use memory::UID_AT;
 use policy::Uid;
 use rules::Connected;
 use rules::Gone;
@@ -29,7 +36,7 @@ fn seat(memory: &mut [u8], i: usize, number: u32, uid: u32, gids: &[u32])
     requires { ⌜ (At (now memory) i) × (length (now gids) ≤ 16) ⌝ }
     ensures { λ r. ⌜ now (memory .exit) ≡ take (4 + 3292 * i) (now (memory .entry)) ++ (newBytes number uid (now (gids .entry)) ++ drop (4 + 3292 * i + (12 + 4 * length (now (gids .entry)))) (now (memory .entry))) ⌝ }
 {
-    let at = 4 + 3292 * i;
+    let at = SLOTS_AT + SLOT_LENGTH * i;
     wire::put_u32(memory, at, number);
     wire::put_u32(memory, at + 4, uid);
     wire::put_u32(memory, at + 8, gids.len() as u32);
@@ -108,7 +115,7 @@ fn end_at(memory: &mut [u8], i: usize, callee: u32)
     if slots::number_at(memory, i) == 0 {
         return;
     }
-    let at = 4 + 3292 * i + 76;
+    let at = SLOTS_AT + SLOT_LENGTH * i + PENDING_AT;
     let end = at + 132;
     end_calls(&mut memory[at..end], callee);
 }
@@ -130,8 +137,8 @@ fn leave(memory: &mut [u8], i: usize, number: u32)
     requires { ⌜ (Held (now memory)) × (i < 16) ⌝ }
     ensures { λ r. ⌜ now (memory .exit) ≡ gone (now (memory .entry)) i number ⌝ }
 {
-    let from = 4 + 3292 * i;
-    let to = from + 3292;
+    let from = SLOTS_AT + SLOT_LENGTH * i;
+    let to = from + SLOT_LENGTH;
     wire::wipe(&mut memory[from..to]);
     end_all(memory, number);
 }
@@ -145,7 +152,7 @@ pub fn disconnect(memory: &mut [u8], peer: u32) -> Gone
     if i == 16 {
         return no_gone(30);
     }
-    let bytes = slots::word_at(memory, i, 1236);
+    let bytes = slots::word_at(memory, i, TAKEN_AT);
     leave(memory, i, peer);
     Gone { answer: 0, bytes }
 }
@@ -165,7 +172,7 @@ fn may_own_at(image: &[u8], memory: &[u8], i: usize, name: &[u8]) -> bool
     requires { ⌜ (GoodImage (now image)) × (length (now memory) ≡ 52676) × (i < 16) ⌝ }
     ensures { λ r. ⌜ r ≡ mayOwn (now (image .entry)) (record { 0 = peerAt (now (memory .entry)) i .uid }) (peerAt (now (memory .entry)) i .gids) (now (name .entry)) ⌝ }
 {
-    let uid = Uid(slots::word_at(memory, i, 4));
+    let uid = Uid(slots::word_at(memory, i, UID_AT));
     let gids = slots::gids_at(memory, i);
     let list = gids.list;
     let count = gids.count;
@@ -188,12 +195,16 @@ fn grant(memory: &mut [u8], i: usize, name: &[u8]) -> u8
     requires { ⌜ (Seated (now memory) i) × (length (now name) ≤ 255) ⌝ }
     ensures { λ r. ⌜ Did (stored (granted (now (memory .entry)) i (now (name .entry)))) r (now (memory .exit)) ⌝ }
 {
-    let n = slots::word_at(memory, i, 208);
+    let n = slots::word_at(memory, i, NAMES_AT);
     if 4 <= n {
         return 34;
     }
-    put_name(memory, 4 + 3292 * i + 212 + 256 * (n as usize), name);
-    wire::put_u32(memory, 4 + 3292 * i + 208, n + 1);
+    put_name(
+        memory,
+        SLOTS_AT + SLOT_LENGTH * i + FIRST_NAME + 256 * (n as usize),
+        name,
+    );
+    wire::put_u32(memory, SLOTS_AT + SLOT_LENGTH * i + NAMES_AT, n + 1);
     0
 }
 
@@ -237,11 +248,11 @@ fn give_up(memory: &mut [u8], i: usize, name: &[u8]) -> u8
     ensures { λ r. ⌜ Did (stored (givenUp (now (memory .entry)) i (now (name .entry)))) r (now (memory .exit)) ⌝ }
 {
     let j = slots::find_name(memory, i, name, 0);
-    let n = slots::word_at(memory, i, 208);
+    let n = slots::word_at(memory, i, NAMES_AT);
     if n as usize <= j {
         return 35;
     }
-    let at = 4 + 3292 * i + 208;
+    let at = SLOTS_AT + SLOT_LENGTH * i + NAMES_AT;
     let end = at + 1028;
     tables::remove(
         &mut memory[at..end],

@@ -1,4 +1,13 @@
 // Readings of the guard's memory: the words of a slot, and which slot a peer has.
+use memory::FIRST_CALLEE;
+use memory::FIRST_GID;
+use memory::FIRST_NAME;
+use memory::FIRST_SERIAL;
+use memory::GIDS_AT;
+use memory::NAMES_AT;
+use memory::PENDING_AT;
+use memory::SLOT_LENGTH;
+use memory::SLOTS_AT;
 use wire::Order;
 ghost use mathlib.Core.Path.{_≡_};
 ghost use Prim.Native.Nat.{_+_, _*_, _≤_, _<_};
@@ -25,7 +34,7 @@ pub fn word_at(memory: &[u8], i: usize, place: usize) -> u32
     requires { ⌜ (length (now memory) ≡ 52676) × (i < 16) × (place + 4 ≤ 3292) ⌝ }
     ensures { λ r. ⌜ (r ≡ wordAt Little (now (memory .entry)) (4 + 3292 * i + place)) × (r < 4294967296) ⌝ }
 {
-    wire::u32_at(Order::Little, memory, 4 + 3292 * i + place)
+    wire::u32_at(Order::Little, memory, SLOTS_AT + SLOT_LENGTH * i + place)
 }
 
 // The number in slot i, 0 where it is free.
@@ -33,7 +42,7 @@ pub fn number_at(memory: &[u8], i: usize) -> u32
     requires { ⌜ (length (now memory) ≡ 52676) × (i < 16) ⌝ }
     ensures { λ r. ⌜ (r ≡ numberAt (now (memory .entry)) i) × (r < 4294967296) ⌝ }
 {
-    wire::u32_at(Order::Little, memory, 4 + 3292 * i)
+    wire::u32_at(Order::Little, memory, SLOTS_AT + SLOT_LENGTH * i)
 }
 
 // The last number given.
@@ -83,10 +92,10 @@ pub fn gids_at(memory: &[u8], i: usize) -> Gids
     ensures { λ r. ⌜ GidsOf (now (memory .entry)) i r ⌝ }
 {
     let mut list = [0u32; 16];
-    let count = wire::least(word_at(memory, i, 8) as usize, 16);
+    let count = wire::least(word_at(memory, i, GIDS_AT) as usize, 16);
     let mut k = 0;
     while k < count {
-        list[k] = word_at(memory, i, 12 + 4 * k);
+        list[k] = word_at(memory, i, FIRST_GID + 4 * k);
         k += 1;
     }
     Gids { list, count }
@@ -97,7 +106,7 @@ pub fn count_names(memory: &[u8], i: usize) -> usize
     requires { ⌜ At (now memory) i ⌝ }
     ensures { λ r. ⌜ (r ≡ length (peerAt (now (memory .entry)) i .names)) × (r ≤ 4) ⌝ }
 {
-    wire::least(word_at(memory, i, 208) as usize, 4)
+    wire::least(word_at(memory, i, NAMES_AT) as usize, 4)
 }
 
 // How many pending calls slot i has.
@@ -105,7 +114,7 @@ pub fn count_pending(memory: &[u8], i: usize) -> usize
     requires { ⌜ At (now memory) i ⌝ }
     ensures { λ r. ⌜ (r ≡ length (peerAt (now (memory .entry)) i .pending)) × (r ≤ 16) ⌝ }
 {
-    wire::least(word_at(memory, i, 76) as usize, 16)
+    wire::least(word_at(memory, i, PENDING_AT) as usize, 16)
 }
 
 // Name j of slot i is this one.
@@ -113,7 +122,7 @@ fn is_name(memory: &[u8], i: usize, j: usize, name: &[u8]) -> bool
     requires { ⌜ (length (now memory) ≡ 52676) × (i < 16) × (j < 4) ⌝ }
     ensures { λ r. ⌜ (r ≡ same (nameAt (now (memory .entry)) i j) (now (name .entry))) × (getD (now (memory .entry)) (4 + 3292 * i + 212 + 256 * j) 0 < 256) ⌝ }
 {
-    let at = 4 + 3292 * i + 212 + 256 * j;
+    let at = SLOTS_AT + SLOT_LENGTH * i + FIRST_NAME + 256 * j;
     let from = at + 1;
     let to = from + wire::wide(memory[at]) as usize;
     wire::equal(&memory[from..to], name)
@@ -178,7 +187,9 @@ pub fn find_pending(memory: &[u8], i: usize, callee: u32, serial: u32, from: usi
     let count = count_pending(memory, i);
     let mut j = from;
     while j < count {
-        if (word_at(memory, i, 80 + 8 * j) == callee) & (word_at(memory, i, 84 + 8 * j) == serial) {
+        if (word_at(memory, i, FIRST_CALLEE + 8 * j) == callee)
+            & (word_at(memory, i, FIRST_SERIAL + 8 * j) == serial)
+        {
             return j;
         }
         j += 1;
