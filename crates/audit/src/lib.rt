@@ -17,6 +17,7 @@ ghost use mathlib.Core.Path.{_≡_};
 ghost use Prim.Native.Nat.{_+_, _*_, _≤_, _<_};
 ghost use lib.ListN.{length, drop, getD};
 ghost use Rattle.rules.specs.Addresses.{ownable};
+ghost use Rattle.memory.specs.Layout.{slotStart, memoryLength, firstName};
 ghost use Rattle.memory.specs.Encoding.{stateOf};
 ghost use Rattle.memory.specs.Good.{goodNames, goodPending, goodPeer, good};
 ghost use Rattle.memory.proofs.Reading.{numberAt};
@@ -33,8 +34,8 @@ pub fn is_ownable(name: &[u8]) -> bool
 
 // Name j of slot i is ownable, and stands nowhere else from there on.
 fn is_name_good(memory: &[u8], i: usize, j: usize) -> bool
-    requires { ⌜ (length (now memory) ≡ 52676) × (i < 16) × (j < 4) ⌝ }
-    ensures { λ r. ⌜ (r ≡ nameTest (now (memory .entry)) i j) × (getD (now (memory .entry)) (4 + 3292 * i + 212 + 256 * j) 0 < 256) ⌝ }
+    requires { ⌜ (length (now memory) ≡ memoryLength) × (i < 16) × (j < 4) ⌝ }
+    ensures { λ r. ⌜ (r ≡ nameTest (now (memory .entry)) i j) × (getD (now (memory .entry)) (slotStart i + firstName + 256 * j) 0 < 256) ⌝ }
 {
     let at = SLOTS_AT + SLOT_LENGTH * i + FIRST_NAME + 256 * j;
     let from = at + 1;
@@ -67,7 +68,7 @@ fn are_names_good(memory: &[u8], i: usize) -> bool
 
 // Pending call j of slot i has a connected callee and a serial, and stands once from there on.
 fn is_call_good(memory: &[u8], i: usize, j: usize) -> bool
-    requires { ⌜ (length (now memory) ≡ 52676) × (i < 16) × (j < length (peerAt (now memory) i .pending)) × (length (peerAt (now memory) i .pending) ≤ 16) ⌝ }
+    requires { ⌜ (length (now memory) ≡ memoryLength) × (i < 16) × (j < length (peerAt (now memory) i .pending)) × (length (peerAt (now memory) i .pending) ≤ 16) ⌝ }
     ensures { λ r. ⌜ r ≡ callTest (now (memory .entry)) i j ⌝ }
 {
     let callee = slots::word_at(memory, i, FIRST_CALLEE + 8 * j);
@@ -107,7 +108,7 @@ fn scaled(w: usize, n: usize, k: usize) -> usize
 
 // The table at a place has at most k things of w bytes, and zeros behind them.
 fn is_table(memory: &[u8], at: usize, w: usize, k: usize) -> bool
-    requires { ⌜ (length (now memory) ≡ 52676) × (w * k ≤ 2048) × (at + 4 + w * k ≤ 52676) ⌝ }
+    requires { ⌜ (length (now memory) ≡ memoryLength) × (w * k ≤ 2048) × (at + 4 + w * k ≤ memoryLength) ⌝ }
     ensures { λ r. ⌜ r ≡ tableTest (now (memory .entry)) at w k ⌝ }
 {
     let n = wire::u32_at(Order::Little, memory, at) as usize;
@@ -121,7 +122,7 @@ fn is_table(memory: &[u8], at: usize, w: usize, k: usize) -> bool
 
 // Behind name j of slot i its cell is zero.
 fn is_cell_plain(memory: &[u8], i: usize, j: usize) -> bool
-    requires { ⌜ (length (now memory) ≡ 52676) × (i < 16) × (j < 4) ⌝ }
+    requires { ⌜ (length (now memory) ≡ memoryLength) × (i < 16) × (j < 4) ⌝ }
     ensures { λ r. ⌜ r ≡ plainCell (now (memory .entry)) i j ⌝ }
 {
     let at = SLOTS_AT + SLOT_LENGTH * i + FIRST_NAME + 256 * j;
@@ -178,7 +179,7 @@ fn is_stream_good(memory: &[u8], i: usize) -> bool
 
 // The peer of slot i keeps the rules, beside the slots after it.
 fn is_peer_good(memory: &[u8], i: usize, number: u32, last: u32) -> bool
-    requires { ⌜ (length (now memory) ≡ 52676) × (i < 16) × (number ≡ numberAt (now memory) i) × (1 ≤ number) ⌝ }
+    requires { ⌜ (length (now memory) ≡ memoryLength) × (i < 16) × (number ≡ numberAt (now memory) i) × (1 ≤ number) ⌝ }
     ensures { λ r. ⌜ r ≡ goodPeer (stateOf (now (memory .entry)) .slots) last (peerAt (now (memory .entry)) i) (drop (i + 1) (stateOf (now (memory .entry)) .slots)) ⌝ }
 {
     if last < number {

@@ -11,6 +11,7 @@ use Rattle.rules.specs.State.{free, peer, isFree, firstBy, putSlot, withNames}
 use Rattle.rules.specs.Pending.{bereft}
 use Rattle.rules.specs.Calls.{Step, stays, newcomer, connectAt, ownNew, released}
 use Rattle.rules.specs.declared.Connected.{Connected}
+use Rattle.memory.specs.Layout.{slotStart, memoryLength, slotLength}
 use Rattle.memory.specs.Encoding.{slotBytes, slotOf, memoryOf, stateOf}
 use Rattle.memory.specs.Sound.{Held}
 use Rattle.memory.proofs.Sweep.{putAt, changed, mapped}
@@ -20,11 +21,11 @@ use Rattle.slots.specs.Slots.{peerAt}
 
 -- slot i of good memory is free
 pub record Free (m : List ℕ) (i : ℕ) (gids : List ℕ) : Type 0 where
-  pub sized : length m ≡ 52676
+  pub sized : length m ≡ memoryLength
   pub held : Held m
   pub below : i < 16
   pub few : length gids ≤ 16
-  pub zeros : take 3292 (drop (4 + 3292 * i) m) ≡ slotBytes free
+  pub zeros : take slotLength (drop (slotStart i) m) ≡ slotBytes free
 
 -- a peer in slot i, whose number is the last
 unfoldable pub admitted : List ℕ → ℕ → ℕ → ℕ → List ℕ → List ℕ
@@ -39,18 +40,18 @@ entered m uid gids = connectAt tails (stateOf m) (firstBy isFree (stateOf m .slo
 
 -- the bytes of slot i are those of the slot that is read off them
 pub record PlainSlot (m : List ℕ) (i : ℕ) : Type 0 where
-  pub sized : length m ≡ 52676
+  pub sized : length m ≡ memoryLength
   pub below : i < 16
-  pub plain : slotBytes (slotOf (take 3292 (drop (4 + 3292 * i) m))) ≡ take 3292 (drop (4 + 3292 * i) m)
+  pub plain : slotBytes (slotOf (take slotLength (drop (slotStart i) m))) ≡ take slotLength (drop (slotStart i) m)
 
 -- memory is the bytes of the state that is read off it
 pub record Encoded (m : List ℕ) : Type 0 where
-  pub sized : length m ≡ 52676
+  pub sized : length m ≡ memoryLength
   pub is : memoryOf (stateOf m) ≡ m
 
 -- the calls to the callee that the peer of slot i awaits ended
 unfoldable pub endedAt : List ℕ → ℕ → ℕ → List ℕ
-endedAt m i callee = putAt m i (changed (bereft callee) (take 3292 (drop (4 + 3292 * i) m)))
+endedAt m i callee = putAt m i (changed (bereft callee) (take slotLength (drop (slotStart i) m)))
 
 -- every call to the callee ended
 unfoldable pub endedFor : List ℕ → ℕ → List ℕ

@@ -5,6 +5,7 @@ use Prim.Native.Nat.{ℕ, _+_, _≤_}
 use lib.ListN.{length}
 use Rattle.wire.specs.Words.{wordBytes}
 use Rattle.tables.specs.Tables.{cells}
+use Rattle.memory.specs.Layout.{memoryLength}
 
 -- what is written of a peer that connects
 unfoldable pub newBytes : ℕ → ℕ → List ℕ → List ℕ
@@ -16,6 +17,6 @@ nameBytes name = length name ∷ name
 
 -- a name has room at `at`
 pub record Naming (m : List ℕ) (at : ℕ) (name : List ℕ) : Type 0 where
-  pub sized : length m ≡ 52676
+  pub sized : length m ≡ memoryLength
   pub short : length name ≤ 255
-  pub room : at + 256 ≤ 52676
+  pub room : at + 256 ≤ memoryLength

@@ -22,6 +22,7 @@ ghost use Rattle.policy.specs.Decisions.{mayOwn};
 ghost use Rattle.stream.specs.Tail.{tails};
 ghost use Rattle.rules.specs.Pending.{endedAll};
 ghost use Rattle.rules.specs.Calls.{connect, own, release, disconnect};
+ghost use Rattle.memory.specs.Layout.{slotStart, memoryLength};
 ghost use Rattle.memory.specs.Encoding.{pendingBytes, pendingOf, stateOf};
 ghost use Rattle.memory.specs.Sound.{Held};
 ghost use Rattle.memory.specs.Calls.{stored, Did};
@@ -34,7 +35,7 @@ ghost use Rattle.peers.specs.Steps.{Free, admitted, entered, PlainSlot, 
 // Writes a peer's number, uid and gids in slot i, where zeros stand.
 fn seat(memory: &mut [u8], i: usize, number: u32, uid: u32, gids: &[u32])
     requires { ⌜ (At (now memory) i) × (length (now gids) ≤ 16) ⌝ }
-    ensures { λ r. ⌜ now (memory .exit) ≡ take (4 + 3292 * i) (now (memory .entry)) ++ (newBytes number uid (now (gids .entry)) ++ drop (4 + 3292 * i + (12 + 4 * length (now (gids .entry)))) (now (memory .entry))) ⌝ }
+    ensures { λ r. ⌜ now (memory .exit) ≡ take (slotStart i) (now (memory .entry)) ++ (newBytes number uid (now (gids .entry)) ++ drop (slotStart i + (12 + 4 * length (now (gids .entry)))) (now (memory .entry))) ⌝ }
 {
     let at = SLOTS_AT + SLOT_LENGTH * i;
     wire::put_u32(memory, at, number);
@@ -169,7 +170,7 @@ fn may_own_as(image: &[u8], uid: Uid, gids: [u32; 16], count: usize, name: &[u8]
 
 // The policy lets the peer of slot i own the name.
 fn may_own_at(image: &[u8], memory: &[u8], i: usize, name: &[u8]) -> bool
-    requires { ⌜ (GoodImage (now image)) × (length (now memory) ≡ 52676) × (i < 16) ⌝ }
+    requires { ⌜ (GoodImage (now image)) × (length (now memory) ≡ memoryLength) × (i < 16) ⌝ }
     ensures { λ r. ⌜ r ≡ mayOwn (now (image .entry)) (record { 0 = peerAt (now (memory .entry)) i .uid }) (peerAt (now (memory .entry)) i .gids) (now (name .entry)) ⌝ }
 {
     let uid = Uid(slots::word_at(memory, i, UID_AT));

@@ -18,6 +18,7 @@ ghost use Rattle.rules.specs.State.{isFree, isPeer};
 ghost use Rattle.rules.specs.Calls.{slotAt, isOwner};
 ghost use Rattle.wire.specs.Bytes.{same};
 ghost use Rattle.policy.specs.Names.{owns};
+ghost use Rattle.memory.specs.Layout.{slotStart, memoryLength, slotLength, firstName};
 ghost use Rattle.memory.specs.Encoding.{stateOf};
 ghost use Rattle.memory.proofs.Reading.{numberAt};
 ghost use Rattle.memory.proofs.Search.{Found};
@@ -31,15 +32,15 @@ pub struct Gids {
 
 // The word at a place of slot i.
 pub fn word_at(memory: &[u8], i: usize, place: usize) -> u32
-    requires { ⌜ (length (now memory) ≡ 52676) × (i < 16) × (place + 4 ≤ 3292) ⌝ }
-    ensures { λ r. ⌜ (r ≡ wordAt Little (now (memory .entry)) (4 + 3292 * i + place)) × (r < 4294967296) ⌝ }
+    requires { ⌜ (length (now memory) ≡ memoryLength) × (i < 16) × (place + 4 ≤ slotLength) ⌝ }
+    ensures { λ r. ⌜ (r ≡ wordAt Little (now (memory .entry)) (slotStart i + place)) × (r < 4294967296) ⌝ }
 {
     wire::u32_at(Order::Little, memory, SLOTS_AT + SLOT_LENGTH * i + place)
 }
 
 // The number in slot i, 0 where it is free.
 pub fn number_at(memory: &[u8], i: usize) -> u32
-    requires { ⌜ (length (now memory) ≡ 52676) × (i < 16) ⌝ }
+    requires { ⌜ (length (now memory) ≡ memoryLength) × (i < 16) ⌝ }
     ensures { λ r. ⌜ (r ≡ numberAt (now (memory .entry)) i) × (r < 4294967296) ⌝ }
 {
     wire::u32_at(Order::Little, memory, SLOTS_AT + SLOT_LENGTH * i)
@@ -47,7 +48,7 @@ pub fn number_at(memory: &[u8], i: usize) -> u32
 
 // The last number given.
 pub fn last_of(memory: &[u8]) -> u32
-    requires { ⌜ length (now memory) ≡ 52676 ⌝ }
+    requires { ⌜ length (now memory) ≡ memoryLength ⌝ }
     ensures { λ r. ⌜ (r ≡ stateOf (now (memory .entry)) .last) × (r < 4294967296) ⌝ }
 {
     wire::u32_at(Order::Little, memory, 0)
@@ -55,7 +56,7 @@ pub fn last_of(memory: &[u8]) -> u32
 
 // The first slot from `from` on whose peer has this number, or 16.
 pub fn find(memory: &[u8], number: u32, from: usize) -> usize
-    requires { ⌜ (length (now memory) ≡ 52676) × (from ≤ 16) ⌝ }
+    requires { ⌜ (length (now memory) ≡ memoryLength) × (from ≤ 16) ⌝ }
     ensures { λ r. ⌜ Found (isPeer number) (now (memory .entry)) from r ⌝ }
 {
     if number == 0 {
@@ -73,7 +74,7 @@ pub fn find(memory: &[u8], number: u32, from: usize) -> usize
 
 // The lowest free slot, or 16.
 pub fn find_free(memory: &[u8]) -> usize
-    requires { ⌜ length (now memory) ≡ 52676 ⌝ }
+    requires { ⌜ length (now memory) ≡ memoryLength ⌝ }
     ensures { λ r. ⌜ Found isFree (now (memory .entry)) 0 r ⌝ }
 {
     let mut i = 0;
@@ -119,8 +120,8 @@ pub fn count_pending(memory: &[u8], i: usize) -> usize
 
 // Name j of slot i is this one.
 fn is_name(memory: &[u8], i: usize, j: usize, name: &[u8]) -> bool
-    requires { ⌜ (length (now memory) ≡ 52676) × (i < 16) × (j < 4) ⌝ }
-    ensures { λ r. ⌜ (r ≡ same (nameAt (now (memory .entry)) i j) (now (name .entry))) × (getD (now (memory .entry)) (4 + 3292 * i + 212 + 256 * j) 0 < 256) ⌝ }
+    requires { ⌜ (length (now memory) ≡ memoryLength) × (i < 16) × (j < 4) ⌝ }
+    ensures { λ r. ⌜ (r ≡ same (nameAt (now (memory .entry)) i j) (now (name .entry))) × (getD (now (memory .entry)) (slotStart i + firstName + 256 * j) 0 < 256) ⌝ }
 {
     let at = SLOTS_AT + SLOT_LENGTH * i + FIRST_NAME + 256 * j;
     let from = at + 1;
@@ -166,7 +167,7 @@ fn is_owner(memory: &[u8], i: usize, name: &[u8]) -> bool
 
 // The first slot from `from` on whose peer owns the name, or 16.
 pub fn find_owner(memory: &[u8], name: &[u8], from: usize) -> usize
-    requires { ⌜ (length (now memory) ≡ 52676) × (from ≤ 16) ⌝ }
+    requires { ⌜ (length (now memory) ≡ memoryLength) × (from ≤ 16) ⌝ }
     ensures { λ r. ⌜ Found (isOwner (now (name .entry))) (now (memory .entry)) from r ⌝ }
 {
     let mut i = from;
@@ -181,7 +182,7 @@ pub fn find_owner(memory: &[u8], name: &[u8], from: usize) -> usize
 
 // The first pending call from `from` on of slot i that is for this callee and serial, or how many there are.
 pub fn find_pending(memory: &[u8], i: usize, callee: u32, serial: u32, from: usize) -> usize
-    requires { ⌜ (length (now memory) ≡ 52676) × (i < 16) × (from ≤ length (peerAt (now memory) i .pending)) ⌝ }
+    requires { ⌜ (length (now memory) ≡ memoryLength) × (i < 16) × (from ≤ length (peerAt (now memory) i .pending)) ⌝ }
     ensures { λ r. ⌜ CallAt (now (memory .entry)) i callee serial from r ⌝ }
 {
     let count = count_pending(memory, i);
