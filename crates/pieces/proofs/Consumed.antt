@@ -2,10 +2,10 @@
 use mathlib.Core.Path.{_≡_, refl, sym, ap, ap₂, subst, _∙_}
 use mathlib.Core.Bool.{true, false}
 use mathlib.Core.List.{List, _++_, append-assoc}
-use Prim.Native.Nat.{ℕ, _+_, _*_, _≤_, _<_}
+use Prim.Native.Nat.{ℕ, _+_, _-_, _*_, _≤_, _<_}
 use native.Mathlib.Omega.{arith}
-use lib.ListN.{length, take, drop, getD, replicate, length-append, length-drop}
-use lib.Seq.{take-at, drop-at, take-append-le, length-take-le}
+use lib.ListN.{length, take, drop, getD, replicate, length-append, length-drop, length-replicate}
+use lib.Seq.{take-at, drop-at, drop-drop, take-append-le, length-take-le}
 use mir.Syntax.{w8}
 use mir.Val.{Fits}
 use Rattle.wire.specs.Bytes.{pad}
@@ -17,7 +17,7 @@ use Rattle.header.specs.declared.Header.{Header}
 use Rattle.header.specs.declared.Reading.the-variants.{Whole}
 use Rattle.header.proofs.Readings.{whole-fits}
 use Rattle.image.specs.Contracts.{GoodImage}
-use Rattle.wire.proofs.Parts.{drop-past}
+use Rattle.wire.proofs.Parts.{drop-past, pad-fits}
 use Rattle.stream.specs.Stream.{offer, whole}
 use Rattle.stream.specs.Tail.{Tail, tails, closed, fresh, goodTail}
 use Rattle.stream.proofs.Good.{fresh-good, open-more}
@@ -33,7 +33,7 @@ use Rattle.memory.proofs.Good.{held-of}
 use Rattle.sound.proofs.Put.{put-there}
 use Rattle.sound.proofs.Renew.{stream-sound}
 use Rattle.slots.specs.Slots.{peerAt, Seated}
-use Rattle.pieces.specs.Fed.{cleared, headIn, Completed}
+use Rattle.pieces.specs.Fed.{cleared, headIn, behindIn, Completed}
 use Rattle.pieces.proofs.Seats.{sound, peer-is, fine, cleared-is}
 
 -- ---- the bytes of a stream put into memory
@@ -53,23 +53,40 @@ module _ (m : List ℕ) (i : ℕ) (l : length m ≡ 52676) (h : i < 16) (t : Tai
       let y : drop (b + 2056) (p ++ (q ++ r)) ≡ r = drop-past p (q ++ r) b 2056 before ∙ drop-at q r 2056 (stream-length t) in
       ap₂ (λ (u v : List ℕ). u ++ (replicate 2056 0 ++ v)) x y
 
-  -- the head that was put
-  pub head-put : (n : ℕ) → n ≤ 2048
-      → headIn (take (4 + 3292 * i + 1236) m ++ (streamBytes t ++ drop (4 + 3292 * i + 1236 + 2056) m)) i n ≡ take n (pad 2048 (t .head))
+  -- the room of the head, from its first byte on
+  room-put : drop (4 + 3292 * i + 1244) (take (4 + 3292 * i + 1236) m ++ (streamBytes t ++ drop (4 + 3292 * i + 1236 + 2056) m))
+      ≡ pad 2048 (t .head) ++ drop (4 + 3292 * i + 1236 + 2056) m
   unfolding headBytes
-  head-put n k =
+  room-put =
       let b = 4 + 3292 * i + 1236 in
       let w = wordBytes (t .taken) in
       let v = wordBytes (length (t .head)) in
       let d = pad 2048 (t .head) in
       let r = drop (b + 2056) m in
       let e : 4 + 3292 * i + 1244 ≡ b + 8 = omega arith in
-      let x : drop (b + 8) (take b m ++ (streamBytes t ++ r)) ≡ d ++ r
-      = drop-past (take b m) (streamBytes t ++ r) b 8 before
+      rw e
+      (drop-past (take b m) (streamBytes t ++ r) b 8 before
       ∙ ap (drop 8) (append-assoc w (v ++ d) r ∙ ap (λ (z : List ℕ). w ++ z) (append-assoc v d r))
       ∙ drop-past w (v ++ (d ++ r)) 4 4 (word-length (t .taken))
-      ∙ drop-at v (d ++ r) 4 (word-length (length (t .head))) in
-      rw (e, x) (take-append-le n d r (omega (arith, pad-length 2048 (t .head))))
+      ∙ drop-at v (d ++ r) 4 (word-length (length (t .head))))
+
+  module _ (n : ℕ) (k : n ≤ 2048) where
+    pub head-put : headIn (take (4 + 3292 * i + 1236) m ++ (streamBytes t ++ drop (4 + 3292 * i + 1236 + 2056) m)) i n ≡ take n (pad 2048 (t .head))
+    head-put =
+        ap (take n) room-put
+        ∙ take-append-le n (pad 2048 (t .head)) (drop (4 + 3292 * i + 1236 + 2056) m) (omega (arith, pad-length 2048 (t .head)))
+
+    pub behind-put : length (t .head) ≡ n
+        → behindIn (take (4 + 3292 * i + 1236) m ++ (streamBytes t ++ drop (4 + 3292 * i + 1236 + 2056) m)) i n ≡ replicate (2048 - n) 0
+    behind-put l =
+        let r = drop (4 + 3292 * i + 1236 + 2056) m in
+        let z = replicate {A = ℕ} (2048 - n) 0 in
+        let p : pad 2048 (t .head) ≡ t .head ++ z = pad-fits 2048 (t .head) (omega arith) ∙ rw l in
+        ap (take (2048 - n))
+        (sym (drop-drop n (4 + 3292 * i + 1244) (take (4 + 3292 * i + 1236) m ++ (streamBytes t ++ r)))
+        ∙ ap (drop n) (room-put ∙ ap (λ (y : List ℕ). y ++ r) p ∙ append-assoc (t .head) z r)
+        ∙ drop-at (t .head) (z ++ r) n l)
+        ∙ take-at z r (2048 - n) (length-replicate (2048 - n) 0)
 
 -- ---- good memory after a whole message
 
@@ -129,7 +146,7 @@ module _ (m : List ℕ) (f : (j : ℕ) → Fits w8 (getD m j 0)) (i : ℕ) (s : 
         ∙ cleared-is m f i s
 
     head-read : (readHeader (take (x .head) (pad 2048 (offer tails (peerAt m i .stream) piece .stream .head))) ≡ Whole x)
-        × (length (take (x .head) (pad 2048 (offer tails (peerAt m i .stream) piece .stream .head))) ≡ x .head)
+        × (length (offer tails (peerAt m i .stream) piece .stream .head) ≡ x .head)
     head-read =
         let t = peerAt m i .stream in
         let k : goodTail t ≡ true = fine m f i s .tail in
@@ -161,4 +178,7 @@ module _ (m : List ℕ) (f : (j : ℕ) → Fits w8 (getD m j 0)) (i : ℕ) (s : 
           seat = subst (λ (z : List ℕ). Seated z i) (sym consumed-clear) consumed-seat;
           read = ap readHeader consumed-head ∙ head-read .0;
           small = head-small;
+          behind =
+              ap (λ (z : List ℕ). behindIn z i (x .head)) e
+              ∙ behind-put m i (s .sized) (s .below) (offer tails (peerAt m i .stream) piece .stream) (x .head) head-small (head-read .1);
         }

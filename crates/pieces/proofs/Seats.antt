@@ -1,10 +1,10 @@
 -- The stream of a slot, in good memory. Assumes nothing.
-use mathlib.Core.Path.{_≡_, refl, sym, ap, subst, _∙_}
+use mathlib.Core.Path.{_≡_, refl, sym, ap, ap₂, subst, _∙_}
 use mathlib.Core.Bool.{Bool, false}
-use mathlib.Core.List.{List, _++_}
+use mathlib.Core.List.{List, _++_, append-assoc}
 use Prim.Native.Nat.{ℕ, _+_, _-_, _*_, _≤_, _<_, min}
 use native.Mathlib.Omega.{arith}
-use lib.ListN.{length, take, drop, getD, replicate, length-drop}
+use lib.ListN.{length, take, drop, getD, replicate, length-drop, take-append-drop, replicate-append-replicate}
 use lib.Seq.{drop-drop, take-take, length-take-le}
 use mir.Syntax.{w8}
 use mir.Val.{Fits}
@@ -30,7 +30,7 @@ use Rattle.memory.proofs.Puts.{stream-put}
 use Rattle.sound.proofs.Kept.{Fine}
 use Rattle.sound.proofs.Put.{peer-fine}
 use Rattle.slots.specs.Slots.{peerAt, Seated}
-use Rattle.pieces.specs.Fed.{streamIn, Opens, Fed, FedAt, cleared}
+use Rattle.pieces.specs.Fed.{streamIn, Opens, Fed, FedAt, cleared, behindIn}
 
 fresh-bytes : streamBytes fresh ≡ replicate 2056 0
 unfolding wordBytes headBytes pad
@@ -124,14 +124,26 @@ module _ (m : List ℕ) (f : (j : ℕ) → Fits w8 (getD m j 0)) (i : ℕ) (s : 
       ap (λ (z : List ℕ). take (4 + 3292 * i + 1236) m ++ (z ++ drop (4 + 3292 * i + 1236 + 2056) m)) (sym fresh-bytes)
       ∙ sym (stream-put m (λ j. f j .fits) (s .held) i (s .below) (s .some) fresh)
 
--- zeros written over a stream
-pub settled-at : (m z : List ℕ) (i : ℕ) → length m ≡ 52676 → i < 16
-    → z ≡ replicate (length (take (4 + 3292 * i + 1236 + 2056 - (4 + 3292 * i + 1236)) (drop (4 + 3292 * i + 1236) m))) 0
-    → take (4 + 3292 * i + 1236) m ++ (z ++ drop (4 + 3292 * i + 1236 + 2056 - (4 + 3292 * i + 1236)) (drop (4 + 3292 * i + 1236) m)) ≡ cleared m i
-settled-at m z i h k q =
-    let l : length (take (4 + 3292 * i + 1236 + 2056 - (4 + 3292 * i + 1236)) (drop (4 + 3292 * i + 1236) m)) ≡ 2056
-    = ap length (cut-at (4 + 3292 * i + 1236) 2056 m)
-    ∙ length-take-le 2056 (drop (4 + 3292 * i + 1236) m) (omega (arith, length-drop (4 + 3292 * i + 1236) m)) in
-    put-at (4 + 3292 * i + 1236) 2056 m z ∙ rw (q, l)
+-- k zeros at b, and w more behind them
+zeros-more : (m : List ℕ) (b k w : ℕ) → take w (drop (b + k) m) ≡ replicate w 0 → replicate k 0 ++ drop (b + k) m ≡ replicate (k + w) 0 ++ drop (b + k + w) m
+zeros-more m b k w e =
+    ap (λ (y : List ℕ). replicate k 0 ++ y) (sym (take-append-drop w (drop (b + k) m)) ∙ ap₂ _++_ e (drop-drop w (b + k) m))
+    ∙ sym (append-assoc (replicate k 0) (replicate w 0) (drop (b + k + w) m))
+    ∙ ap (λ (y : List ℕ). y ++ drop (b + k + w) m) (replicate-append-replicate k w 0)
+
+-- zeros written over the counts of a stream and its head, where zeros stand behind it
+pub settled-at : (m z : List ℕ) (i n : ℕ) → length m ≡ 52676 → i < 16 → n ≤ 2048 → behindIn m i n ≡ replicate (2048 - n) 0
+    → z ≡ replicate (length (take (4 + 3292 * i + 1236 + (8 + n) - (4 + 3292 * i + 1236)) (drop (4 + 3292 * i + 1236) m))) 0
+    → take (4 + 3292 * i + 1236) m ++ (z ++ drop (4 + 3292 * i + 1236 + (8 + n) - (4 + 3292 * i + 1236)) (drop (4 + 3292 * i + 1236) m)) ≡ cleared m i
+settled-at m z i n h k s o q =
+    let b = 4 + 3292 * i + 1236 in
+    let l : length (take (b + (8 + n) - b) (drop b m)) ≡ 8 + n
+    = ap length (cut-at b (8 + n) m) ∙ length-take-le (8 + n) (drop b m) (omega (arith, length-drop b m)) in
+    let d : 4 + 3292 * i + 1244 + n ≡ b + (8 + n) = omega arith in
+    let u : 8 + n + (2048 - n) ≡ 2056 = omega arith in
+    let v : b + (8 + n) + (2048 - n) ≡ b + 2056 = omega arith in
+    let x : replicate (8 + n) 0 ++ drop (b + (8 + n)) m ≡ replicate 2056 0 ++ drop (b + 2056) m
+    = rw (u, v) at (zeros-more m b (8 + n) (2048 - n) (rw d at o)) in
+    put-at b (8 + n) m z ∙ rw (q, l, x)
 
 pub ruleset seats = (opens-at, fed-at, closed-at, closed-is, settled-at, needs)

@@ -2,7 +2,7 @@
 use mathlib.Core.Path.{_≡_}
 use mathlib.Core.Bool.{true, false}
 use mathlib.Core.List.{List, _++_}
-use Prim.Native.Nat.{ℕ, _+_, _*_, _≤_, _<_, min}
+use Prim.Native.Nat.{ℕ, _+_, _-_, _*_, _≤_, _<_, min}
 use lib.ListN.{length, take, drop, replicate}
 use Rattle.wire.specs.Bytes.{pad}
 use Rattle.wire.specs.Words.{wordAt}
@@ -53,7 +53,11 @@ cleared m i = take (4 + 3292 * i + 1236) m ++ (replicate 2056 0 ++ drop (4 + 329
 abbrev pub headIn : List ℕ → ℕ → ℕ → List ℕ
 headIn m i n = take n (drop (4 + 3292 * i + 1244) m)
 
--- slot i keeps a whole head x, and is a peer's of good memory once its stream is cleared
+-- what stands behind them in the head's room
+abbrev pub behindIn : List ℕ → ℕ → ℕ → List ℕ
+behindIn m i n = take (2048 - n) (drop (4 + 3292 * i + 1244 + n) m)
+
+-- slot i keeps a whole head x and nothing behind it, and is a peer's of good memory once its stream is cleared
 pub record Completed (image m : List ℕ) (i : ℕ) (x : Header) : Type 0 where
   pub good : GoodImage image
   pub sized : length m ≡ 52676
@@ -61,3 +65,4 @@ pub record Completed (image m : List ℕ) (i : ℕ) (x : Header) : Type 0 where
   pub seat : Seated (cleared m i) i
   pub read : readHeader (headIn m i (x .head)) ≡ Whole x
   pub small : x .head ≤ 2048
+  pub behind : behindIn m i (x .head) ≡ replicate (2048 - x .head) 0

@@ -10,12 +10,12 @@ use stream::Stream;
 use wire::Order;
 ghost use mathlib.Core.Path.{_≡_};
 ghost use mathlib.Core.Bool.{false};
-ghost use Prim.Native.Nat.{_+_, _≤_, _<_};
-ghost use lib.ListN.{length, take};
+ghost use Prim.Native.Nat.{_+_, _-_, _≤_, _<_};
+ghost use lib.ListN.{length, take, replicate};
 ghost use Rattle.stream.specs.Stream.{offer};
 ghost use Rattle.stream.specs.Tail.{tails, closed};
 ghost use Rattle.slots.specs.Slots.{peerAt, Seated};
-ghost use Rattle.pieces.specs.Fed.{streamIn, Opens, Fed, FedAt, cleared, headIn, Completed};
+ghost use Rattle.pieces.specs.Fed.{streamIn, Opens, Fed, FedAt, cleared, headIn, behindIn, Completed};
 ghost use Rattle.image.specs.Contracts.{GoodImage};
 ghost use Rattle.rules.specs.Calls.{offeredTo, piece};
 ghost use Rattle.memory.specs.Encoding.{stateOf};
@@ -61,13 +61,13 @@ fn is_closed_at(memory: &[u8], i: usize) -> bool
     stream::is_closed(taken, &memory[from..to], stored)
 }
 
-// The message of slot i is consumed: no byte of it is kept.
-fn settle_at(memory: &mut [u8], i: usize)
-    requires { ⌜ (length (now memory) ≡ 52676) × (i < 16) ⌝ }
+// The message of slot i is consumed: no byte of it is kept. Its head has n bytes, and what is behind them is zero.
+fn settle_at(memory: &mut [u8], i: usize, n: usize)
+    requires { ⌜ (length (now memory) ≡ 52676) × (i < 16) × (n ≤ 2048) × (behindIn (now memory) i n ≡ replicate (2048 - n) 0) ⌝ }
     ensures { λ r. ⌜ now (memory .exit) ≡ cleared (now (memory .entry)) i ⌝ }
 {
     let from = 4 + 3292 * i + 1236;
-    let end = from + 2056;
+    let end = from + (8 + n);
     wire::wipe(&mut memory[from..end]);
 }
 
@@ -90,7 +90,7 @@ fn judge_at(image: &[u8], memory: &mut [u8], i: usize, header: Header) -> Judgem
 {
     let n = header.head;
     let head = head_of(memory, i, n);
-    settle_at(memory, i);
+    settle_at(memory, i, n);
     judge::judge(image, memory, i, &head[0..n], header)
 }
 

@@ -16,7 +16,7 @@ module _ (P : ℕ → ℕ → Bool) (d : Divides P) where
   range-grows a b c h k p q = rw (d a b c h k, p, q)
 
   -- the last block, where all before it is good
-  pub range-ends : (a b c : ℕ) → a ≤ b → b ≤ c → P a b ≡ true → P a c ≡ P b c
+  range-ends : (a b c : ℕ) → a ≤ b → b ≤ c → P a b ≡ true → P a c ≡ P b c
   range-ends a b c h k p = rw (d a b c h k, p)
 
   -- the last block, which starts at m and may overlap what is known to be good

@@ -144,19 +144,23 @@ fn zero_words(s: &[u8], from: usize, to: usize) -> bool
     zero_8(s, last)
 }
 
-// Each byte from `from` up to `to` is zero: blocks of 256 bytes with an exit between them, then words.
+// Each byte from `from` up to `to` is zero: blocks of 256 bytes with an exit between them, the last of which may overlap the one before it.
 pub fn is_zero(s: &[u8], from: usize, to: usize) -> bool
     requires { ⌜ (from ≤ to) × (to ≤ length (now s)) ⌝ }
     ensures { λ r. ⌜ r ≡ allZero (take (to - from) (drop from (now (s .entry)))) ⌝ }
 {
+    if to - from < 256 {
+        return zero_words(s, from, to);
+    }
+    let last = to - 256;
     let mut i = from;
-    while 256 <= to - i {
+    while i < last {
         if !zero_run(s, i, 256) {
             return false;
         }
         i += 256;
     }
-    zero_words(s, i, to)
+    zero_run(s, last, 256)
 }
 
 fn same_4(a: &[u8], b: &[u8], at: usize) -> bool

@@ -5,10 +5,10 @@ use Rattle.wire.proofs.is_zero.Statement.{statement}
 use Rattle.wire.proofs.is_zero.Tie as tie
 
 abbrev Inv-loop : tie.InvT-loop
-Inv-loop s from to i₀ i = Zeros s from to i
+Inv-loop s from to last i₀ i = Zeros s from to i
 
 abbrev μ-loop : tie.MeasureT-loop
-μ-loop s from to i₀ i = to - i
+μ-loop s from to last i₀ i = to - i
 
 pub is-zero-spec : {M : Type 1} → statement M
 is-zero-spec =
@@ -16,6 +16,9 @@ is-zero-spec =
     (tie.spec
     Inv-loop
     μ-loop
+    (λ c. search zeros)
+    (λ c κs. search zeros)
+    (λ c. search zeros)
     (λ c. search zeros)
     (λ c. search zeros)
     (λ c κs. search zeros)
