@@ -10,6 +10,7 @@ use Rattle.wire.specs.Lists.{every}
 use Rattle.stream.specs.Tail.{Tail}
 use Rattle.rules.specs.State.{Slot, free, peer, State}
 use Rattle.memory.specs.Good.{goodSlots, good}
+use Rattle.memory.specs.Layout.{memoryLength}
 
 abbrev pub word32 : ℕ → Bool
 word32 n = ltb n 4294967296
@@ -36,5 +37,5 @@ pub record Sound (s : State Tail) : Type 0 where
 
 -- good memory, as what a function on it requires: its length stands by itself
 pub record Held (m : List ℕ) : Type 0 where
-  pub sized : length m ≡ 52676
+  pub sized : length m ≡ memoryLength
   pub held : good m ≡ true

@@ -16,6 +16,7 @@ use Rattle.stream.specs.Tail.{Tail, closed, goodTail}
 use Rattle.stream.specs.Contracts.{verdictOf}
 use Rattle.stream.specs.declared.Advance.{Advance}
 use Rattle.rules.specs.State.{peer, putSlot, withStream}
+use Rattle.memory.specs.Layout.{slotStart, memoryLength, takenAt, firstByte}
 use Rattle.memory.specs.Encoding.{streamBytes, memoryOf, stateOf}
 use Rattle.slots.specs.Slots.{peerAt, Seated}
 
@@ -40,27 +41,27 @@ pub record Fed (o : Offer Tail) (r : Advance) (x : List ℕ) : Type 0 where
 pub record FedAt (m : List ℕ) (i : ℕ) (o : Offer Tail) (r : Advance) (after : List ℕ) : Type 0 where
   pub taken : r .taken ≡ o .taken
   pub verdict : verdictOf (pad 2048 (o .stream .head)) (r .event) ≡ o .verdict
-  pub bytes : after ≡ take (4 + 3292 * i + 1236) m ++ (streamBytes (o .stream) ++ drop (4 + 3292 * i + 1236 + 2056) m)
+  pub bytes : after ≡ take (slotStart i + takenAt) m ++ (streamBytes (o .stream) ++ drop (slotStart i + takenAt + 2056) m)
   pub memory : after ≡ memoryOf (putSlot (stateOf m) i (peer (withStream (peerAt m i) (o .stream))))
 
 -- ---- a whole message
 
 -- memory with zeros over the stream of slot i
 abbrev pub cleared : List ℕ → ℕ → List ℕ
-cleared m i = take (4 + 3292 * i + 1236) m ++ (replicate 2056 0 ++ drop (4 + 3292 * i + 1236 + 2056) m)
+cleared m i = take (slotStart i + takenAt) m ++ (replicate 2056 0 ++ drop (slotStart i + takenAt + 2056) m)
 
 -- the first n bytes of the head that slot i keeps
 abbrev pub headIn : List ℕ → ℕ → ℕ → List ℕ
-headIn m i n = take n (drop (4 + 3292 * i + 1244) m)
+headIn m i n = take n (drop (slotStart i + firstByte) m)
 
 -- what stands behind them in the head's room
 abbrev pub behindIn : List ℕ → ℕ → ℕ → List ℕ
-behindIn m i n = take (2048 - n) (drop (4 + 3292 * i + 1244 + n) m)
+behindIn m i n = take (2048 - n) (drop (slotStart i + firstByte + n) m)
 
 -- slot i keeps a whole head x and nothing behind it, and is a peer's of good memory once its stream is cleared
 pub record Completed (image m : List ℕ) (i : ℕ) (x : Header) : Type 0 where
   pub good : GoodImage image
-  pub sized : length m ≡ 52676
+  pub sized : length m ≡ memoryLength
   pub below : i < 16
   pub seat : Seated (cleared m i) i
   pub read : readHeader (headIn m i (x .head)) ≡ Whole x

@@ -1,5 +1,10 @@
 // A piece offered to a peer's stream, on good memory and under a good image.
 use header::Header;
+use memory::FIRST_BYTE;
+use memory::HEAD_AT;
+use memory::SLOT_LENGTH;
+use memory::SLOTS_AT;
+use memory::TAKEN_AT;
 use rules::Judgement;
 use rules::Receiver;
 use rules::Taken;
@@ -18,6 +23,7 @@ ghost use Rattle.slots.specs.Slots.{peerAt, Seated};
 ghost use Rattle.pieces.specs.Fed.{streamIn, Opens, Fed, FedAt, cleared, headIn, behindIn, Completed};
 ghost use Rattle.image.specs.Contracts.{GoodImage};
 ghost use Rattle.rules.specs.Calls.{offeredTo, piece};
+ghost use Rattle.memory.specs.Layout.{memoryLength};
 ghost use Rattle.memory.specs.Encoding.{stateOf};
 ghost use Rattle.memory.specs.Sound.{Held};
 ghost use Rattle.memory.specs.Calls.{stored, Did};
@@ -44,7 +50,7 @@ fn feed_at(memory: &mut [u8], i: usize, piece: &[u8]) -> Advance
     requires { ⌜ (Seated (now memory) i) × (closed (peerAt (now memory) i .stream) ≡ false) ⌝ }
     ensures { λ r. ⌜ FedAt (now (memory .entry)) i (offer tails (peerAt (now (memory .entry)) i .stream) (now (piece .entry))) r (now (memory .exit)) ⌝ }
 {
-    let from = 4 + 3292 * i + 1236;
+    let from = SLOTS_AT + SLOT_LENGTH * i + TAKEN_AT;
     let to = from + 2056;
     feed(&mut memory[from..to], piece)
 }
@@ -54,30 +60,30 @@ fn is_closed_at(memory: &[u8], i: usize) -> bool
     requires { ⌜ Seated (now memory) i ⌝ }
     ensures { λ r. ⌜ r ≡ closed (peerAt (now (memory .entry)) i .stream) ⌝ }
 {
-    let taken = slots::word_at(memory, i, 1236) as usize;
-    let stored = slots::word_at(memory, i, 1240) as usize;
-    let from = 4 + 3292 * i + 1244;
+    let taken = slots::word_at(memory, i, TAKEN_AT) as usize;
+    let stored = slots::word_at(memory, i, HEAD_AT) as usize;
+    let from = SLOTS_AT + SLOT_LENGTH * i + FIRST_BYTE;
     let to = from + 2048;
     stream::is_closed(taken, &memory[from..to], stored)
 }
 
 // The message of slot i is consumed: no byte of it is kept. Its head has n bytes, and what is behind them is zero.
 fn settle_at(memory: &mut [u8], i: usize, n: usize)
-    requires { ⌜ (length (now memory) ≡ 52676) × (i < 16) × (n ≤ 2048) × (behindIn (now memory) i n ≡ replicate (2048 - n) 0) ⌝ }
+    requires { ⌜ (length (now memory) ≡ memoryLength) × (i < 16) × (n ≤ 2048) × (behindIn (now memory) i n ≡ replicate (2048 - n) 0) ⌝ }
     ensures { λ r. ⌜ now (memory .exit) ≡ cleared (now (memory .entry)) i ⌝ }
 {
-    let from = 4 + 3292 * i + 1236;
+    let from = SLOTS_AT + SLOT_LENGTH * i + TAKEN_AT;
     let end = from + (8 + n);
     wire::wipe(&mut memory[from..end]);
 }
 
 // A copy of the first n bytes of the head that slot i keeps.
 fn head_of(memory: &[u8], i: usize, n: usize) -> [u8; 2048]
-    requires { ⌜ (length (now memory) ≡ 52676) × (i < 16) × (n ≤ 2048) ⌝ }
+    requires { ⌜ (length (now memory) ≡ memoryLength) × (i < 16) × (n ≤ 2048) ⌝ }
     ensures { λ r. ⌜ take n r ≡ headIn (now (memory .entry)) i n ⌝ }
 {
     let mut head = [0u8; 2048];
-    let from = 4 + 3292 * i + 1244;
+    let from = SLOTS_AT + SLOT_LENGTH * i + FIRST_BYTE;
     let to = from + n;
     wire::copy(&mut head[0..n], &memory[from..to]);
     head
