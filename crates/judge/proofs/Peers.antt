@@ -24,26 +24,22 @@ use Rattle.tables.proofs.Change.{without}
 use Rattle.memory.specs.Encoding.{memoryOf, stateOf}
 use Rattle.memory.proofs.Reading.{numberAt}
 use Rattle.memory.proofs.Good.{good-is}
-use Rattle.memory.proofs.Held.{held-counted}
 use Rattle.memory.proofs.Removal.{ended-without}
 use Rattle.slots.specs.Slots.{peerAt, Seated, CallAt}
 use Rattle.judge.specs.Judging.{Left}
-use Rattle.judge.specs.Steps.{Says, Waits, Delivers, Answer, ToPeer, RepliesTo, Holds, Began, Ended}
+use Rattle.judge.specs.Steps.{Says, Waits, Delivers, Answer, ToPeer, RepliesTo, Began, Ended}
 
 -- ---- whether a call waits, by the place at which the search for it ended
 
-module _ {m : List ℕ} {i n : ℕ} (h : Holds m i n) {c s f : ℕ} (a : CallAt m i c s 0 f) where
-  many : length (peerAt m i .pending) ≡ n
-  many = held-counted m i (h .caller .held) (h .caller .below) (h .caller .some) .calls ∙ sym (h .count)
-
+module _ {m : List ℕ} {i n : ℕ} (h : n ≡ length (peerAt m i .pending)) {c s f : ℕ} (a : CallAt m i c s 0 f) where
   place : firstBy (isCall c s) (peerAt m i .pending) ≡ f
   place = sym (a .is ∙ zero-add (firstBy (isCall c s) (peerAt m i .pending)))
 
   waits-yes : f < n → awaits c s (peerAt m i .pending) ≡ true
-  waits-yes l = awaits-first c s (peerAt m i .pending) ∙ rw (place, many, lt-ltb f n l)
+  waits-yes l = awaits-first c s (peerAt m i .pending) ∙ rw (place, ← h, lt-ltb f n l)
 
   waits-no : n ≤ f → awaits c s (peerAt m i .pending) ≡ false
-  waits-no l = awaits-first c s (peerAt m i .pending) ∙ rw (place, many, le-ltb f n l)
+  waits-no l = awaits-first c s (peerAt m i .pending) ∙ rw (place, ← h, le-ltb f n l)
 
 -- ---- what changes no state leaves memory as it is
 
@@ -52,20 +48,20 @@ left-as-is {m} p b e = record { judgement = e; memory = sym (good-is m (λ j. b 
 
 -- ---- a wait: 25, 26
 
-module _ {m : List ℕ} {i n : ℕ} (h : Holds m i n) {c s f : ℕ} (a : CallAt m i c s 0 f) where
+module _ {m : List ℕ} {i n : ℕ} (g : Seated m i) (h : n ≡ length (peerAt m i .pending)) {c s f : ℕ} (a : CallAt m i c s 0 f) where
   pub wait-twice : ((k : ℕ) → Fits w8 (getD m k 0)) → f < n → {r : Judgement} → r ≡ refusal 25 → Waits m i c s r m
-  wait-twice b l q = record { left = λ p x e y. rw (e, y, waits-yes h a l) (left-as-is (h .caller) b q) }
+  wait-twice b l q = record { left = λ p x e y. rw (e, y, waits-yes h a l) (left-as-is g b q) }
 
   module _ (l : n ≤ f) where
     pub wait-full : ((k : ℕ) → Fits w8 (getD m k 0)) → 16 ≤ n → {r : Judgement} → r ≡ refusal 26 → Waits m i c s r m
     wait-full b k q =
-        let t = le-leb 16 (length (peerAt m i .pending)) (omega (arith, many h a)) in
-        record { left = λ p x e y. rw (e, y, waits-no h a l, t) (left-as-is (h .caller) b q) }
+        let t = le-leb 16 (length (peerAt m i .pending)) (omega arith) in
+        record { left = λ p x e y. rw (e, y, waits-no h a l, t) (left-as-is g b q) }
 
     pub wait-begins : n < 16 → {m′ : List ℕ} → Began m i c s m′ → Waits m i c s (record { answer = 0; receiver = to.Peer c }) m′
-    wait-begins k g =
-        let t = lt-leb 16 (length (peerAt m i .pending)) (omega (arith, many h a)) in
-        record { left = λ p x e y. rw (e, y, waits-no h a l, t) (record { judgement = refl; memory = g .is }) }
+    wait-begins k z =
+        let t = lt-leb 16 (length (peerAt m i .pending)) (omega arith) in
+        record { left = λ p x e y. rw (e, y, waits-no h a l, t) (record { judgement = refl; memory = z .is }) }
 
 pub ruleset waiting = (wait-twice, wait-full, wait-begins, needs)
 
@@ -135,7 +131,7 @@ pub ruleset to-peer = (peer-refused, peer-delivered, needs)
 -- ---- a reply: 24
 
 module _ {m : List ℕ} {i j : ℕ} (p : Seated m i) (x : Header) (b : (k : ℕ) → Fits w8 (getD m k 0)) {c : ℕ} (e : c ≡ numberAt m i)
-    {n : ℕ} (h : Holds m j n) {f : ℕ} (a : CallAt m j c (x .«reply_serial») 0 f) where
+    {n : ℕ} (h : n ≡ length (peerAt m j .pending)) {f : ℕ} (a : CallAt m j c (x .«reply_serial») 0 f) where
   pub reply-none : n ≤ f → {r : Judgement} → r ≡ refusal 24 → RepliesTo m i j x r m
   reply-none l q = record { left = rw (← e, waits-no h a l) (left-as-is p b q) }
 

@@ -2,10 +2,8 @@
 use mathlib.Core.Path.{_≡_}
 use mathlib.Core.Bool.{Bool, cond}
 use mathlib.Core.List.{List, [], _∷_, _++_}
-use Prim.Native.Nat.{ℕ, _+_, _*_, _≤_}
+use Prim.Native.Nat.{ℕ, _+_, _≤_}
 use lib.ListN.{length, drop}
-use Rattle.wire.specs.Words.{wordAt}
-use Rattle.wire.specs.declared.Order.the-variants.{Little}
 use Rattle.header.specs.declared.Header.{Header}
 use Rattle.header.specs.declared.Place.{Place}
 use Rattle.policy.specs.Matching.{fieldOf, messageOf}
@@ -111,12 +109,6 @@ pub record Directs (image m : List ℕ) (i : ℕ) (to : Destination) (head : Lis
   pub left : Left (directed image (stateOf m) i (peerAt m i) (addressOf to) (messageOf head x) x) r m′
 
 -- ---- pending calls written
-
--- the table of slot i holds n calls
-pub record Holds (m : List ℕ) (i n : ℕ) : Type 0 where
-  pub caller : Seated m i
-  pub count : n ≡ wordAt Little m (4 + 3292 * i + 76)
-  pub few : n ≤ 16
 
 -- one call more
 pub record Began (m : List ℕ) (i callee serial : ℕ) (m′ : List ℕ) : Type 0 where

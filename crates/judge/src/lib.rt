@@ -158,7 +158,7 @@ fn wait(memory: &mut [u8], i: usize, callee: u32, serial: u32) -> Judgement
     requires { ⌜ Seated (now memory) i ⌝ }
     ensures { λ r. ⌜ Waits (now (memory .entry)) i callee serial r (now (memory .exit)) ⌝ }
 {
-    let n = pending::calls_at(memory, i);
+    let n = slots::count_pending(memory, i);
     if slots::find_pending(memory, i, callee, serial, 0) < n {
         return refused(25);
     }
@@ -228,7 +228,7 @@ fn reply_to(memory: &mut [u8], i: usize, j: usize, header: Header) -> Judgement
     ensures { λ r. ⌜ RepliesTo (now (memory .entry)) i j header r (now (memory .exit)) ⌝ }
 {
     let callee = slots::number_at(memory, i);
-    let n = pending::calls_at(memory, j);
+    let n = slots::count_pending(memory, j);
     let k = slots::find_pending(memory, j, callee, header.reply_serial, 0);
     if n <= k {
         return refused(24);

@@ -1,6 +1,6 @@
 -- The fields of a peer in its slot's bytes: each is put at its place, and the rest stays. Assumes nothing.
 use mathlib.Core.List.{List, [], _++_, append-assoc, append-nil}
-use mathlib.Core.Path.{_≡_, refl, sym, ap, _∙_}
+use mathlib.Core.Path.{_≡_, sym, ap, _∙_}
 use Prim.Native.Nat.{ℕ, _+_, _≤_, _<_}
 use lib.ListN.{length, getD, take, drop, length-append}
 use lib.Seq.{take-at, drop-at}
@@ -13,12 +13,8 @@ use Rattle.policy.specs.Names.{cellOf}
 use Rattle.stream.specs.Tail.{Tail}
 use Rattle.rules.specs.State.{Pending, Peer, free, peer, State, putSlot, withNames, withPending, withStream}
 use Rattle.memory.specs.Layout.{slotStart}
-use Rattle.memory.specs.Encoding.{pendingBytes, headBytes, streamBytes, peerBytes, slotBytes, memoryOf}
+use Rattle.memory.specs.Encoding.{pendingBytes, streamBytes, peerBytes, slotBytes, memoryOf}
 use Rattle.memory.proofs.Frame.{head-length, put-memory, memory-at}
-
-pub peer-bytes : (p : Peer Tail) → slotBytes (peer p) ≡ peerBytes p
-unfolding slotBytes
-peer-bytes p = refl
 
 -- ---- what stands before each field
 
@@ -104,16 +100,6 @@ put-stream p t =
     rw (split-stream (withStream p t), split-stream p, take-at (beforeStream p) (streamBytes (p .stream) ++ []) 1236 (before-stream p))
     (ap (λ (z : List ℕ). beforeStream p ++ z) (append-nil (streamBytes t)))
 
--- the count of bytes taken alone
-pub put-taken : (p : Peer Tail) (n : ℕ) → slotBytes (peer (withStream p (record { taken = n; head = p .stream .head })))
-    ≡ take 1236 (slotBytes (peer p)) ++ (wordBytes n ++ drop 1240 (slotBytes (peer p)))
-unfolding beforeStream beforeNames beforePending beforeGids
-put-taken p n =
-    let t : Tail = record { taken = n; head = p .stream .head } in
-    rw (split-stream (withStream p t), split-stream p, append-nil (streamBytes t), append-nil (streamBytes (p .stream)))
-    (part-put (beforeStream p) (wordBytes (p .stream .taken)) (wordBytes n) (headBytes (p .stream .head)) 1236 4
-    (before-stream p) (word-length (p .stream .taken)))
-
 -- ---- a field put in memory: `new` are the c bytes at b of slot i that differ
 
 pub put-field : (s : State Tail) (i : ℕ) (p q : Peer Tail) (new : List ℕ) (b c : ℕ) → i < length (s .slots) → getD (s .slots) i free ≡ peer p
@@ -125,10 +111,6 @@ put-field s i p q new b c h e l f =
     ∙ rw (f, ← g) (part-nested (memoryOf s) new (slotStart i) b c 3292 l)
 
 -- ---- a field read off the bytes of a peer
-
-pub gids-bytes : (p : Peer Tail) → take 68 (drop 8 (slotBytes (peer p))) ≡ tableBytes 4 16 wordBytes (p .gids)
-gids-bytes p =
-    rw (split-gids p) (part-at (beforeGids p) (tableBytes 4 16 wordBytes (p .gids)) _ 8 68 (before-gids p) (table-length 4 16 wordBytes (p .gids)))
 
 pub pending-bytes : (p : Peer Tail) → take 132 (drop 76 (slotBytes (peer p))) ≡ tableBytes 8 16 pendingBytes (p .pending)
 pending-bytes p =

@@ -18,19 +18,14 @@ use Rattle.tables.proofs.Cells.{cells-parts}
 use Rattle.stream.proofs.Good.{tail-fits}
 use Rattle.stream.specs.Tail.{Tail}
 use Rattle.rules.specs.State.{Peer, Slot, free, peer, State}
-use Rattle.rules.specs.Calls.{empty}
 use Rattle.memory.specs.Encoding.{slotBytes, memoryOf, slotOf, stateOf}
 use Rattle.memory.specs.Good.{goodSlot, goodSlots, plain, good}
-use Rattle.memory.specs.Sound.{headOctets, word32, narrow, Sound}
+use Rattle.memory.specs.Sound.{word32, narrow, Sound}
 use Rattle.memory.proofs.Frame.{slot-length, memory-length, memory-slots}
 use Rattle.memory.proofs.Peers.{GoodPeer, peer-good, slots-first, slots-later}
 use Rattle.memory.proofs.Again.{words-back, names-back, pendings-back}
 use Rattle.memory.proofs.Slots.{Fits, slot-back, free-back}
 use Rattle.memory.proofs.Good.{good-is, good-sound}
-
-pub sound-empty : Sound empty
-unfolding goodSlots narrow headOctets
-sound-empty = record { sixteen = refl; fits = omega arith; slots = refl; narrows = refl; octets = refl }
 
 -- the parts of the bytes of slots are the bytes of each
 slot-parts : (slots : List (Slot Tail)) → length slots ≡ 16 → parts 3292 16 (cells slotBytes slots) ≡ map slotBytes slots

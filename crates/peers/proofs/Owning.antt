@@ -134,7 +134,7 @@ module _ (m : List ℕ) (f : Octets m) (i : ℕ) (g : Seated m i) (name : List �
         = ap (λ (x : List ℕ). u ∷ x) (sym (append-assoc name z t) ∙ ap (λ (x : List ℕ). x ++ t) (sym (pad-fits 255 name k))) in
         let e₃ : m₁ ≡ take c m ++ (cellOf name ++ t)
         = e₁ ∙ ap (λ (x : List ℕ). take c m ++ (nameBytes name ++ x)) y ∙ ap (λ (x : List ℕ). take c m ++ x) p in
-        let w = name-appended m (below m f) (g .held) i (g .below) (g .some) name m₁ m₂ n c en l refl e₃ e₂ in
+        let w = name-appended m (below m f) (g .held) i (g .below) (g .some) name m₁ m₂ n c (sym many) l refl e₃ e₂ in
         rw (many, lt-leb 4 n l) (record { result = refl; memory = w })
 
 pub ruleset granting = (grant-full, grant-done, needs)

@@ -6,17 +6,15 @@ use Prim.Native.Nat.{ℕ, _+_, _-_, _*_, _≤_, _<_}
 use native.Mathlib.Omega.{arith}
 use native.Mathlib.Nat.{zero-add}
 use lib.Dec.{ltb}
-use lib.ListN.{length, take, drop, length-drop}
-use lib.Seq.{length-take-le}
+use lib.ListN.{length, take, drop}
 use borrow.Author.Needs.{needs}
 use borrow.Author.Tests.{not-true, not-false, lt-ltb, le-ltb}
 use Rattle.wire.specs.Bytes.{same}
 use Rattle.wire.specs.Words.{wordAt, wordBytes}
 use Rattle.wire.specs.declared.Order.the-variants.{Little}
-use Rattle.wire.proofs.Words.{cut-at, put-at}
-use Rattle.tables.specs.Tables.{tableBytes}
 use Rattle.tables.specs.Cut.{cutOut, Cell}
-use Rattle.tables.proofs.Change.{removed, without, table-remove}
+use Rattle.tables.proofs.Change.{without}
+use Rattle.tables.proofs.Written.{part-cell, remove-written}
 use Rattle.policy.specs.Names.{cellOf, owns}
 use Rattle.rules.specs.State.{isPeer, firstBy}
 use Rattle.rules.specs.Addresses.{ownable}
@@ -52,14 +50,7 @@ module _ (m : List ℕ) (f : Octets m) (i : ℕ) (g : Seated m i) (name : List �
 
   module _ (h : j < n) where
     pub give-table : Cell (take (4 + 3292 * i + 208 + 1028 - (4 + 3292 * i + 208)) (drop (4 + 3292 * i + 208) m)) (4 + 256 * j) 256 (4 + 256 * n)
-    give-table =
-        let s : length m ≡ 52676 = g .sized in
-        let b : i < 16 = g .below in
-        let w : wordAt Little m (4 + 3292 * i + 208) ≤ 4 = counted m i g .fewNames in
-        let l : length (take (4 + 3292 * i + 208 + 1028 - (4 + 3292 * i + 208)) (drop (4 + 3292 * i + 208) m)) ≡ 1028
-        = ap length (cut-at (4 + 3292 * i + 208) 1028 m)
-        ∙ length-take-le 1028 (drop (4 + 3292 * i + 208) m) (omega (arith, length-drop (4 + 3292 * i + 208) m)) in
-        record { inside = omega arith; room = omega arith }
+    give-table = part-cell 256 4 j n m (4 + 3292 * i + 208) (omega (arith, g .sized, g .below)) (omega (arith, counted m i g .fewNames)) h
 
     pub give-done : (t : List ℕ)
         → t
@@ -69,18 +60,11 @@ module _ (m : List ℕ) (f : Octets m) (i : ℕ) (g : Seated m i) (name : List �
         (take (4 + 3292 * i + 208) m ++ (t ++ drop (4 + 3292 * i + 208 + 1028 - (4 + 3292 * i + 208)) (drop (4 + 3292 * i + 208) m)))
     unfolding givenUp
     give-done t et =
-        let c = 4 + 3292 * i + 208 in
         let ns = peerAt m i .names in
-        let b = take 1028 (drop c m) in
-        let w : wordAt Little m (4 + 3292 * i + 208) ≤ 4 = counted m i g .fewNames in
-        let stand = names-stand m (below m f) (g .held) i (g .below) (g .some) in
-        let r : tableBytes 256 4 cellOf (without j ns) ≡ wordBytes (n - 1) ++ removed 256 n j (drop 4 b)
-        = table-remove 256 4 cellOf cell-length ns j b n stand (sym many) (omega arith) h in
-        let q : t ≡ tableBytes 256 4 cellOf (without j ns)
-        = et ∙ ap (λ (y : List ℕ). wordBytes (n - 1) ++ removed 256 n j (drop 4 y)) (cut-at c 1028 m) ∙ sym r in
+        let few : n ≤ 4 = omega (arith, counted m i g .fewNames) in
         let o : released name ns ≡ without j ns = released-without name ns ∙ ap (λ (k : ℕ). without k ns) (sym place) in
-        let z = put-at c 1028 m t
-        ∙ ap (λ (y : List ℕ). take c m ++ (y ++ drop (c + 1028) m)) q
+        let z = remove-written 256 4 cellOf cell-length ns j m t (4 + 3292 * i + 208) n
+        (names-stand m (below m f) (g .held) i (g .below) (g .some)) (sym many) few h et
         ∙ sym (names-put m (below m f) (g .held) i (g .below) (g .some) (without j ns)) in
         rw (owned, lt-ltb j n h, o) (record { result = refl; memory = z })
 

@@ -4,7 +4,7 @@ use mathlib.Core.Path.{_≡_, refl, sym, ap, ap₂, _∙_}
 use Prim.Native.Nat.{ℕ, zero, suc, _+_, _-_, _*_, _≤_, _<_}
 use native.Mathlib.Omega.{arith}
 use native.Mathlib.Nat.{mul-le-mul-left, suc-add}
-use lib.ListN.{length, take, drop, replicate, length-append, length-drop, drop-of-length-le, replicate-append-replicate}
+use lib.ListN.{length, take, drop, replicate, length-append, length-drop, replicate-append-replicate}
 use lib.Seq.{take-at, drop-at, length-take-le}
 use Rattle.wire.specs.Bytes.{pad}
 use Rattle.wire.specs.Words.{wordBytes}
@@ -36,47 +36,6 @@ removed-parts w n j a b c e la lb lc =
       drop-past a (b ++ c) (w * j) w la,
       drop-at b c w lb,
     )
-
--- the last cell in use: it is wiped
-pub removed-last : (w n j : ℕ) (t : List ℕ) → j + 1 ≡ n → w * n ≤ length t
-    → removed w n j t ≡ take (w * j) t ++ (replicate w 0 ++ drop (w * j + w) t)
-unfolding cutOut
-removed-last w n j t h l =
-    let e : w * n ≡ w * j + w = rw (← h) (omega arith) in
-    let k : w * j + w ≤ length t = rw e at l in
-    rw (e, drop-of-length-le (take (w * j + w) t) {i = w * j + w} (omega (arith, length-take-le (w * j + w) t k)))
-
--- another: the next one is copied over it, and is taken out in its stead
-pub removed-next : (w n j : ℕ) (t : List ℕ) → j + 1 < n → w * n ≤ length t
-    → removed w n j t ≡ removed w n (j + 1) (take (w * j) t ++ (take w (drop (w * j + w) t) ++ drop (w * j + w) t))
-removed-next w n j t h l =
-    let m : w * suc (j + 1) ≤ w * n = mul-le-mul-left w h in
-    let x = w * n - (w * j + w + w) in
-    let r = drop (w * j + w) t in
-    let a = take (w * j) t in
-    let b = take w (drop (w * j) t) in
-    let c = take w r in
-    let d = take x (drop w r) in
-    let e = drop (w + x) r in
-    let lr : length r ≡ length t - (w * j + w) = length-drop (w * j + w) t in
-    let la : length a ≡ w * j = length-take-le (w * j) t (omega arith) in
-    let lb : length b ≡ w = length-take-le w (drop (w * j) t) (omega (arith, length-drop (w * j) t)) in
-    let lc : length c ≡ w = length-take-le w r (omega arith) in
-    let ld : length d ≡ x = length-take-le x (drop w r) (omega (arith, length-drop w r)) in
-    let q : r ≡ c ++ (d ++ e) = cut-two r w x in
-    let s : w * (j + 1) ≡ w * j + w = omega arith in
-    let u : t ≡ a ++ (b ++ ((c ++ d) ++ e)) = cut-two t (w * j) w ∙ ap (λ (z : List ℕ). a ++ (b ++ z)) (q ∙ sym (append-assoc c d e)) in
-    let v : a ++ (c ++ r) ≡ (a ++ c) ++ (c ++ (d ++ e))
-    = ap (λ (z : List ℕ). a ++ (c ++ z)) q ∙ sym (append-assoc a c (c ++ (d ++ e))) in
-    let f : removed w n j t ≡ a ++ ((c ++ d) ++ (replicate w 0 ++ e))
-    = ap (removed w n j) u ∙ removed-parts w n j a b (c ++ d) e la lb (omega (arith, length-append c d)) in
-    let g : removed w n (j + 1) (a ++ (c ++ r)) ≡ (a ++ c) ++ (d ++ (replicate w 0 ++ e))
-    = ap (removed w n (j + 1)) v
-    ∙ removed-parts w n (j + 1) (a ++ c) c d e (length-append a c ∙ omega arith) lc (omega arith) in
-    f
-    ∙ ap (λ (z : List ℕ). a ++ z) (append-assoc c d (replicate w 0 ++ e))
-    ∙ sym (append-assoc a c (d ++ (replicate w 0 ++ e)))
-    ∙ sym g
 
 -- of bytes all of which are in use, with others after them
 removed-of : (w n j : ℕ) (t e : List ℕ) → length t ≡ w * n → w * suc j ≤ w * n

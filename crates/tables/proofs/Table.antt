@@ -5,7 +5,7 @@ use Prim.Native.Nat.{ℕ, _+_, _-_, _*_, _≤_, _<_, min}
 use native.Mathlib.Omega.{arith}
 use native.Mathlib.Nat.{mul-le-mul-left, min-eq-left, min-le-right}
 use native.Mathlib.Numerals.{add-one}
-use lib.ListN.{length, getD, take, drop, replicate, length-append, length-map, List·getD-map, drop-of-length-le}
+use lib.ListN.{length, getD, take, drop, replicate, length-append, length-map, List·getD-map}
 use lib.Seq.{drop-at, drop-cons, drop-drop}
 use Rattle.wire.specs.Bytes.{pad}
 use Rattle.wire.specs.Words.{wordAt, wordBytes}
@@ -102,6 +102,3 @@ pub table-next : {A : Type 0} (w k : ℕ) (dec : List ℕ → A) (b : List ℕ) 
     → drop i (tableOf w k dec b) ≡ dec (take w (drop (4 + w * i) b)) ∷ drop (i + 1) (tableOf w k dec b)
 table-next w k dec b i h =
     drop-cons (tableOf w k dec b) i (dec []) h ∙ rw (add-one i, table-at w k dec b i h)
-
-pub table-past : {A : Type 0} (w k : ℕ) (dec : List ℕ → A) (b : List ℕ) (i : ℕ) → length (tableOf w k dec b) ≤ i → drop i (tableOf w k dec b) ≡ []
-table-past w k dec b i h = drop-of-length-le (tableOf w k dec b) h
