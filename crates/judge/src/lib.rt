@@ -4,6 +4,11 @@ mod pending;
 
 use address::Destination;
 use header::Header;
+use memory::FIRST_NAME;
+use memory::NAMES_AT;
+use memory::SLOT_LENGTH;
+use memory::SLOTS_AT;
+use memory::UID_AT;
 use policy::Uid;
 use rules::Judgement;
 use rules::Receiver;
@@ -61,7 +66,7 @@ fn ask_peer(
     requires { ⌜ (Asked (now image) (now head) header) × (At (now memory) i) ⌝ }
     ensures { λ r. ⌜ Asks (now (image .entry)) direction (now (memory .entry)) i (now (names .entry)) (now (head .entry)) header r ⌝ }
 {
-    let uid = Uid(slots::word_at(memory, i, 4));
+    let uid = Uid(slots::word_at(memory, i, UID_AT));
     let gids = slots::gids_at(memory, i);
     let list = gids.list;
     let count = gids.count;
@@ -81,8 +86,8 @@ fn may(
     requires { ⌜ (Asked (now image) (now head) header) × (subject < 16) × (Seated (now memory) other) ⌝ }
     ensures { λ r. ⌜ Says (now (image .entry)) direction (now (memory .entry)) subject other (now (head .entry)) header r ⌝ }
 {
-    let names = wire::least(slots::word_at(memory, other, 208) as usize, 4);
-    let from = 4 + 3292 * other + 212;
+    let names = wire::least(slots::word_at(memory, other, NAMES_AT) as usize, 4);
+    let from = SLOTS_AT + SLOT_LENGTH * other + FIRST_NAME;
     let to = from + 256 * names;
     ask_peer(
         image,

@@ -1,4 +1,8 @@
 // The pending calls of a slot, a table in its caller's slot: one begun, one ended.
+use memory::FIRST_CALLEE;
+use memory::PENDING_AT;
+use memory::SLOT_LENGTH;
+use memory::SLOTS_AT;
 ghost use mathlib.Core.Path.{_≡_};
 ghost use Prim.Native.Nat.{_≤_, _<_};
 ghost use lib.ListN.{length};
@@ -10,10 +14,14 @@ pub fn begin_call(memory: &mut [u8], i: usize, n: usize, callee: u32, serial: u3
     requires { ⌜ (Seated (now memory) i) × (n ≡ length (peerAt (now memory) i .pending)) × (n < 16) ⌝ }
     ensures { λ r. ⌜ Began (now (memory .entry)) i callee serial (now (memory .exit)) ⌝ }
 {
-    let at = 4 + 3292 * i + 80 + 8 * n;
+    let at = SLOTS_AT + SLOT_LENGTH * i + FIRST_CALLEE + 8 * n;
     wire::put_u32(memory, at, callee);
     wire::put_u32(memory, at + 4, serial);
-    wire::put_u32(memory, 4 + 3292 * i + 76, (n + 1) as u32);
+    wire::put_u32(
+        memory,
+        SLOTS_AT + SLOT_LENGTH * i + PENDING_AT,
+        (n + 1) as u32,
+    );
 }
 
 // The peer of slot i, which has n pending calls, no longer awaits the reply to call k.
@@ -21,7 +29,7 @@ pub fn end_call(memory: &mut [u8], i: usize, n: usize, k: usize)
     requires { ⌜ (Seated (now memory) i) × (n ≡ length (peerAt (now memory) i .pending)) × (n ≤ 16) × (k < n) ⌝ }
     ensures { λ r. ⌜ Ended (now (memory .entry)) i k (now (memory .exit)) ⌝ }
 {
-    let at = 4 + 3292 * i + 76;
+    let at = SLOTS_AT + SLOT_LENGTH * i + PENDING_AT;
     let end = at + 132;
     tables::remove(&mut memory[at..end], 8 * k, 8, 8 * n, (n - 1) as u32);
 }
