@@ -2,7 +2,7 @@
 use mathlib.Core.Path.{_≡_, sym, ap, _∙_}
 use mathlib.Core.Bool.{Bool, true, false, not}
 use mathlib.Core.List.{List, [], _∷_}
-use Prim.Native.Nat.{ℕ, _+_, _-_, _*_, _≤_, _<_, min}
+use Prim.Native.Nat.{ℕ, _+_, _-_, _*_, _<_}
 use native.Mathlib.Omega.{arith}
 use native.Mathlib.Nat.{sub-zero}
 use lib.ListN.{length, take, drop, getD}
@@ -44,16 +44,16 @@ asks-peer image direction m i names head x e g q = record { is = q ∙ rw (e, g 
 pub ruleset asking-peer = (asks-peer, needs)
 
 pub says-is : (image : List ℕ) (direction : ℕ) (m : List ℕ) (s o : ℕ) (head : List ℕ) (x : Header) → Seated m o → ((j : ℕ) → Fits w8 (getD m j 0))
-    → {w n : ℕ} → w ≡ wordAt Little m (4 + 3292 * o + 208) → n ≡ min w 4
+    → {n : ℕ} → n ≡ length (peerAt m o .names)
     → {r : Bool}
     → Asks image direction m s (take (4 + 3292 * o + 212 + 256 * n - (4 + 3292 * o + 212)) (drop (4 + 3292 * o + 212) m)) head x r
     → Says image direction m s o head x r
-says-is image direction m s o head x p b {w} {n} e f a =
+says-is image direction m s o head x p b {n} e a =
     let h : o < 16 = p .below in
     let l : length m ≡ 52676 = p .sized in
-    let few : wordAt Little m (4 + 3292 * o + 208) ≤ 4 = held-counted m o (p .held) h (p .some) .fewNames in
+    let c = held-counted m o (p .held) h (p .some) in
     let q : namesIn (take (256 * n) (drop (4 + 3292 * o + 212) m)) ≡ peerAt m o .names
-    = names-in m (4 + 3292 * o) n (λ j. b j .fits) (omega arith) (omega arith) (omega arith) in
+    = names-in m (4 + 3292 * o) n (λ j. b j .fits) (omega arith) (e ∙ c .names) (omega (arith, c .names, c .fewNames)) in
     record { is = a .is ∙ rw (cut-at (4 + 3292 * o + 212) (256 * n) m, q) }
 
 pub ruleset saying = (says-is, needs)

@@ -5,7 +5,6 @@ mod pending;
 use address::Destination;
 use header::Header;
 use memory::FIRST_NAME;
-use memory::NAMES_AT;
 use memory::SLOT_LENGTH;
 use memory::SLOTS_AT;
 use memory::UID_AT;
@@ -86,7 +85,7 @@ fn may(
     requires { ⌜ (Asked (now image) (now head) header) × (subject < 16) × (Seated (now memory) other) ⌝ }
     ensures { λ r. ⌜ Says (now (image .entry)) direction (now (memory .entry)) subject other (now (head .entry)) header r ⌝ }
 {
-    let names = wire::least(slots::word_at(memory, other, NAMES_AT) as usize, 4);
+    let names = slots::count_names(memory, other);
     let from = SLOTS_AT + SLOT_LENGTH * other + FIRST_NAME;
     let to = from + 256 * names;
     ask_peer(
