@@ -17,7 +17,7 @@ use Rattle.memory.specs.Layout.{slotStart}
 use Rattle.memory.specs.Encoding.{pendingBytes, streamBytes, slotBytes, memoryOf, stateOf}
 use Rattle.memory.specs.Sound.{Held}
 use Rattle.memory.proofs.Frame.{pending-length, cell-length, slot-length}
-use Rattle.memory.proofs.Fields.{put-field, put-names, put-pending, put-stream, names-bytes, pending-bytes}
+use Rattle.memory.proofs.Fields.{put-field, put-names, put-pending, put-stream, table-part, names-in, pending-in}
 use Rattle.memory.proofs.Reading.{sixteen, numberAt, peerFrom, slot-peer}
 use Rattle.memory.proofs.Good.{good-is}
 use Rattle.memory.proofs.Held.{held-peer}
@@ -39,13 +39,13 @@ module _ (m : List ℕ) (bytes : (j : ℕ) → getD m j 0 < 256) (g : Held m) (i
   names-stand =
       sym (part-of m (slotStart i) 208 1028 (omega arith))
       ∙ ap (λ (z : List ℕ). take 1028 (drop 208 z)) (held-peer m i g h some)
-      ∙ names-bytes (peerFrom m (slotStart i))
+      ∙ table-part (names-in (peerFrom m (slotStart i)))
 
   pub pending-stands : take 132 (drop (slotStart i + 76) m) ≡ tableBytes 8 16 pendingBytes (peerFrom m (slotStart i) .pending)
   pending-stands =
       sym (part-of m (slotStart i) 76 132 (omega arith))
       ∙ ap (λ (z : List ℕ). take 132 (drop 76 z)) (held-peer m i g h some)
-      ∙ pending-bytes (peerFrom m (slotStart i))
+      ∙ table-part (pending-in (peerFrom m (slotStart i)))
 
   -- ---- a field put in slot i: `new` are the c bytes at b of it that differ
 

@@ -16,7 +16,7 @@ use Rattle.rules.specs.State.{Pending, peer}
 use Rattle.rules.specs.Pending.{endedAll, bereft}
 use Rattle.memory.specs.Encoding.{pendingBytes, pendingOf, slotBytes, peerOf, slotOf, memoryOf, stateOf}
 use Rattle.memory.proofs.Reading.{sixteen, slot-at, numberAt, part-peer, part-number}
-use Rattle.memory.proofs.Fields.{pending-bytes}
+use Rattle.memory.proofs.Fields.{table-part, pending-in}
 use Rattle.memory.proofs.Frame.{slot-length, memory-at}
 use Rattle.memory.proofs.Bereft.{bereft-free, bereft-peer, pending-of}
 use Rattle.memory.proofs.Sweep.{changed, Sweeping, sweeping-begins, sweeping-again, sweeping-ends}
@@ -69,7 +69,7 @@ module _ (m : List ℕ) (i : ℕ) (p : PlainSlot m i) (n : ℕ) (e : n ≡ numbe
     slot-table =
         let s : slotBytes (peer (peerOf part)) ≡ part = ap slotBytes (sym (part-peer part taken)) ∙ p .plain in
         let q : take 132 (drop 76 part) ≡ tableBytes 8 16 pendingBytes (peerOf part .pending)
-        = ap (λ (y : List ℕ). take 132 (drop 76 y)) (sym s) ∙ pending-bytes (peerOf part) in
+        = ap (λ (y : List ℕ). take 132 (drop 76 y)) (sym s) ∙ table-part (pending-in (peerOf part)) in
         rw cut-table (q ∙ ap (tableBytes 8 16 pendingBytes) (sym pending-is))
 
     pub slot-ended : (c : ℕ) (t : List ℕ)
