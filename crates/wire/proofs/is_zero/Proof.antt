@@ -1,30 +1,17 @@
 -- `wire::is_zero` meets its contract. Assumes nothing.
-use Prim.Native.Nat.{_-_}
-use Rattle.wire.proofs.Blocks.{Zeros, zeros}
+use borrow.Author.Needs.{needs}
 use Rattle.wire.proofs.is_zero.Statement.{statement}
 use Rattle.wire.proofs.is_zero.Tie as tie
-
-abbrev Inv-loop : tie.InvT-loop
-Inv-loop s from to last i₀ i = Zeros s from to i
-
-abbrev μ-loop : tie.MeasureT-loop
-μ-loop s from to last i₀ i = to - i
 
 pub is-zero-spec : {M : Type 1} → statement M
 is-zero-spec =
     tie.close
     (tie.spec
-    Inv-loop
-    μ-loop
-    (λ c. search zeros)
-    (λ c κs. search zeros)
-    (λ c. search zeros)
-    (λ c. search zeros)
-    (λ c. search zeros)
-    (λ c κs. search zeros)
-    (λ c. search zeros)
-    (λ c. search zeros)
-    (λ c. search zeros)
-    (λ c. search zeros)
-    (λ c κs. search zeros)
-    (λ c. search zeros))
+    (λ c. search needs)
+    (λ c κs. search needs)
+    (λ c. search needs)
+    (λ c. search needs)
+    (λ c κs. search needs)
+    (λ c. search needs)
+    (λ c κs. search needs)
+    (λ c. search needs))
