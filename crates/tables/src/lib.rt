@@ -21,7 +21,7 @@ fn shift(s: &mut [u8], at: usize, w: usize, end: usize)
 }
 
 // Takes the w bytes at `at` out of the first `end`: the later ones move down, and the last w of them are zero.
-pub fn cut_out(s: &mut [u8], at: usize, w: usize, end: usize)
+fn cut_out(s: &mut [u8], at: usize, w: usize, end: usize)
     requires { ⌜ Cell (now s) at w end ⌝ }
     ensures { λ r. ⌜ now (s .exit) ≡ cutOut w end at (now (s .entry)) ⌝ }
 {

@@ -21,10 +21,6 @@ drop-take (suc n) k (x ∷ l) = rw (suc-add n k) (drop-take n k l)
 
 -- ---- a part between two others
 
--- it is read at its place
-pub part-at : (pre part post : List ℕ) (a k : ℕ) → length pre ≡ a → length part ≡ k → take k (drop a (pre ++ (part ++ post))) ≡ part
-part-at pre part post a k p q = rw (drop-at pre (part ++ post) a p, take-at part post k q)
-
 -- it is put at its place
 pub part-put : (pre old new post : List ℕ) (a k : ℕ) → length pre ≡ a → length old ≡ k
     → pre ++ (new ++ post) ≡ take a (pre ++ (old ++ post)) ++ (new ++ drop (a + k) (pre ++ (old ++ post)))
