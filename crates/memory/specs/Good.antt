@@ -20,7 +20,7 @@ use Rattle.memory.specs.Encoding.{slotBytes, slotOf, stateOf}
 abbrev pub nobody : (Slot Tail → Bool) → List (Slot Tail) → Bool
 nobody t slots = not (any t slots)
 
--- a name is one that a peer may own, and stands in none of the slots after its own and once in these
+-- each name is one that a peer may own, stands once among these, and in none of the slots after its own
 unfoldable pub goodNames : List (List ℕ) → List (Slot Tail) → Bool
 goodNames names later = distinct (λ x. ownable x && nobody (isOwner x) later) (λ x y. same y x) names
 
