@@ -1,10 +1,10 @@
 -- The stream of a slot, in good memory. Assumes nothing.
-use mathlib.Core.Path.{_≡_, refl, sym, ap, ap₂, subst, _∙_}
+use mathlib.Core.Path.{_≡_, refl, sym, ap, subst, _∙_}
 use mathlib.Core.Bool.{Bool, false}
 use mathlib.Core.List.{List, _++_, append-assoc}
 use Prim.Native.Nat.{ℕ, _+_, _-_, _*_, _≤_, _<_, min}
 use native.Mathlib.Omega.{arith}
-use lib.ListN.{length, take, drop, getD, replicate, length-drop, take-append-drop, replicate-append-replicate}
+use lib.ListN.{length, take, drop, getD, replicate, length-drop, replicate-append-replicate}
 use lib.Seq.{drop-drop, take-take, length-take-le}
 use mir.Syntax.{w8}
 use mir.Val.{Fits}
@@ -13,7 +13,7 @@ use Rattle.wire.specs.Bytes.{pad}
 use Rattle.wire.specs.Words.{wordAt, wordBytes}
 use Rattle.wire.specs.declared.Order.the-variants.{Little}
 use Rattle.wire.proofs.Words.{cut-at, put-at}
-use Rattle.wire.proofs.Parts.{drop-take}
+use Rattle.wire.proofs.Parts.{drop-take, zeros-front}
 use Rattle.tables.proofs.Words.{word-part}
 use Rattle.stream.specs.Stream.{offer}
 use Rattle.stream.specs.Tail.{Tail, tails, closed, fresh, goodTail}
@@ -127,7 +127,7 @@ module _ (m : List ℕ) (f : (j : ℕ) → Fits w8 (getD m j 0)) (i : ℕ) (s : 
 -- k zeros at b, and w more behind them
 zeros-more : (m : List ℕ) (b k w : ℕ) → take w (drop (b + k) m) ≡ replicate w 0 → replicate k 0 ++ drop (b + k) m ≡ replicate (k + w) 0 ++ drop (b + k + w) m
 zeros-more m b k w e =
-    ap (λ (y : List ℕ). replicate k 0 ++ y) (sym (take-append-drop w (drop (b + k) m)) ∙ ap₂ _++_ e (drop-drop w (b + k) m))
+    ap (λ (y : List ℕ). replicate k 0 ++ y) (zeros-front m (b + k) w e)
     ∙ sym (append-assoc (replicate k 0) (replicate w 0) (drop (b + k + w) m))
     ∙ ap (λ (y : List ℕ). y ++ drop (b + k + w) m) (replicate-append-replicate k w 0)
 

@@ -1,6 +1,6 @@
 -- Lists cut and put together: what stands past a part of known length, a part put at its place, zeros. Assumes nothing.
 use mathlib.Core.List.{List, [], _∷_, _++_, append-assoc}
-use mathlib.Core.Path.{_≡_, refl, sym, ap, _∙_}
+use mathlib.Core.Path.{_≡_, refl, sym, ap, ap₂, _∙_}
 use Prim.Native.Nat.{ℕ, zero, suc, _+_, _-_, _≤_}
 use native.Mathlib.Omega.{arith}
 use native.Mathlib.Nat.{zero-add, suc-add, sub-zero, zero-sub}
@@ -75,6 +75,10 @@ pub take-zeros : (i n : ℕ) → i ≤ n → take {A = ℕ} i (replicate n 0) �
 take-zeros zero n h = refl
 take-zeros (suc i) zero h = absurd (omega arith)
 take-zeros (suc i) (suc n) h = ap (λ (z : List ℕ). 0 ∷ z) (take-zeros i n (omega arith))
+
+-- w zeros in front
+pub zeros-front : (m : List ℕ) (a w : ℕ) → take w (drop a m) ≡ replicate w 0 → drop a m ≡ replicate w 0 ++ drop (a + w) m
+zeros-front m a w e = sym (take-append-drop w (drop a m)) ∙ ap₂ _++_ e (drop-drop w a m)
 
 -- ---- padding
 
