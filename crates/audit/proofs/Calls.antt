@@ -1,48 +1,54 @@
 -- The pending calls of a slot, one after the other. Assumes nothing.
-use mathlib.Core.Path.{_≡_, refl, sym, ap, _∙_}
+use mathlib.Core.Path.{_≡_, refl, sym, _∙_}
 use mathlib.Core.Bool.{Bool, true, false, not, _&&_, and-false}
-use mathlib.Core.List.{List, [], _∷_}
-use Prim.Native.Nat.{ℕ, suc, _+_, _-_, _*_, _≤_, _<_, min}
+use mathlib.Core.List.{List}
+use Prim.Native.Nat.{ℕ, _+_, _≤_, _<_}
 use native.Mathlib.Omega.{arith}
 use lib.Dec.{leb}
-use lib.ListN.{length, take, drop, getD, length-drop}
+use lib.ListN.{length, drop, length-drop, drop-of-length-le}
 use borrow.Author.Needs.{needs}
-use borrow.Author.Tests.{le-leb, lt-leb, not-true, not-false}
-use Rattle.wire.specs.Words.{wordAt}
-use Rattle.wire.specs.declared.Order.the-variants.{Little}
-use Rattle.tables.proofs.Table.{table-past}
+use borrow.Author.Tests.{le-leb, lt-leb, lt-ltb, le-ltb, not-true, not-false}
+use Rattle.wire.specs.Lists.{distinct}
 use Rattle.rules.specs.State.{isPeer, firstBy}
 use Rattle.rules.specs.Pending.{isCall, awaits}
-use Rattle.memory.specs.Encoding.{pendingOf, stateOf}
-use Rattle.memory.specs.Good.{nobody, goodPending}
+use Rattle.rules.proofs.Waits.{awaits-first}
+use Rattle.memory.specs.Encoding.{stateOf}
+use Rattle.memory.specs.Good.{goodPending}
 use Rattle.memory.proofs.Search.{Found}
-use Rattle.memory.proofs.Reading.{pending-next, pending-many}
 use Rattle.slots.specs.Slots.{peerAt, CallAt}
+use Rattle.slots.proofs.Cells.{calls-next, before}
 use Rattle.audit.specs.Tests.{calleeAt, serialAt, callTest}
-use Rattle.audit.proofs.Nobody.{nobody-found, awaits-first, same-leb}
+use Rattle.audit.proofs.Found.{found-any, not-ltb}
 
 -- ---- call j, whose callee is c and whose serial is s
 
-module _ (m : List ℕ) (i j c s : ℕ) (p : c ≡ calleeAt m i j) (q : s ≡ serialAt m i j) (f : ℕ) (g : Found (isPeer c) m 0 f) where
-  pub call-gone : 16 ≤ f → false ≡ callTest m i j
+module _ (m : List ℕ) (i j c s : ℕ) (p : c ≡ calleeAt m i j) (q : s ≡ serialAt m i j) where
+  pub call-zero : s ≡ 0 → false ≡ callTest m i j
   unfolding callTest
-  call-gone h = rw (← p, ← nobody-found (isPeer c) m 0 f (omega arith) g, le-leb 16 f h)
+  call-zero z = rw (← q, lt-leb 1 s (omega arith), and-false)
 
-  module _ (h : f < 16) where
-    pub call-zero : s ≡ 0 → false ≡ callTest m i j
+  module _ (f : ℕ) (g : Found (isPeer c) m 0 f) where
+    pub call-gone : 16 ≤ f → false ≡ callTest m i j
     unfolding callTest
-    call-zero z = rw (← p, ← q, ← nobody-found (isPeer c) m 0 f (omega arith) g, lt-leb 16 f h, lt-leb 1 s (omega arith))
+    call-gone h = rw (← p, found-any (isPeer c) m 0 f g, le-ltb f 16 h)
 
-    pub call-good : (s ≡ 0 → ⊥) → (n r k : ℕ) → n ≡ wordAt Little m (4 + 3292 * i + 76) → k ≡ min n 16
-        → CallAt m i c s (j + 1) r
-        → leb k r ≡ callTest m i j
+    pub call-good : f < 16 → (s ≡ 0 → ⊥) → (r k : ℕ) → k ≡ length (peerAt m i .pending) → CallAt m i c s (j + 1) r → leb k r ≡ callTest m i j
     unfolding callTest
-    call-good z n r k e o a =
-        let l : length (peerAt m i .pending) ≡ min n 16 = pending-many m (4 + 3292 * i) ∙ rw e in
-        let d : length (drop (j + 1) (peerAt m i .pending)) ≡ length (peerAt m i .pending) - (j + 1) = length-drop (j + 1) (peerAt m i .pending) in
-        let w : r ≡ j + 1 + firstBy (isCall c s) (drop (j + 1) (peerAt m i .pending)) = a .is in
-        rw (← p, ← q, ← nobody-found (isPeer c) m 0 f (omega arith) g, lt-leb 16 f h, le-leb 1 s (omega arith), awaits-first c s (drop (j + 1) (peerAt m i .pending)))
-        (same-leb k r (length (drop (j + 1) (peerAt m i .pending))) (firstBy (isCall c s) (drop (j + 1) (peerAt m i .pending))) (λ x. omega arith) (λ x. omega arith))
+    call-good h z r k e a =
+        let ps = peerAt m i .pending in
+        rw (
+          ← p,
+          ← q,
+          found-any (isPeer c) m 0 f g,
+          lt-ltb f 16 h,
+          le-leb 1 s (omega arith),
+          awaits-first c s (drop (j + 1) ps),
+          length-drop (j + 1) ps,
+          before (firstBy (isCall c s) (drop (j + 1) ps)) (length ps) (j + 1),
+          ← a .is,
+          ← e,
+        )
+        (sym (not-ltb r k))
 
 pub ruleset call-tests = (call-gone, call-zero, call-good, needs)
 
@@ -53,19 +59,16 @@ pub record Calling (m : List ℕ) (i count j : ℕ) : Type 0 where
   pub long : length (peerAt m i .pending) ≡ count
   pub left : goodPending (stateOf m .slots) (peerAt m i .pending) ≡ goodPending (stateOf m .slots) (drop j (peerAt m i .pending))
 
-pub calling-begins : {m : List ℕ} {i count n : ℕ} → n ≡ wordAt Little m (4 + 3292 * i + 76) → count ≡ min n 16 → Calling m i count 0
-calling-begins {m} {i} e c = record { few = omega arith; long = pending-many m (4 + 3292 * i) ∙ rw (← e) (sym c); left = refl }
+pub calling-begins : {m : List ℕ} {i count : ℕ} → count ≡ length (peerAt m i .pending) → count ≤ 16 → Calling m i count 0
+calling-begins e h = record { few = h; long = sym e; left = refl }
 
 module _ {m : List ℕ} {i count j : ℕ} (l : Calling m i count j) where
   module _ (h : j < count) {r : Bool} (e : r ≡ callTest m i j) where
     -- call j, and those after it
     step : goodPending (stateOf m .slots) (drop j (peerAt m i .pending))
         ≡ callTest m i j && goodPending (stateOf m .slots) (drop (j + 1) (peerAt m i .pending))
-    unfolding goodPending callTest
-    step =
-        let k : 4 + 3292 * i + 80 + 8 * j ≡ 4 + 3292 * i + (80 + 8 * j) = omega arith in
-        let o : 4 + 3292 * i + 84 + 8 * j ≡ 4 + 3292 * i + (84 + 8 * j) = omega arith in
-        rw (pending-next m (4 + 3292 * i) j (omega (arith, l .long)), k, o)
+    unfolding goodPending distinct awaits callTest
+    step = rw (calls-next m i j (omega (arith, l .long)))
 
     pub calling-more : not r ≡ false → Calling m i count (j + 1)
     calling-more t = record { few = l .few; long = l .long; left = l .left ∙ step ∙ rw (← e, not-false r t) }
@@ -74,7 +77,7 @@ module _ {m : List ℕ} {i count j : ℕ} (l : Calling m i count j) where
     calling-stops t = sym (l .left ∙ step ∙ rw (← e, not-true r t))
 
   pub calling-ends : count ≤ j → true ≡ goodPending (stateOf m .slots) (peerAt m i .pending)
-  unfolding goodPending
-  calling-ends h = sym (l .left ∙ rw (table-past 8 16 pendingOf (drop (4 + 3292 * i + 76) m) j (omega (arith, l .long))))
+  unfolding goodPending distinct
+  calling-ends h = sym (l .left ∙ rw (drop-of-length-le (peerAt m i .pending) {i = j} (omega (arith, l .long))))
 
 pub ruleset calling = (calling-begins, calling-more, calling-stops, calling-ends, needs)

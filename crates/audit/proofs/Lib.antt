@@ -1,4 +1,4 @@
-mod Nobody
+mod Found
 mod Names
 mod Calls
 mod Shape

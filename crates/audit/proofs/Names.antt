@@ -1,29 +1,28 @@
 -- The names of a slot, one after the other. Assumes nothing.
-use mathlib.Core.Path.{_≡_, refl, sym, ap, _∙_}
-use mathlib.Core.Bool.{Bool, true, false, not, _&&_, and-false}
-use mathlib.Core.List.{List, [], _∷_}
-use Prim.Native.Nat.{ℕ, _+_, _-_, _*_, _≤_, _<_, min}
+use mathlib.Core.Path.{_≡_, refl, sym, _∙_}
+use mathlib.Core.Bool.{Bool, true, false, not, _&&_, and-true, and-false}
+use mathlib.Core.List.{List}
+use Prim.Native.Nat.{ℕ, _+_, _-_, _*_, _≤_, _<_}
 use native.Mathlib.Omega.{arith}
 use lib.Dec.{leb}
-use lib.ListN.{length, take, drop, getD}
+use lib.ListN.{length, take, drop, getD, drop-of-length-le}
 use borrow.Author.Needs.{needs}
 use borrow.Author.Tests.{not-true, not-false}
 use Rattle.wire.specs.Bytes.{same, bytes}
-use Rattle.wire.specs.Words.{wordAt}
-use Rattle.wire.specs.declared.Order.the-variants.{Little}
+use Rattle.wire.specs.Lists.{distinct}
 use Rattle.wire.proofs.Words.{cut-at}
-use Rattle.names.specs.Names.{wellKnown, validName}
+use Rattle.names.specs.Names.{validName}
 use Rattle.names.specs.declared.Form.the-variants.{WellKnown}
-use Rattle.policy.specs.Names.{owns, busName}
+use Rattle.policy.specs.Names.{owns}
 use Rattle.rules.specs.Addresses.{ownable}
 use Rattle.rules.specs.Calls.{isOwner}
 use Rattle.memory.specs.Encoding.{stateOf}
-use Rattle.memory.specs.Good.{nobody, goodNames}
+use Rattle.memory.specs.Good.{goodNames}
 use Rattle.memory.proofs.Search.{Found}
 use Rattle.slots.specs.Slots.{peerAt, nameAt}
-use Rattle.slots.proofs.Cells.{names-next, names-past}
+use Rattle.slots.proofs.Cells.{names-next, name-byte}
 use Rattle.audit.specs.Tests.{nameTest}
-use Rattle.audit.proofs.Nobody.{nobody-found}
+use Rattle.audit.proofs.Found.{found-any, not-ltb}
 
 pub is-ownable : (name : List ℕ) (v e : Bool) → v ≡ validName WellKnown name → e ≡ same name (bytes "org.freedesktop.DBus") → v && not e ≡ ownable name
 unfolding validName
@@ -33,7 +32,7 @@ pub ruleset ownables = (is-ownable, needs)
 
 -- ---- name j: x is its text, as the code cuts it
 
-module _ (m : List ℕ) (i j b : ℕ) (h : i < 16) (e : b ≡ getD m (4 + 3292 * i + 212 + 256 * j) 0) where
+module _ (m : List ℕ) (i j b : ℕ) (e : b ≡ getD m (4 + 3292 * i + 212 + 256 * j) 0) where
   -- the text that the code lends
   abbrev text : List ℕ
   text = take (4 + 3292 * i + 212 + 256 * j + 1 + b - (4 + 3292 * i + 212 + 256 * j + 1)) (drop (4 + 3292 * i + 212 + 256 * j + 1) m)
@@ -53,10 +52,8 @@ module _ (m : List ℕ) (i j b : ℕ) (h : i < 16) (e : b ≡ getD m (4 + 3292 *
 
       pub name-good : not o ≡ false → w ≡ false → (r : ℕ) → Found (isOwner text) m (i + 1) r → leb 16 r ≡ nameTest m i j
       unfolding nameTest
-      name-good s t r f = rw (← text-is, ← p, not-false o s, ← q, t) (nobody-found (isOwner text) m (i + 1) r (omega arith) f)
-
-pub name-byte : (m : List ℕ) (at b : ℕ) → b ≡ getD m at 0 → b < 256 → getD m at 0 < 256
-name-byte m at b e h = omega arith
+      name-good s t r f =
+          rw (← text-is, ← p, not-false o s, ← q, t, found-any (isOwner text) m (i + 1) r f, and-true) (sym (not-ltb r 16))
 
 pub ruleset name-tests = (name-bad, name-twice, name-good, name-byte, needs)
 
@@ -64,19 +61,19 @@ pub ruleset name-tests = (name-bad, name-twice, name-good, name-byte, needs)
 
 pub record Naming (m : List ℕ) (i count j : ℕ) : Type 0 where
   pub few : count ≤ 4
-  pub counted : count ≡ min (wordAt Little m (4 + 3292 * i + 208)) 4
+  pub counted : count ≡ length (peerAt m i .names)
   pub left : goodNames (peerAt m i .names) (drop (i + 1) (stateOf m .slots)) ≡ goodNames (drop j (peerAt m i .names)) (drop (i + 1) (stateOf m .slots))
 
-pub naming-begins : {m : List ℕ} {i count n : ℕ} → n ≡ wordAt Little m (4 + 3292 * i + 208) → count ≡ min n 4 → Naming m i count 0
-naming-begins e c = record { few = omega arith; counted = rw (← e) c; left = refl }
+pub naming-begins : {m : List ℕ} {i count : ℕ} → count ≡ length (peerAt m i .names) → count ≤ 4 → Naming m i count 0
+naming-begins e h = record { few = h; counted = e; left = refl }
 
 module _ {m : List ℕ} {i count j : ℕ} (l : Naming m i count j) where
   module _ (h : j < count) (b : getD m (4 + 3292 * i + 212 + 256 * j) 0 < 256) {r : Bool} (e : r ≡ nameTest m i j) where
     -- name j, and those after it
     step : goodNames (drop j (peerAt m i .names)) (drop (i + 1) (stateOf m .slots))
         ≡ nameTest m i j && goodNames (drop (j + 1) (peerAt m i .names)) (drop (i + 1) (stateOf m .slots))
-    unfolding goodNames nameTest
-    step = rw (names-next m i j count (l .counted) h b)
+    unfolding goodNames distinct owns nameTest
+    step = rw (names-next m i j (omega (arith, l .counted)) b)
 
     pub naming-more : not r ≡ false → Naming m i count (j + 1)
     naming-more t = record { few = l .few; counted = l .counted; left = l .left ∙ step ∙ rw (← e, not-false r t) }
@@ -85,7 +82,7 @@ module _ {m : List ℕ} {i count j : ℕ} (l : Naming m i count j) where
     naming-stops t = sym (l .left ∙ step ∙ rw (← e, not-true r t))
 
   pub naming-ends : count ≤ j → true ≡ goodNames (peerAt m i .names) (drop (i + 1) (stateOf m .slots))
-  unfolding goodNames
-  naming-ends h = sym (l .left ∙ rw (names-past m i j count (l .counted) h))
+  unfolding goodNames distinct
+  naming-ends h = sym (l .left ∙ rw (drop-of-length-le (peerAt m i .names) {i = j} (omega (arith, l .counted))))
 
 pub ruleset naming = (naming-begins, naming-more, naming-stops, naming-ends, needs)

@@ -1,31 +1,31 @@
 -- A slot is the bytes of the peer that is read off it exactly where its tables have their shape. Assumes nothing.
-use mathlib.Core.Path.{_≡_, refl, sym, ap, ap₂, _∙_}
-use mathlib.Core.Bool.{Bool, true, false, not, _&&_, and-true}
-use mathlib.Core.List.{List, [], _∷_, _++_, map, append-nil}
-use Prim.Native.Nat.{ℕ, zero, suc, _+_, _-_, _*_, _≤_, _<_, min}
+use mathlib.Core.Path.{_≡_, refl, sym, ap, _∙_}
+use mathlib.Core.Bool.{Bool, true, false, _&&_}
+use mathlib.Core.List.{List, _++_}
+use Prim.Native.Nat.{ℕ, _+_, _-_, _*_, _≤_, _<_, min}
 use native.Mathlib.Omega.{arith}
 use native.Mathlib.Decide.{decLe}
 use native.Mathlib.Nat.{add-zero, mul-le-mul-left}
-use lib.Dec.{leb, eqb}
-use lib.ListN.{length, take, drop, getD, length-take, length-drop, take-append-drop}
-use lib.Seq.{getD-take, getD-drop, drop-drop, length-take-le, take-take}
+use lib.Dec.{leb}
+use lib.ListN.{length, take, drop, getD, length-drop}
+use lib.Seq.{drop-drop, length-take-le, take-take}
 use borrow.Author.Tests.{le-leb, lt-leb, ne-eqb}
-use Rattle.wire.specs.Bytes.{allZero, same, front, pad}
+use Rattle.wire.specs.Bytes.{allZero, same, front}
 use Rattle.wire.specs.Words.{wordAt, wordBytes}
 use Rattle.wire.specs.declared.Order.the-variants.{Little}
 use Rattle.wire.proofs.Texts.{same-refl}
 use Rattle.wire.proofs.Words.{word-length, bytes-again}
-use Rattle.tables.specs.Tables.{cells, parts, tableBytes, tableOf}
-use Rattle.tables.proofs.Words.{word-take, word-part, word-front, bytes-take, bytes-drop}
+use Rattle.tables.specs.Tables.{tableBytes, tableOf}
+use Rattle.tables.proofs.Words.{word-part, word-front, bytes-take, bytes-drop, word-cut}
 use Rattle.tables.proofs.Table.{table-length, table-take}
 use Rattle.tables.proofs.Same.{same-zeros, same-split, plainCells, table-same, plain-always}
 use Rattle.policy.specs.Names.{cellOf, nameOf}
 use Rattle.stream.specs.Tail.{Tail}
-use Rattle.rules.specs.State.{Pending, Peer, Slot, free, peer}
+use Rattle.rules.specs.State.{Slot, free, peer}
 use Rattle.memory.specs.Encoding.{pendingBytes, headBytes, peerBytes, slotBytes, wordOf, pendingOf, slotOf}
 use Rattle.memory.proofs.Reading.{peerFrom, slot-take, peer-from}
 use Rattle.memory.proofs.Heads.{single, single-length, head-table, head-of, single-plain}
-use Rattle.memory.proofs.Frame.{pending-length, cell-length, head-length}
+use Rattle.memory.proofs.Frame.{pending-length, cell-length}
 use Rattle.audit.specs.Tests.{tableTest, cellsTest, shapeTest}
 use Rattle.audit.proofs.Shape.{drop-part}
 
@@ -87,15 +87,9 @@ module _ (m : List ℕ) (f : (i : ℕ) → getD m i 0 < 256) where
 
 pending-again : (b : List ℕ) → length b ≡ 8 → ((i : ℕ) → getD b i 0 < 256) → pendingBytes (pendingOf b) ≡ b
 pending-again b l f =
-    let p : length (take 4 b) ≡ 4 = length-take-le 4 b (omega arith) in
     let q : length (drop 4 b) ≡ 4 = length-drop 4 b ∙ omega arith in
-    let u : wordAt Little (take 4 b) 0 ≡ wordAt Little b 0 = word-take b 4 0 (omega arith) in
-    let x : wordBytes (wordAt Little b 0) ≡ take 4 b = rw (← u) (bytes-again (take 4 b) p (bytes-take 4 b f)) in
     let y : wordBytes (wordAt Little b 4) ≡ drop 4 b = rw (← word-front b 4) (bytes-again (drop 4 b) q (bytes-drop 4 b f)) in
-    ap₂ _++_ x y ∙ take-append-drop 4 b
-
-word-again : (b : List ℕ) → length b ≡ 4 → ((i : ℕ) → getD b i 0 < 256) → wordBytes (wordOf b) ≡ b
-word-again b l f = bytes-again b l f
+    ap (λ (z : List ℕ). wordBytes (wordAt Little b 0) ++ z) y ∙ sym (word-cut b (omega arith) f)
 
 -- ---- a whole slot
 
@@ -131,7 +125,7 @@ module _ (m : List ℕ) (f : (i : ℕ) → getD m i 0 < 256) (a : ℕ) (h : a + 
       ∙ word-same m f (g ++ (p ++ (n ++ (wordBytes (wordAt Little m (a + 1236)) ++ t)))) (a + 4) 3288 (omega arith) (omega arith)
       ∙ rw u
       (same-part g (p ++ (n ++ (wordBytes (wordAt Little m (a + 1236)) ++ t))) m (a + 8) 68 3284 (table-length 4 16 wordBytes (tableOf 4 16 wordOf (drop (a + 8) m))) (omega arith)
-      ∙ rw (v, table-plain m f 4 16 wordBytes word-length wordOf word-again (a + 8) (omega arith) (omega arith))
+      ∙ rw (v, table-plain m f 4 16 wordBytes word-length wordOf bytes-again (a + 8) (omega arith) (omega arith))
       (ap (λ (b : Bool). tableTest m (a + 8) 4 16 && b)
       (same-part p (n ++ (wordBytes (wordAt Little m (a + 1236)) ++ t)) m (a + 76) 132 3216 (table-length 8 16 pendingBytes (tableOf 8 16 pendingOf (drop (a + 76) m))) (omega arith)
       ∙ rw (w, table-plain m f 8 16 pendingBytes pending-length pendingOf pending-again (a + 76) (omega arith) (omega arith))

@@ -1,13 +1,13 @@
 -- The shape of a slot, table by table: what the loops find. Assumes nothing.
-use mathlib.Core.Path.{_≡_, refl, sym, ap, _∙_}
+use mathlib.Core.Path.{_≡_, refl, sym, _∙_}
 use mathlib.Core.Bool.{Bool, true, false, not, _&&_}
 use mathlib.Core.List.{List, [], _∷_}
-use Prim.Native.Nat.{ℕ, suc, _+_, _-_, _*_, _≤_, _<_, min}
+use Prim.Native.Nat.{ℕ, _+_, _-_, _*_, _≤_, _<_}
 use native.Mathlib.Omega.{arith}
-use native.Mathlib.Nat.{mul-le-mul-left, add-zero}
-use lib.Dec.{leb, eqb}
+use native.Mathlib.Nat.{mul-le-mul-left}
+use lib.Dec.{eqb}
 use lib.ListN.{length, take, drop, getD, length-take, length-drop}
-use lib.Seq.{getD-take, getD-drop, drop-drop, length-take-le, take-take}
+use lib.Seq.{drop-drop, length-take-le, take-take}
 use mir.Syntax.{w64}
 use mir.Val.{Fits}
 use borrow.Author.Needs.{needs}
@@ -15,10 +15,11 @@ use borrow.Author.Tests.{le-leb, lt-leb, eq-eqb, not-true, not-false}
 use Rattle.wire.specs.Bytes.{allZero, same, front, pad}
 use Rattle.wire.specs.Words.{wordAt}
 use Rattle.wire.specs.declared.Order.the-variants.{Little}
-use Rattle.tables.proofs.Parts.{drop-take}
+use Rattle.wire.proofs.Parts.{drop-take}
 use Rattle.tables.proofs.Same.{same-pad, plainCells, plain-next, plain-end}
 use Rattle.policy.specs.Names.{cellOf, nameOf}
 use Rattle.memory.proofs.Frame.{cell-length}
+use Rattle.slots.proofs.Cells.{cell-front}
 use Rattle.audit.specs.Tests.{plainCell, tableTest, cellsTest}
 
 -- ---- a product in bounds
@@ -52,11 +53,8 @@ pub drop-part : (n k c : ℕ) (l : List ℕ) → c + n ≡ k → drop n (take k 
 drop-part n k c l e = let f : k ≡ n + c = omega arith in rw f (drop-take n c l)
 
 module _ (m : List ℕ) (a b : ℕ) (e : b ≡ getD m a 0) (s : b < 256) (l : a + 256 ≤ length m) where
-  cell : List ℕ
-  cell = take 256 (drop a m)
-
   front-is : front (take 256 (drop a m)) ≡ b
-  front-is = getD-take 256 (drop a m) 0 0 (omega arith) ∙ getD-drop a m 0 0 ∙ rw (add-zero, e)
+  front-is = cell-front m a ∙ sym e
 
   rest : drop 1 (take 256 (drop a m)) ≡ take 255 (drop (a + 1) m)
   rest = drop-part 1 256 255 (drop a m) (omega arith) ∙ rw (drop-drop 1 a m)

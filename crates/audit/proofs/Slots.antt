@@ -1,32 +1,31 @@
 -- A slot, and the slots one after the other. Assumes nothing.
-use mathlib.Core.Path.{_≡_, refl, sym, ap, ap₂, _∙_}
+use mathlib.Core.Path.{_≡_, refl, sym, _∙_}
 use mathlib.Core.Bool.{Bool, true, false, not, _&&_, and-true, and-false}
 use mathlib.Core.List.{List, [], _∷_}
-use Prim.Native.Nat.{ℕ, suc, _+_, _-_, _*_, _≤_, _<_, min}
+use Prim.Native.Nat.{ℕ, _+_, _-_, _*_, _≤_, _<_, min}
 use native.Mathlib.Omega.{arith}
 use native.Mathlib.Numerals.{add-one}
-use lib.Dec.{leb, eqb}
-use lib.ListN.{length, take, drop, getD, drop-of-length-le, length-drop, length-take}
+use lib.ListN.{length, take, drop, getD, drop-of-length-le, length-drop}
 use lib.Seq.{drop-cons, take-take, length-take-le}
 use mir.Syntax.{w8}
 use mir.Val.{Fits}
 use borrow.Author.Needs.{needs}
-use borrow.Author.Tests.{le-leb, lt-leb, eq-eqb, ne-eqb, not-true, not-false}
+use borrow.Author.Tests.{le-leb, lt-leb, lt-ltb, le-ltb, eq-eqb, ne-eqb, not-true, not-false}
 use Rattle.wire.specs.Bytes.{allZero, same}
 use Rattle.wire.specs.Words.{wordAt}
 use Rattle.wire.specs.declared.Order.the-variants.{Little}
 use Rattle.wire.proofs.Words.{cut-at}
 use Rattle.tables.specs.Tables.{parts}
-use Rattle.tables.proofs.Cells.{parts-length, parts-at}
-use Rattle.stream.specs.Tail.{Tail, goodTail}
-use Rattle.rules.specs.State.{Slot, free, peer, isPeer}
+use Rattle.tables.proofs.Cells.{parts-length}
+use Rattle.stream.specs.Tail.{goodTail}
+use Rattle.rules.specs.State.{free, peer, isPeer}
 use Rattle.memory.specs.Encoding.{slotOf, slotBytes, stateOf}
-use Rattle.memory.specs.Good.{nobody, goodNames, goodPending, goodPeer, goodSlot, goodSlots, plain, good}
-use Rattle.memory.proofs.Reading.{numberAt, peerFrom, sixteen, slot-at, slot-part, slot-free, slot-peer, gids-many, pending-many, names-many}
+use Rattle.memory.specs.Good.{goodNames, goodPending, goodPeer, goodSlot, goodSlots, plain, good}
+use Rattle.memory.proofs.Reading.{numberAt, sixteen, slot-at, slot-part, slot-free, slot-peer, gids-many, pending-many, names-many}
 use Rattle.memory.proofs.Search.{Found}
 use Rattle.slots.specs.Slots.{peerAt}
 use Rattle.audit.specs.Tests.{tableTest, cellsTest, shapeTest, slotTest}
-use Rattle.audit.proofs.Nobody.{nobody-found}
+use Rattle.audit.proofs.Found.{found-any}
 use Rattle.audit.proofs.Plain.{slot-plain, free-plain}
 
 -- ---- its shape
@@ -67,7 +66,7 @@ module _ (m : List ℕ) (i n last : ℕ) (e : n ≡ numberAt m i) where
   module _ (h : i < 16) (f : ℕ) (g : Found (isPeer n) m (i + 1) f) where
     pub peer-twice : f < 16 → false ≡ goodPeer (stateOf m .slots) last (peerAt m i) (drop (i + 1) (stateOf m .slots))
     unfolding goodPeer
-    peer-twice k = rw (← e, ← nobody-found (isPeer n) m (i + 1) f (omega arith) g, lt-leb 16 f k, and-false)
+    peer-twice k = rw (← e, found-any (isPeer n) m (i + 1) f g, lt-ltb f 16 k, and-false)
 
     pub peer-good : 1 ≤ n → n ≤ last → 16 ≤ f → (p q r : Bool) → p ≡ goodPending (stateOf m .slots) (peerAt m i .pending)
         → q ≡ goodNames (peerAt m i .names) (drop (i + 1) (stateOf m .slots))
@@ -79,8 +78,8 @@ module _ (m : List ℕ) (i n last : ℕ) (e : n ≡ numberAt m i) where
           ← e,
           le-leb 1 n a,
           le-leb n last b,
-          ← nobody-found (isPeer n) m (i + 1) f (omega arith) g,
-          le-leb 16 f c,
+          found-any (isPeer n) m (i + 1) f g,
+          le-ltb f 16 c,
           le-leb (length (peerAt m i .gids)) 16 (omega (arith, gids-many m (4 + 3292 * i))),
           le-leb (length (peerAt m i .pending)) 16 (omega (arith, pending-many m (4 + 3292 * i))),
           le-leb (length (peerAt m i .names)) 4 (omega (arith, names-many m (4 + 3292 * i))),

@@ -6,6 +6,7 @@ use Prim.Native.Nat.{ℕ, _+_, _-_, _*_}
 use lib.Dec.{leb}
 use lib.ListN.{take, drop}
 use Rattle.wire.specs.Bytes.{allZero, same}
+use Rattle.wire.specs.Lists.{any}
 use Rattle.wire.specs.Words.{wordAt}
 use Rattle.wire.specs.declared.Order.the-variants.{Little}
 use Rattle.policy.specs.Names.{owns, cellOf, nameOf}
@@ -14,6 +15,7 @@ use Rattle.rules.specs.Addresses.{ownable}
 use Rattle.rules.specs.Pending.{awaits}
 use Rattle.rules.specs.Calls.{isOwner}
 use Rattle.tables.proofs.Same.{plainCells}
+use Rattle.memory.specs.Layout.{slotStart, slotLength, namesAt, firstName, pendingAt, gidsAt, headAt, firstCallee, firstSerial}
 use Rattle.memory.specs.Encoding.{slotBytes, slotOf, stateOf}
 use Rattle.memory.specs.Good.{nobody, goodSlot}
 use Rattle.slots.specs.Slots.{peerAt, nameAt}
@@ -21,19 +23,19 @@ use Rattle.slots.specs.Slots.{peerAt, nameAt}
 unfoldable pub nameTest : List ℕ → ℕ → ℕ → Bool
 nameTest m i j =
     ownable (nameAt m i j)
-    && not (owns (drop (j + 1) (peerAt m i .names)) (nameAt m i j))
     && nobody (isOwner (nameAt m i j)) (drop (i + 1) (stateOf m .slots))
+    && not (owns (drop (j + 1) (peerAt m i .names)) (nameAt m i j))
 
 -- the callee and the serial of pending call j
 abbrev pub calleeAt : List ℕ → ℕ → ℕ → ℕ
-calleeAt m i j = wordAt Little m (4 + 3292 * i + (80 + 8 * j))
+calleeAt m i j = wordAt Little m (slotStart i + (firstCallee + 8 * j))
 
 abbrev pub serialAt : List ℕ → ℕ → ℕ → ℕ
-serialAt m i j = wordAt Little m (4 + 3292 * i + (84 + 8 * j))
+serialAt m i j = wordAt Little m (slotStart i + (firstSerial + 8 * j))
 
 unfoldable pub callTest : List ℕ → ℕ → ℕ → Bool
 callTest m i j =
-    not (nobody (isPeer (calleeAt m i j)) (stateOf m .slots))
+    any (isPeer (calleeAt m i j)) (stateOf m .slots)
     && leb 1 (serialAt m i j)
     && not (awaits (calleeAt m i j) (serialAt m i j) (drop (j + 1) (peerAt m i .pending)))
 
@@ -48,26 +50,26 @@ tableTest m at w k =
 -- behind name j of slot i its cell is zero
 unfoldable pub plainCell : List ℕ → ℕ → ℕ → Bool
 plainCell m i j =
-    let c = take 256 (drop (4 + 3292 * i + 212 + 256 * j) m) in
+    let c = take 256 (drop (slotStart i + firstName + 256 * j) m) in
     same (cellOf (nameOf c)) c
 
 -- the names of slot i are at most 4, with zeros behind each and behind the last
 unfoldable pub cellsTest : List ℕ → ℕ → Bool
 cellsTest m i =
-    leb (wordAt Little m (4 + 3292 * i + 208)) 4
-    && plainCells cellOf nameOf 256 (wordAt Little m (4 + 3292 * i + 208)) (take 1024 (drop (4 + 3292 * i + 212) m))
+    leb (wordAt Little m (slotStart i + namesAt)) 4
+    && plainCells cellOf nameOf 256 (wordAt Little m (slotStart i + namesAt)) (take 1024 (drop (slotStart i + firstName) m))
 
 unfoldable pub shapeTest : List ℕ → ℕ → Bool
 shapeTest m i =
-    tableTest m (4 + 3292 * i + 8) 4 16
-    && tableTest m (4 + 3292 * i + 76) 8 16
+    tableTest m (slotStart i + gidsAt) 4 16
+    && tableTest m (slotStart i + pendingAt) 8 16
     && cellsTest m i
-    && tableTest m (4 + 3292 * i + 1240) 1 2048
+    && tableTest m (slotStart i + headAt) 1 2048
 
 -- ---- a slot
 
 -- slot i keeps the rules beside the slots after it, and is the bytes of what is read off it
 unfoldable pub slotTest : List ℕ → ℕ → ℕ → Bool
 slotTest m i last =
-    let b = take 3292 (drop (4 + 3292 * i) m) in
+    let b = take slotLength (drop (slotStart i) m) in
     goodSlot (stateOf m .slots) last (slotOf b) (drop (i + 1) (stateOf m .slots)) && same (slotBytes (slotOf b)) b

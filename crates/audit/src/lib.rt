@@ -1,16 +1,23 @@
 // Is a lent memory good? Each slot is tested by itself, beside the slots after it.
+use memory::FIRST_BYTE;
+use memory::FIRST_CALLEE;
+use memory::FIRST_NAME;
+use memory::FIRST_SERIAL;
+use memory::GIDS_AT;
+use memory::HEAD_AT;
+use memory::MEMORY_LENGTH;
+use memory::NAMES_AT;
+use memory::PENDING_AT;
+use memory::SLOT_LENGTH;
+use memory::SLOTS_AT;
+use memory::TAKEN_AT;
 use names::Form;
 use wire::Order;
 ghost use mathlib.Core.Path.{_≡_};
-ghost use mathlib.Core.Bool.{_&&_};
-ghost use mathlib.Core.List.{List};
-ghost use Prim.Native.Nat.{_+_, _-_, _*_, _≤_, _<_};
-ghost use lib.Dec.{leb};
-ghost use lib.ListN.{length, take, drop, getD};
-ghost use Rattle.wire.specs.Bytes.{allZero};
-ghost use Rattle.wire.specs.Words.{wordAt};
-ghost use Rattle.wire.specs.declared.Order.the-variants.{Little};
+ghost use Prim.Native.Nat.{_+_, _*_, _≤_, _<_};
+ghost use lib.ListN.{length, drop, getD};
 ghost use Rattle.rules.specs.Addresses.{ownable};
+ghost use Rattle.memory.specs.Layout.{slotStart, memoryLength, firstName};
 ghost use Rattle.memory.specs.Encoding.{stateOf};
 ghost use Rattle.memory.specs.Good.{goodNames, goodPending, goodPeer, good};
 ghost use Rattle.memory.proofs.Reading.{numberAt};
@@ -27,10 +34,10 @@ pub fn is_ownable(name: &[u8]) -> bool
 
 // Name j of slot i is ownable, and stands nowhere else from there on.
 fn is_name_good(memory: &[u8], i: usize, j: usize) -> bool
-    requires { ⌜ (length (now memory) ≡ 52676) × (i < 16) × (j < 4) ⌝ }
-    ensures { λ r. ⌜ (r ≡ nameTest (now (memory .entry)) i j) × (getD (now (memory .entry)) (4 + 3292 * i + 212 + 256 * j) 0 < 256) ⌝ }
+    requires { ⌜ (length (now memory) ≡ memoryLength) × (i < 16) × (j < 4) ⌝ }
+    ensures { λ r. ⌜ (r ≡ nameTest (now (memory .entry)) i j) × (getD (now (memory .entry)) (slotStart i + firstName + 256 * j) 0 < 256) ⌝ }
 {
-    let at = 4 + 3292 * i + 212 + 256 * j;
+    let at = SLOTS_AT + SLOT_LENGTH * i + FIRST_NAME + 256 * j;
     let from = at + 1;
     let to = from + wire::wide(memory[at]) as usize;
     let name = &memory[from..to];
@@ -48,7 +55,7 @@ fn are_names_good(memory: &[u8], i: usize) -> bool
     requires { ⌜ At (now memory) i ⌝ }
     ensures { λ r. ⌜ r ≡ goodNames (peerAt (now (memory .entry)) i .names) (drop (i + 1) (stateOf (now (memory .entry)) .slots)) ⌝ }
 {
-    let count = wire::least(slots::word_at(memory, i, 208) as usize, 4);
+    let count = slots::count_names(memory, i);
     let mut j = 0;
     while j < count {
         if !is_name_good(memory, i, j) {
@@ -61,19 +68,18 @@ fn are_names_good(memory: &[u8], i: usize) -> bool
 
 // Pending call j of slot i has a connected callee and a serial, and stands once from there on.
 fn is_call_good(memory: &[u8], i: usize, j: usize) -> bool
-    requires { ⌜ (length (now memory) ≡ 52676) × (i < 16) × (j < length (peerAt (now memory) i .pending)) × (length (peerAt (now memory) i .pending) ≤ 16) ⌝ }
+    requires { ⌜ (length (now memory) ≡ memoryLength) × (i < 16) × (j < length (peerAt (now memory) i .pending)) × (length (peerAt (now memory) i .pending) ≤ 16) ⌝ }
     ensures { λ r. ⌜ r ≡ callTest (now (memory .entry)) i j ⌝ }
 {
-    let callee = slots::word_at(memory, i, 80 + 8 * j);
-    let serial = slots::word_at(memory, i, 84 + 8 * j);
+    let callee = slots::word_at(memory, i, FIRST_CALLEE + 8 * j);
+    let serial = slots::word_at(memory, i, FIRST_SERIAL + 8 * j);
     if 16 <= slots::find(memory, callee, 0) {
         return false;
     }
     if serial == 0 {
         return false;
     }
-    let count = wire::least(slots::word_at(memory, i, 76) as usize, 16);
-    count <= slots::find_pending(memory, i, callee, serial, j + 1)
+    slots::count_pending(memory, i) <= slots::find_pending(memory, i, callee, serial, j + 1)
 }
 
 // Every pending call of slot i has a connected callee and a serial, and stands once.
@@ -81,7 +87,7 @@ fn are_calls_good(memory: &[u8], i: usize) -> bool
     requires { ⌜ At (now memory) i ⌝ }
     ensures { λ r. ⌜ r ≡ goodPending (stateOf (now (memory .entry)) .slots) (peerAt (now (memory .entry)) i .pending) ⌝ }
 {
-    let count = wire::least(slots::word_at(memory, i, 76) as usize, 16);
+    let count = slots::count_pending(memory, i);
     let mut j = 0;
     while j < count {
         if !is_call_good(memory, i, j) {
@@ -102,7 +108,7 @@ fn scaled(w: usize, n: usize, k: usize) -> usize
 
 // The table at a place has at most k things of w bytes, and zeros behind them.
 fn is_table(memory: &[u8], at: usize, w: usize, k: usize) -> bool
-    requires { ⌜ (length (now memory) ≡ 52676) × (w * k ≤ 2048) × (at + 4 + w * k ≤ 52676) ⌝ }
+    requires { ⌜ (length (now memory) ≡ memoryLength) × (w * k ≤ 2048) × (at + 4 + w * k ≤ memoryLength) ⌝ }
     ensures { λ r. ⌜ r ≡ tableTest (now (memory .entry)) at w k ⌝ }
 {
     let n = wire::u32_at(Order::Little, memory, at) as usize;
@@ -116,10 +122,10 @@ fn is_table(memory: &[u8], at: usize, w: usize, k: usize) -> bool
 
 // Behind name j of slot i its cell is zero.
 fn is_cell_plain(memory: &[u8], i: usize, j: usize) -> bool
-    requires { ⌜ (length (now memory) ≡ 52676) × (i < 16) × (j < 4) ⌝ }
+    requires { ⌜ (length (now memory) ≡ memoryLength) × (i < 16) × (j < 4) ⌝ }
     ensures { λ r. ⌜ r ≡ plainCell (now (memory .entry)) i j ⌝ }
 {
-    let at = 4 + 3292 * i + 212 + 256 * j;
+    let at = SLOTS_AT + SLOT_LENGTH * i + FIRST_NAME + 256 * j;
     let from = at + 1 + wire::wide(memory[at]) as usize;
     wire::is_zero(memory, from, at + 256)
 }
@@ -129,7 +135,7 @@ fn are_cells_plain(memory: &[u8], i: usize) -> bool
     requires { ⌜ At (now memory) i ⌝ }
     ensures { λ r. ⌜ r ≡ cellsTest (now (memory .entry)) i ⌝ }
 {
-    let n = slots::word_at(memory, i, 208) as usize;
+    let n = slots::word_at(memory, i, NAMES_AT) as usize;
     if 4 < n {
         return false;
     }
@@ -140,7 +146,11 @@ fn are_cells_plain(memory: &[u8], i: usize) -> bool
         }
         j += 1;
     }
-    wire::is_zero(memory, 4 + 3292 * i + 212 + 256 * j, 4 + 3292 * i + 1236)
+    wire::is_zero(
+        memory,
+        SLOTS_AT + SLOT_LENGTH * i + FIRST_NAME + 256 * j,
+        SLOTS_AT + SLOT_LENGTH * i + TAKEN_AT,
+    )
 }
 
 // Every place of slot i that is not in use is zero.
@@ -148,11 +158,11 @@ fn is_shaped(memory: &[u8], i: usize) -> bool
     requires { ⌜ At (now memory) i ⌝ }
     ensures { λ r. ⌜ r ≡ shapeTest (now (memory .entry)) i ⌝ }
 {
-    let at = 4 + 3292 * i;
-    is_table(memory, at + 8, 4, 16)
-        & is_table(memory, at + 76, 8, 16)
+    let at = SLOTS_AT + SLOT_LENGTH * i;
+    is_table(memory, at + GIDS_AT, 4, 16)
+        & is_table(memory, at + PENDING_AT, 8, 16)
         & are_cells_plain(memory, i)
-        & is_table(memory, at + 1240, 1, 2048)
+        & is_table(memory, at + HEAD_AT, 1, 2048)
 }
 
 // The stream of slot i is good.
@@ -160,16 +170,16 @@ fn is_stream_good(memory: &[u8], i: usize) -> bool
     requires { ⌜ At (now memory) i ⌝ }
     ensures { λ r. ⌜ r ≡ goodTail (peerAt (now (memory .entry)) i .stream) ⌝ }
 {
-    let taken = slots::word_at(memory, i, 1236) as usize;
-    let stored = wire::least(slots::word_at(memory, i, 1240) as usize, 2048);
-    let from = 4 + 3292 * i + 1244;
+    let taken = slots::word_at(memory, i, TAKEN_AT) as usize;
+    let stored = wire::least(slots::word_at(memory, i, HEAD_AT) as usize, 2048);
+    let from = SLOTS_AT + SLOT_LENGTH * i + FIRST_BYTE;
     let to = from + 2048;
     stream::is_good(taken, &memory[from..to], stored)
 }
 
 // The peer of slot i keeps the rules, beside the slots after it.
 fn is_peer_good(memory: &[u8], i: usize, number: u32, last: u32) -> bool
-    requires { ⌜ (length (now memory) ≡ 52676) × (i < 16) × (number ≡ numberAt (now memory) i) × (1 ≤ number) ⌝ }
+    requires { ⌜ (length (now memory) ≡ memoryLength) × (i < 16) × (number ≡ numberAt (now memory) i) × (1 ≤ number) ⌝ }
     ensures { λ r. ⌜ r ≡ goodPeer (stateOf (now (memory .entry)) .slots) last (peerAt (now (memory .entry)) i) (drop (i + 1) (stateOf (now (memory .entry)) .slots)) ⌝ }
 {
     if last < number {
@@ -188,8 +198,8 @@ fn is_slot_good(memory: &[u8], i: usize, last: u32) -> bool
 {
     let number = slots::number_at(memory, i);
     if number == 0 {
-        let from = 4 + 3292 * i;
-        return wire::is_zero(memory, from, from + 3292);
+        let from = SLOTS_AT + SLOT_LENGTH * i;
+        return wire::is_zero(memory, from, from + SLOT_LENGTH);
     }
     if !is_shaped(memory, i) {
         return false;
@@ -201,7 +211,7 @@ fn is_slot_good(memory: &[u8], i: usize, last: u32) -> bool
 pub fn is_good(memory: &[u8]) -> bool
     ensures { λ r. ⌜ r ≡ good (now (memory .entry)) ⌝ }
 {
-    if memory.len() != 52676 {
+    if memory.len() != MEMORY_LENGTH {
         return false;
     }
     let last = slots::last_of(memory);

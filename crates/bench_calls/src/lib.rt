@@ -7,7 +7,6 @@ use names::Form;
 use policy::Uid;
 ghost use mathlib.Core.Path.{_≡_};
 ghost use Prim.Native.Nat.{_+_, _≤_};
-ghost use lib.ListN.{length};
 ghost use Rattle.signature.specs.Signature.{validSignature};
 ghost use Rattle.header.specs.Header.{readHeader, answerOf};
 ghost use Rattle.memory.specs.Good.{good};

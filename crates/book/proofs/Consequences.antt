@@ -20,11 +20,11 @@ use Rattle.stream.specs.Tail.{finished, isBroken, brokenAt}
 use Rattle.stream.proofs.Pushes.{breaks}
 use Rattle.rules.specs.State.{free, peer, Peer, State}
 use Rattle.rules.specs.Addresses.{resolve}
-use Rattle.rules.specs.Judge.{judged}
+use Rattle.rules.specs.Judge.{isReply, judged}
 use Rattle.rules.specs.Calls.{empty, disconnect}
 use Rattle.rules.proofs.View.{seen, seenSlot}
 use Rattle.rules.proofs.Waits.{okPending}
-use Rattle.rules.proofs.Replies.{isWaiting, awaited, isReply, reply-exact, second-reply, gone-unawaited}
+use Rattle.rules.proofs.Replies.{isWaiting, awaited, reply-exact, second-reply, gone-unawaited}
 use Rattle.memory.specs.Layout.{memoryLength}
 use Rattle.memory.specs.Sound.{Sound}
 use Rattle.sound.proofs.Kept.{Alone, sound-kept}

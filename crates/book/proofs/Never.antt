@@ -8,11 +8,13 @@ use native.Mathlib.Omega.{arith}
 use lib.Dec.{eqb, ltb, leb}
 use lib.ListN.{length}
 use borrow.Author.Tests.{eqb-true, leb-true}
-use Rattle.wire.proofs.Texts.{both-second}
+use Rattle.wire.proofs.Texts.{both-second, either}
 use Rattle.image.specs.Good.{goodImage}
 use Rattle.policy.specs.Names.{owns}
 use Rattle.policy.specs.Decisions.{mayConnect, mayOwn}
 use Rattle.stream.specs.Stream.{Verdict, more, broken, whole, Streams, Offer, offer, settled}
+use Rattle.stream.specs.Steps.{follows}
+use Rattle.stream.proofs.Offers.{offer-step}
 use Rattle.rules.specs.State.{Slot, free, peer, Peer, State, isFree, isPeer, firstBy, putSlot, withNames, withStream}
 use Rattle.rules.specs.Addresses.{ownable}
 use Rattle.rules.specs.Judge.{judged}
@@ -21,8 +23,7 @@ use Rattle.rules.specs.Calls.{noPiece, offered, offeredTo, pieceAt, piece, disc
 use Rattle.rules.specs.declared.Connected.{Connected}
 use Rattle.rules.specs.declared.Taken.{Taken}
 use Rattle.rules.specs.declared.Gone.{Gone}
-use Rattle.rules.proofs.Tests.{choice, either}
-use Rattle.rules.proofs.Seen.{ruled, offer-cons}
+use Rattle.rules.proofs.Tests.{choice}
 use Rattle.book.specs.Book.{current, books}
 use Rattle.book.specs.Lists.{Call, starts, connects, claims, releases, offers, leaves, entry, answers, numberOf, Never51}
 use Rattle.book.proofs.Numbers.{isJudged, judged-proper, broken-number}
@@ -34,9 +35,9 @@ module _ {S : Type 0} (O : Streams S) (faults : (s : S) (a : ℕ) → O .judge s
   unfolding offer
   offer-faults s [] a e = let z : _≡_ {A = ℕ} 0 1 = cc in absurd (omega arith)
   offer-faults s (b ∷ p) a e =
-      go (O .judge (O .push s b)) refl (ap (λ (o : Offer S). o .verdict) (sym (offer-cons O s b p)) ∙ e) (offer-faults (O .push s b) p a)
+      go (O .judge (O .push s b)) refl (ap (λ (o : Offer S). o .verdict) (sym (offer-step O s b p)) ∙ e) (offer-faults (O .push s b) p a)
     where
-      go : (v : Verdict) → O .judge (O .push s b) ≡ v → ruled v (O .push s b) (offer O (O .push s b) p) .verdict ≡ broken a
+      go : (v : Verdict) → O .judge (O .push s b) ≡ v → follows v (O .push s b) (offer O (O .push s b) p) .verdict ≡ broken a
           → (offer O (O .push s b) p .verdict ≡ broken a → (1 ≤ a) × (a ≤ 9)) → (1 ≤ a) × (a ≤ 9)
       go more q c ih = ih c
       go (broken n) q c ih = faults (O .push s b) a (q ∙ c)

@@ -10,18 +10,17 @@ use lib.Dec.{eqb, leb}
 use lib.ListN.{set}
 use lib.Seq.{getD-set-same, set-set, set-getD}
 use borrow.Author.Tests.{eqb-true, leb-true, lt-leb, le-leb}
-use Rattle.wire.proofs.Texts.{both-first, both-second}
+use Rattle.wire.proofs.Texts.{both-first, both-second, either}
 use Rattle.header.specs.declared.Header.{Header}
 use Rattle.stream.specs.Stream.{Verdict, more, broken, whole, Streams, Offer, bump, offer, settled}
+use Rattle.stream.specs.Steps.{follows}
 use Rattle.stream.specs.Tail.{isBroken}
-use Rattle.stream.proofs.Offers.{offer-none}
+use Rattle.stream.proofs.Offers.{offer-none, offer-step}
 use Rattle.rules.specs.State.{Slot, free, peer, Peer, State, isPeer, firstBy, putSlot, withStream}
 use Rattle.rules.specs.Judge.{refusal, judged}
 use Rattle.rules.specs.Calls.{Step, stays, slotAt, noPiece, offered, offeredTo, pieceAt, piece}
 use Rattle.rules.specs.declared.Taken.{Taken}
-use Rattle.rules.proofs.Tests.{either}
 use Rattle.rules.proofs.First.{first-set, taken-below}
-use Rattle.rules.proofs.Seen.{ruled, offer-cons}
 use Rattle.book.specs.Split.{isStop, said}
 use Rattle.book.proofs.Numbers.{isJudged, judged-proper}
 use Rattle.book.proofs.Bytewise.{bumped, Refuses, Idle, idle-refuses, idles, Way, refuses, joins, decides, Laws}
@@ -101,8 +100,8 @@ module _ {S : Type 0} (O : Streams S) (shut : (t : S) → O .closed t ≡ isBrok
           abbrev pushed : S
           pushed = O .push (q .stream) b
 
-          at-first : (v : Verdict) → O .judge pushed ≡ v → (p : List ℕ) → stepOf s (b ∷ p) ≡ comes (ruled v pushed (offer O pushed p))
-          at-first v j p = at-open (b ∷ p) ∙ ap comes (offer-cons O (q .stream) b p ∙ ap (λ (u : Verdict). ruled u pushed (offer O pushed p)) j)
+          at-first : (v : Verdict) → O .judge pushed ≡ v → (p : List ℕ) → stepOf s (b ∷ p) ≡ comes (bump (follows v pushed (offer O pushed p)))
+          at-first v j p = at-open (b ∷ p) ∙ ap comes (offer-step O (q .stream) b p ∙ ap (λ (u : Verdict). bump (follows u pushed (offer O pushed p))) j)
 
           bump-comes : (o : Offer S) → comes (bump o) ≡ bumped (comes o)
           bump-comes o = go (o .verdict)

@@ -1,10 +1,9 @@
 -- 01's "Bench table", T1 to T12, as one table over the written rules: calls and what the model answers to the last of them, and texts and whether they are
 -- signatures. Assumes nothing: these are definitions.
-use mathlib.Core.Bool.{Bool, true, _&&_}
 use mathlib.Core.List.{List, [], _∷_, _++_}
 use Prim.Native.Nat.{ℕ}
 use lib.ListN.{take, set, replicate}
-use Rattle.wire.specs.Bytes.{byte, bytes, same}
+use Rattle.wire.specs.Bytes.{byte, bytes}
 use Rattle.wire.specs.Words.{wordBytes}
 use Rattle.signature.specs.Signature.{validSignature}
 use Rattle.image.specs.Table.{imageOf, head, cites}
@@ -170,8 +169,3 @@ table =
     ∷ (between allowDeny (bytes "org.a.x"), refused 22 64)  -- "even addressed to `org.a.x`"
     ∷ (between denyAllow (bytes "org.b.y"), toPeer 64 2)  -- the rules the other way round
     ∷ []
-
--- each line of a table says what the rules say
-abbrev pub agrees : List Line → Bool
-agrees [] = true
-agrees (l ∷ ls) = same (answer (l .0)) (l .1) && agrees ls

@@ -14,6 +14,7 @@ use Rattle.wire.specs.Words.{wordAt, wordBytes}
 use Rattle.wire.specs.declared.Order.the-variants.{Little}
 use Rattle.wire.proofs.Words.{rest-at, cut-at}
 use Rattle.tables.specs.Tables.{cells}
+use Rattle.tables.proofs.Words.{bytes-drop}
 use Rattle.rules.specs.Calls.{connect}
 use Rattle.rules.specs.declared.Connected.{Connected}
 use Rattle.rules.specs.declared.Taken.{Taken}
@@ -26,7 +27,7 @@ use Rattle.calls.specs.declared.Gids.{Gids}
 use Rattle.calls.specs.Script.{sizeOf, wellSized, words, gidsOf, peerCall, callOf}
 use Rattle.calls.specs.Places.{placeOf}
 use Rattle.calls.specs.Steps.{reportWords, Shows, Reported, Stepped, GidsIn, Entry}
-use Rattle.calls.proofs.Words.{Octets, octets-drop, words-length, words-below}
+use Rattle.calls.proofs.Words.{Octets, words-length, words-below}
 use Rattle.calls.proofs.Entries.{at-least}
 
 -- ---- reports
@@ -111,7 +112,7 @@ connect-reported image m a e uid g c w f u l h d q =
     record {
       answer = connected c;
       ran =
-          ran-connect {uid = wordAt Little a 0} (rw (← u) l) (words-below n (drop 4 a) (octets-drop 4 a f))
+          ran-connect {uid = wordAt Little a 0} (rw (← u) l) (words-below n (drop 4 a) (bytes-drop 4 a (λ j. f j .fits)))
           (record { result = d .result ∙ ap (λ (o : Left Connected). o .result) x; memory = d .memory ∙ ap (λ (o : Left Connected). o .memory) x });
       shows = record { are = seven (c .answer) 0 0 (c .number) w 0 (c .slot) refl (rw q (low-word (c .slot))) };
     }
@@ -138,9 +139,6 @@ pub ruleset peering = (own-reported, release-reported, piece-reported, needs)
 
 -- ---- any call
 
-pub long-enough : (kind : ℕ) (a : List ℕ) → (kind ≡ 0 → ⊥) → wellSized kind (length a) ≡ true → 4 ≤ length a
-long-enough kind a h w = at-least kind (length a) h w
-
 module _ (image m a e : List ℕ) (kind : ℕ) where
   pub start-called : (r : Report) → kind ≡ 0 → (x : ℕ) → Did (startOn m) x e → Shows (plain x) r → Reported (callOf image kind a) m r e
   unfolding callOf
@@ -162,7 +160,7 @@ module _ (image m a e : List ℕ) (kind : ℕ) where
       unfolding callOf
       peer-called r k s = rw (ne-eqb kind 0 h, ne-eqb kind 1 j, ne-eqb kind 5 k, ← p) (rw (rest-at 4 a) at s)
 
-pub ruleset calling = (long-enough, start-called, connect-called, leave-called, peer-called, needs)
+pub ruleset calling = (at-least, start-called, connect-called, leave-called, peer-called, needs)
 
 -- ---- the entry in front
 

@@ -61,19 +61,20 @@ module _ (s : List ℕ) (h : 8 ≤ length s) (k n : ℕ) (p : k ≡ wordAt Littl
   size-bad t = let w : wellSized (kindOf s) (sizeOf s) ≡ false = rw (← p, ← q) (sym e ∙ not-true b t) in record { is = rw (le-ltb (length s) 8 h, w); inside = omega arith }
 
   module _ (t : not b ≡ false) where
+    well : wellSized (kindOf s) (sizeOf s) ≡ true
+    well = rw (← p, ← q) (sym e ∙ not-false b t)
+
     pub size-cut : length s - 8 < n → Sized s 0
     unfolding entrySize
     size-cut l =
-        let w : wellSized (kindOf s) (sizeOf s) ≡ true = rw (← p, ← q) (sym e ∙ not-false b t) in
         let x : ltb (length s - 8) (sizeOf s) ≡ true = rw (← q) (lt-ltb (length s - 8) n l) in
-        record { is = rw (le-ltb (length s) 8 h, w, x); inside = omega arith }
+        record { is = rw (le-ltb (length s) 8 h, well, x); inside = omega arith }
 
     pub size-good : n ≤ length s - 8 → Sized s (8 + n)
     unfolding entrySize
     size-good l =
-        let w : wellSized (kindOf s) (sizeOf s) ≡ true = rw (← p, ← q) (sym e ∙ not-false b t) in
         let x : ltb (length s - 8) (sizeOf s) ≡ false = rw (← q) (le-ltb (length s - 8) n l) in
-        record { is = rw (le-ltb (length s) 8 h, w, x, q); inside = omega arith }
+        record { is = rw (le-ltb (length s) 8 h, well, x, q); inside = omega arith }
 
 pub ruleset sizes = (size-short, size-bad, size-cut, size-good, needs)
 

@@ -1,8 +1,8 @@
 -- More than a script's length changes neither its layout nor its calls; and a list behind a start is the list on an empty guard. Assumes nothing.
 use mathlib.Core.Path.{_≡_, refl, sym, ap, _∙_}
 use mathlib.Core.Bool.{Bool, true, false, false≢true}
-use mathlib.Core.List.{List, [], _∷_}
-use Prim.Native.Nat.{ℕ, zero, suc, _-_, _≤_, _<_}
+use mathlib.Core.List.{List, _∷_}
+use Prim.Native.Nat.{ℕ, zero, suc, _-_, _≤_}
 use native.Mathlib.Omega.{arith}
 use lib.Dec.{ltb, eqb}
 use lib.ListN.{length, drop, length-drop}
@@ -12,10 +12,6 @@ use Rattle.rules.specs.Calls.{empty}
 use Rattle.book.specs.Lists.{Call, starts, plain, entry, answers, after}
 use Rattle.calls.specs.Script.{kindOf, argumentOf, entrySize, layout, calls, callOf}
 use Rattle.calls.proofs.Entries.{layout-step, layout-stuck, layout-end, calls-step, calls-end}
-
-some : (k : ℕ) → (k ≡ 0 → ⊥) → 0 < k
-some zero h = absurd (h refl)
-some (suc k) h = omega arith
 
 pub layout-any : (f g : ℕ) (s : List ℕ) → length s ≤ f → length s ≤ g → layout f s ≡ layout g s
 layout-any zero g s h k = layout-end zero s h ∙ sym (layout-end g s (omega arith))
@@ -33,7 +29,6 @@ layout-any (suc f) (suc g) s h k = go (ltb 0 (length s)) refl (eqb (entrySize s)
     go true p false q ih =
         let l = ltb-true 0 (length s) p in
         let n = eqb-false (entrySize s) 0 q in
-        let b = some (entrySize s) n in
         let d : length (drop (entrySize s) s) ≡ length s - entrySize s = length-drop (entrySize s) s in
         layout-step f s l n ∙ ih (omega arith) (omega arith) ∙ sym (layout-step g s l n)
 
@@ -51,7 +46,6 @@ calls-any image (suc f) (suc g) s h k w = go (ltb 0 (length s)) refl (eqb (entry
     go true p false q ih =
         let l = ltb-true 0 (length s) p in
         let n = eqb-false (entrySize s) 0 q in
-        let b = some (entrySize s) n in
         let d : length (drop (entrySize s) s) ≡ length s - entrySize s = length-drop (entrySize s) s in
         calls-step image f s l
         ∙ ap (λ (v : List Call). callOf image (kindOf s) (argumentOf s) ∷ v) (ih (omega arith) (omega arith) (sym (layout-step f s l n) ∙ w))

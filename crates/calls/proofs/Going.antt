@@ -12,7 +12,7 @@ use borrow.Author.Tests.{eq-eqb, ne-eqb, lt-ltb, le-ltb, eqb-true, eqb-false, no
 use Rattle.wire.specs.Words.{wordBytes}
 use Rattle.wire.proofs.Words.{word-length, rest-at, put-at}
 use Rattle.tables.specs.Tables.{cells}
-use Rattle.tables.proofs.Cells.{cells-length, cells-append}
+use Rattle.tables.proofs.Cells.{cells-length, cells-snoc}
 use Rattle.rules.specs.Calls.{empty}
 use Rattle.rules.specs.declared.Receiver.{Receiver}
 use Rattle.rules.specs.declared.Receiver.the-variants as to
@@ -56,10 +56,6 @@ place-length a = cells-length 4 wordBytes word-length (wordsOf a) ∙ omega (ari
     seven (connected r) = refl
     seven (taken r) = omega (arith, length-append (receiver (r .judgement .receiver)) (0 ∷ 0 ∷ []), to-three (r .judgement .receiver))
     seven (gone r) = refl
-
-places-more : (given : List Answer) (a : Answer) → cells placeOf (given ++ (a ∷ [])) ≡ cells placeOf given ++ placeOf a
-unfolding cells
-places-more given a = cells-append placeOf given (a ∷ []) ∙ ap (λ (l : List ℕ). cells placeOf given ++ l) (append-nil (placeOf a))
 
 -- ---- the entries behind `rest` are to come; those before it have run
 
@@ -132,7 +128,7 @@ module _ {image s m₀ x m y rest : List ℕ} {at : ℕ} (g : Going image s m₀
           let ty : take at y ≡ o = ap (take at) (g .text) ∙ take-at o (drop at x) at written in
           let dy : drop (at + 28) y ≡ drop (at + 28) x
           = sym (drop-drop 28 at y) ∙ ap (λ (v : List ℕ). drop 28 (drop at v)) (g .text) ∙ ap (drop 28) (drop-at o (drop at x) at written) ∙ drop-drop 28 at x in
-          let b : cells placeOf (g .given ++ (t .answer ∷ [])) ≡ o ++ w = places-more (g .given) (t .answer) ∙ ap (λ (v : List ℕ). o ++ v) (sym (t .written)) in
+          let b : cells placeOf (g .given ++ (t .answer ∷ [])) ≡ o ++ w = cells-snoc placeOf (g .given) (t .answer) ∙ ap (λ (v : List ℕ). o ++ v) (sym (t .written)) in
           let text : take at y ++ (w ++ drop (at + 28) y) ≡ cells placeOf (g .given ++ (t .answer ∷ [])) ++ drop (at + 28) x
           = rw (ty, dy, b) (sym (append-assoc o w (drop (at + 28) x))) in
           let lo : length (cells placeOf (g .given ++ (t .answer ∷ []))) ≡ at + 28 = ap length b ∙ length-append o w ∙ omega (arith, written) in

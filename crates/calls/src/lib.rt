@@ -45,18 +45,6 @@ fn low(n: usize) -> u32
     (n % 4294967296) as u32
 }
 
-// Writes the words one after the other over the whole of `place`.
-fn put_words(place: &mut [u8], words: &[u32])
-    requires { ⌜ (length (now place) ≡ 4 * length (now words)) × (length (now words) ≤ 7) ⌝ }
-    ensures { λ r. ⌜ now (place .exit) ≡ cells wordBytes (now (words .entry)) ⌝ }
-{
-    let mut k = 0;
-    while k < words.len() {
-        wire::put_u32(place, 4 * k, words[k]);
-        k += 1;
-    }
-}
-
 fn put(place: &mut [u8], report: Report)
     requires { ⌜ length (now place) ≡ 28 ⌝ }
     ensures { λ r. ⌜ now (place .exit) ≡ cells wordBytes (reportWords report) ⌝ }
@@ -67,7 +55,7 @@ fn put(place: &mut [u8], report: Report)
     words[2] = report.kind;
     words[3] = report.number;
     words[4] = report.count;
-    put_words(place, &words[0..7]);
+    tables::put_words(place, 0, &words[0..7]);
 }
 
 fn plain_report(answer: u8) -> Report

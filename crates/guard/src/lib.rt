@@ -1,10 +1,12 @@
 // The guard: six calls on lent memory. No call asks anything of its caller: images, memory, names and pieces may be any bytes.
 use image::Outcome;
+use memory::MEMORY_LENGTH;
 use rules::Connected;
 use rules::Gone;
-use rules::Judgement;
-use rules::Receiver;
 use rules::Taken;
+use rules::no_connect;
+use rules::no_gone;
+use rules::no_piece;
 ghost use mathlib.Core.Path.{_≡_};
 ghost use Rattle.image.specs.Good.{goodImage};
 ghost use Rattle.memory.specs.Calls.{startOn, connectOn, ownOn, releaseOn, pieceOn, disconnectOn, Did};
@@ -22,7 +24,7 @@ fn is_image_good(image: &[u8]) -> bool
 pub fn start(memory: &mut [u8]) -> u8
     ensures { λ r. ⌜ Did (startOn (now (memory .entry))) r (now (memory .exit)) ⌝ }
 {
-    if memory.len() != 52676 {
+    if memory.len() != MEMORY_LENGTH {
         return 51;
     }
     wire::wipe(memory);
@@ -34,18 +36,10 @@ pub fn connect(image: &[u8], memory: &mut [u8], uid: u32, gids: &[u32]) -> Conne
     ensures { λ r. ⌜ Did (connectOn (now (image .entry)) (now (memory .entry)) uid (now (gids .entry))) r (now (memory .exit)) ⌝ }
 {
     if !is_image_good(image) {
-        return Connected {
-            answer: 50,
-            number: 0,
-            slot: 0,
-        };
+        return no_connect(50);
     }
     if !audit::is_good(memory) {
-        return Connected {
-            answer: 51,
-            number: 0,
-            slot: 0,
-        };
+        return no_connect(51);
     }
     peers::connect(image, memory, uid, gids)
 }
@@ -78,22 +72,10 @@ pub fn piece(image: &[u8], memory: &mut [u8], peer: u32, bytes: &[u8]) -> Taken
     ensures { λ r. ⌜ Did (pieceOn (now (image .entry)) (now (memory .entry)) peer (now (bytes .entry))) r (now (memory .exit)) ⌝ }
 {
     if !is_image_good(image) {
-        return Taken {
-            judgement: Judgement {
-                answer: 50,
-                receiver: Receiver::Nobody,
-            },
-            taken: 0,
-        };
+        return no_piece(50);
     }
     if !audit::is_good(memory) {
-        return Taken {
-            judgement: Judgement {
-                answer: 51,
-                receiver: Receiver::Nobody,
-            },
-            taken: 0,
-        };
+        return no_piece(51);
     }
     pieces::piece(image, memory, peer, bytes)
 }
@@ -103,10 +85,7 @@ pub fn disconnect(memory: &mut [u8], peer: u32) -> Gone
     ensures { λ r. ⌜ Did (disconnectOn (now (memory .entry)) peer) r (now (memory .exit)) ⌝ }
 {
     if !audit::is_good(memory) {
-        return Gone {
-            answer: 51,
-            bytes: 0,
-        };
+        return no_gone(51);
     }
     peers::disconnect(memory, peer)
 }

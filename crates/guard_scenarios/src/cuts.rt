@@ -5,9 +5,7 @@ use crate::messages;
 use rules::Judgement;
 use rules::Receiver;
 use rules::Taken;
-ghost use mathlib.Core.Path.{_≡_};
 ghost use Prim.Native.Nat.{_<_};
-ghost use lib.ListN.{length};
 
 // A judgement as one number.
 pub fn mark(j: Judgement) -> u64 {

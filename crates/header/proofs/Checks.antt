@@ -1,23 +1,23 @@
 -- The values and the required fields, way by way. Assumes nothing.
-use mathlib.Core.Path.{_≡_, refl, sym, ap, _∙_}
-use mathlib.Core.Bool.{Bool, true, false, cond, not, _&&_, _||_, and-true, and-false, and-assoc}
+use mathlib.Core.Path.{_≡_, refl, _∙_}
+use mathlib.Core.Bool.{Bool, true, false, cond, not, _&&_, and-true, and-assoc}
 use mathlib.Core.List.{List}
-use Prim.Native.Nat.{ℕ, suc, _+_, _-_, _≤_, _<_}
-use native.Mathlib.Omega.{arith}
+use Prim.Native.Nat.{ℕ, _+_, _-_, _≤_, _<_}
 use native.Mathlib.Nat.{add-sub-cancel-left}
 use lib.Dec.{eqb}
 use lib.ListN.{length, take, drop}
 use borrow.Author.Needs.{needs}
-use borrow.Author.Tests.{eq-eqb, ne-eqb, lt-ltb, le-ltb, not-true, not-false}
+use borrow.Author.Tests.{eq-eqb, ne-eqb, lt-ltb, le-ltb}
 use Rattle.wire.specs.Words.{wordAt}
 use Rattle.wire.specs.declared.Order.{Order}
+use Rattle.wire.proofs.Below.{Testing, begin, more, done, fails}
 use Rattle.names.specs.Names.{validName}
 use Rattle.names.specs.declared.Form.{Form}
 use Rattle.signature.specs.Signature.{validSignature}
 use Rattle.header.specs.declared.Place.{Place}
-use Rattle.header.specs.Codes.{Rule, name, serial, signature, free, ruleOf}
-use Rattle.header.specs.Fields.{Fields, placeOf, present, textAt}
-use Rattle.header.specs.Values.{numberIn, obeys, goodValue, goodField, below, goodBelow, goodValues}
+use Rattle.header.specs.Codes.{name, free, ruleOf}
+use Rattle.header.specs.Fields.{Fields, placeOf, present}
+use Rattle.header.specs.Values.{numberIn, obeys, goodValue, goodField, goodValues}
 use Rattle.header.specs.Required.{hasRequired}
 use Rattle.header.specs.Reader.{Fits}
 
@@ -72,35 +72,22 @@ pub ruleset field = (not-there, there, needs)
 
 -- ---- all values
 
-pub record Checking (o : Order) (h : List ℕ) (fs : Fields) (code : ℕ) : Type 0 where
-  pub low : code ≤ 10
-  pub left : goodValues o h fs ≡ goodBelow o h fs code
+abbrev pub Checking : Order → List ℕ → Fields → ℕ → Type 0
+Checking o h fs code = Testing (λ n. goodField o h (placeOf fs n) n) 10 code
 
-pub checking-begins : {o : Order} {h : List ℕ} {fs : Fields} → Checking o h fs 10
-unfolding goodValues
-checking-begins = record { low = omega arith; left = refl }
+pub place-fits : {h : List ℕ} {fs : Fields} (code : ℕ) → Fits h fs → placeOf fs (code - 1) .at + placeOf fs (code - 1) .len ≤ length h
+place-fits code f = f .inside (code - 1)
 
-module _ {o : Order} {h : List ℕ} {fs : Fields} {code : ℕ} (c : Checking o h fs code) where
-  -- the code before
-  one-more : 0 < code → goodBelow o h fs code ≡ goodBelow o h fs (code - 1) && goodField o h (placeOf fs (code - 1)) (code - 1)
-  unfolding goodBelow
-  one-more l = let e : code ≡ suc (code - 1) = omega arith in ap (below (λ n. goodField o h (placeOf fs n) n)) e
-
-  pub place-fits : Fits h fs → placeOf fs (code - 1) .at + placeOf fs (code - 1) .len ≤ length h
-  place-fits f = f .inside (code - 1)
-
-  module _ (l : 0 < code) {r : Bool} (e : r ≡ goodField o h (placeOf fs (code - 1)) (code - 1)) where
-    pub checking-more : not r ≡ false → Checking o h fs (code - 1)
-    checking-more t = let s : code ≤ 10 = c .low in record { low = omega arith; left = c .left ∙ one-more l ∙ rw (← e, not-false r t, and-true) }
-
-    pub checking-stops : not r ≡ true → false ≡ goodValues o h fs
-    checking-stops t = sym (c .left ∙ one-more l ∙ rw (← e, not-true r t, and-false))
+module _ (o : Order) (h : List ℕ) (fs : Fields) {code : ℕ} (c : Checking o h fs code) where
+  pub checking-stops : 0 < code → {r : Bool} → r ≡ goodField o h (placeOf fs (code - 1)) (code - 1) → not r ≡ true → false ≡ goodValues o h fs
+  unfolding goodValues
+  checking-stops l e t = fails c l e t
 
   pub checking-ends : code ≤ 0 → true ≡ goodValues o h fs
-  unfolding goodBelow
-  checking-ends l = let z : code ≡ 0 = omega arith in sym (c .left ∙ rw z)
+  unfolding goodValues
+  checking-ends l = done c l
 
-pub ruleset checking = (checking-begins, place-fits, checking-more, checking-stops, checking-ends, needs)
+pub ruleset checking = (begin, more, place-fits, checking-stops, checking-ends, needs)
 
 -- ---- required fields
 

@@ -1,12 +1,11 @@
 -- One element of the array, way by way. Assumes nothing.
-use mathlib.Core.Path.{_≡_, refl, sym, ap, _∙_}
+use mathlib.Core.Path.{_≡_, refl, _∙_}
 use mathlib.Core.Bool.{Bool, true, false, cond, not, _&&_}
 use mathlib.Core.List.{List, [], _∷_}
-use Prim.Native.Nat.{ℕ, zero, suc, _+_, _-_, _≤_, _<_}
-use native.Mathlib.Decide.{decLe}
+use Prim.Native.Nat.{ℕ, _+_, _-_, _≤_, _<_}
 use native.Mathlib.Omega.{arith}
-use lib.Dec.{leb, eqb}
-use lib.ListN.{length, take, drop, getD}
+use lib.Dec.{eqb}
+use lib.ListN.{take, drop, getD}
 use borrow.Author.Needs.{needs}
 use borrow.Author.Tests.{eq-eqb, ne-eqb, lt-ltb, le-ltb, le-leb, lt-leb, eqb-true, eqb-false, not-true, not-false}
 use Rattle.wire.specs.Bytes.{allZero}
@@ -14,22 +13,11 @@ use Rattle.wire.specs.Words.{wordAt, roundUp8}
 use Rattle.wire.specs.declared.Order.{Order}
 use Rattle.header.specs.declared.Element.{Element}
 use Rattle.header.specs.declared.Element.the-variants.{At, Bad}
-use Rattle.wire.proofs.Texts.{both-first, both-second}
+use Rattle.wire.proofs.Below.{below-at}
 use Rattle.header.specs.Codes.{letterOf}
-use Rattle.header.specs.Values.{below}
 use Rattle.header.specs.Fixed.{orderOf}
 use Rattle.header.specs.Fields.{textIn, valueAt, framed, elementAt}
 use Rattle.header.specs.Reader.{elementIn}
-
--- a test that each number below n passes
-module _ (p : ℕ → Bool) where
-  at-last : (n i : ℕ) → below p (suc n) ≡ true → i < suc n → (i < n → p i ≡ true) → Dec (n ≤ i) → p i ≡ true
-  at-last n i h l lower (yes k) = let e : i ≡ n = omega arith in rw e (both-second (below p n) (p n) h)
-  at-last n i h l lower (no k) = lower (omega arith)
-
-  below-at : (n i : ℕ) → below p n ≡ true → i < n → p i ≡ true
-  below-at zero i h l = absurd (omega arith)
-  below-at (suc n) i h l = at-last n i h l (λ k. below-at n i (both-first (below p n) (p n) h) k) (decLe n i)
 
 -- the letters of the codes from 0 on, as the code has them
 abbrev letters : List ℕ
@@ -37,7 +25,7 @@ letters = 0 ∷ 111 ∷ 115 ∷ 115 ∷ 115 ∷ 117 ∷ 115 ∷ 115 ∷ 103 ∷ 
 
 pub a-letter : (code : ℕ) → code ≤ 9 → getD letters code 0 ≡ letterOf code
 unfolding letterOf
-a-letter code h = eqb-true (getD letters code 0) (letterOf code) (below-at (λ i. eqb (getD letters i 0) (letterOf i)) 10 code refl (omega arith))
+a-letter code h = eqb-true (getD letters code 0) (letterOf code) (below-at (λ i. eqb (getD letters i 0) (letterOf i)) 10 refl code (omega arith))
 
 other : (code k : ℕ) → 9 < code → k ≤ 9 → eqb code k ≡ false
 other code k h l = ne-eqb code k (λ e. omega arith)
@@ -46,6 +34,11 @@ pub no-letter : (code : ℕ) → 9 < code → 0 ≡ letterOf code
 unfolding letterOf
 no-letter code h =
     rw (other code 1 h (omega arith), other code 2 h (omega arith), other code 3 h (omega arith), other code 4 h (omega arith), other code 5 h (omega arith), other code 6 h (omega arith), other code 7 h (omega arith), other code 8 h (omega arith), other code 9 h (omega arith))
+
+-- a test of no matter
+idle : (b : Bool) → Bad ≡ cond b Bad Bad
+idle true = refl
+idle false = refl
 
 -- a text and its zero
 module _ (h : List ℕ) (end code at len : ℕ) where
@@ -80,11 +73,7 @@ module _ (o : Order) (h : List ℕ) (end code letter at : ℕ) where
     unfolding valueAt
     short-value l =
         rw (ne-eqb letter 103 g, lt-leb (at + 4) end l, ← text-past h end code (at + 4) (wordAt o h at) (omega arith))
-        (go (eqb letter 117))
-      where
-        go : (b : Bool) → Bad ≡ cond b Bad Bad
-        go true = refl
-        go false = refl
+        (idle (eqb letter 117))
 
     module _ (l : at + 4 ≤ end) where
       pub a-number : letter ≡ 117 → At code at 4 (at + 4) ≡ valueAt o h end code letter at
@@ -116,11 +105,7 @@ module _ (o : Order) (h : List ℕ) (end from at : ℕ) (e : at ≡ roundUp8 fro
   pub element-past : end < at + 4 → Bad ≡ elementAt o h end from
   unfolding elementAt
   element-past l =
-      rw (← e, ← value-past o h end (getD h at 0) (letterOf (getD h at 0)) (at + 4) l) (go (allZero (take (at - from) (drop from h)) && framed h at))
-    where
-      go : (b : Bool) → Bad ≡ cond b Bad Bad
-      go true = refl
-      go false = refl
+      rw (← e, ← value-past o h end (getD h at 0) (letterOf (getD h at 0)) (at + 4) l) (idle (allZero (take (at - from) (drop from h)) && framed h at))
 
   module _ (z f : Bool) (p : z ≡ allZero (take (at - from) (drop from h))) (q : f ≡ framed h at) where
     pub element-unframed : not (z && f) ≡ true → Bad ≡ elementAt o h end from

@@ -1,29 +1,18 @@
 -- The fixed part of a head depends on its first 16 bytes alone, and what it says where it has none of 1 to 6. Assumes nothing.
 use mathlib.Core.Path.{_≡_, refl, sym, ap, _∙_}
 use mathlib.Core.Bool.{Bool, true, false, cond, not}
-use mathlib.Core.List.{List, [], _∷_, _++_}
-use Prim.Native.Nat.{ℕ, zero, suc, _+_, _-_, _≤_, _<_}
-use native.Mathlib.Nat.{sub-zero, zero-sub, suc-sub-suc}
+use mathlib.Core.List.{List, _++_}
+use Prim.Native.Nat.{ℕ, _≤_, _<_}
 use native.Mathlib.Omega.{arith}
 use lib.Dec.{ltb, eqb}
-use lib.ListN.{length, take, drop, getD}
-use lib.Seq.{getD-take, take-at, take-take, take-nil, drop-nil}
+use lib.ListN.{length, take, getD}
+use lib.Seq.{getD-take, take-at}
 use borrow.Author.Tests.{ltb-false}
 use Rattle.wire.specs.Words.{wordAt}
-use Rattle.wire.specs.declared.Order.{Order}
-use Rattle.wire.specs.declared.Order.the-variants.{Little, Big}
+use Rattle.wire.proofs.Words.{word-take}
 use Rattle.header.specs.declared.Fixed.{Fixed}
 use Rattle.header.specs.declared.Fixed.the-variants.{Broken, Sizes}
-use Rattle.header.specs.declared.Place.{Place}
-use Rattle.header.specs.Fields.{textAt}
 use Rattle.header.specs.Fixed.{orderOf, isOrder, serialOf, arrayLength, headLength, messageLength, sizesOf, fixedPart}
-
-pub word-front : (o : Order) (n : ℕ) (s : List ℕ) (at : ℕ) → at + 4 ≤ n → wordAt o (take n s) at ≡ wordAt o s at
-unfolding wordAt
-word-front Little n s at h =
-    rw (getD-take n s at 0 (omega arith), getD-take n s (at + 1) 0 (omega arith), getD-take n s (at + 2) 0 (omega arith), getD-take n s (at + 3) 0 (omega arith))
-word-front Big n s at h =
-    rw (getD-take n s at 0 (omega arith), getD-take n s (at + 1) 0 (omega arith), getD-take n s (at + 2) 0 (omega arith), getD-take n s (at + 3) 0 (omega arith))
 
 pub head-low : (s : List ℕ) → 16 ≤ headLength s
 unfolding headLength
@@ -38,7 +27,7 @@ module _ (n : ℕ) (s : List ℕ) (h : 16 ≤ n) where
   order-front = rw (byte-front 0 (omega arith))
 
   pub word-in-front : (at : ℕ) → at ≤ 12 → wordAt (orderOf (take n s)) (take n s) at ≡ wordAt (orderOf s) s at
-  word-in-front at l = rw order-front (word-front (orderOf s) n s at (omega arith))
+  word-in-front at l = rw order-front (word-take (orderOf s) n s at (omega arith))
 
   pub head-front : headLength (take n s) ≡ headLength s
   unfolding headLength
@@ -66,7 +55,6 @@ head-append s t h = sym (head-front (length s) (s ++ t) h) ∙ ap headLength (ta
 -- ---- the fixed part, where it has none of 1 to 6
 
 pub record Good (s : List ℕ) (head message : ℕ) : Type 0 where
-  pub kind : eqb (getD s 1 0) 0 ≡ false
   pub serial : eqb (serialOf s) 0 ≡ false
   pub head-is : head ≡ headLength s
   pub message-is : message ≡ messageLength s
@@ -117,21 +105,9 @@ fixed-good s {head} {message} e =
     let x : head ≡ headLength s = cc in
     let y : message ≡ messageLength s = cc in
     record {
-      kind = e₃ .0;
       serial = e₄ .0;
       head-is = x;
       message-is = y;
       array = ltb-false 2032 (arrayLength s) (e₅ .0);
       message-small = rw y (ltb-false 134217728 (messageLength s) (e₆ .0));
     }
-
--- ---- a value is the same in the head and in the bytes that begin with it
-
-drop-take : (a n : ℕ) (s : List ℕ) → drop a (take n s) ≡ take (n - a) (drop a s)
-drop-take zero n s = rw sub-zero
-drop-take (suc a) zero s = rw (drop-nil {A = ℕ} (suc a), zero-sub (suc a))
-drop-take (suc a) (suc n) [] = rw (take-nil {A = ℕ} (suc n - suc a))
-drop-take (suc a) (suc n) (x ∷ s) = rw (suc-sub-suc n a) (drop-take a n s)
-
-pub text-front : (n : ℕ) (s : List ℕ) (p : Place) → p .at + p .len ≤ n → textAt (take n s) p ≡ textAt s p
-text-front n s p h = rw (drop-take (p .at) n s) (take-take (p .len) (n - p .at) (drop (p .at) s) (omega arith))

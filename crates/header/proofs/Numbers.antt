@@ -1,10 +1,10 @@
 -- The fixed part, way by way: what the code has tested gives the definition's answer. Assumes nothing.
-use mathlib.Core.Path.{_≡_, refl, sym, ap, _∙_}
-use mathlib.Core.Bool.{Bool, true, false, cond, not, _||_}
+use mathlib.Core.Path.{_≡_, _∙_}
+use mathlib.Core.Bool.{true, false, not}
 use mathlib.Core.List.{List}
 use Prim.Native.Nat.{ℕ, _+_, _≤_, _<_}
 use lib.Dec.{eqb}
-use lib.ListN.{length, getD}
+use lib.ListN.{getD}
 use borrow.Author.Needs.{needs}
 use borrow.Author.Tests.{eq-eqb, ne-eqb, lt-ltb, le-ltb}
 use Rattle.wire.specs.Words.{wordAt, roundUp8}
@@ -12,7 +12,7 @@ use Rattle.wire.specs.declared.Order.{Order}
 use Rattle.wire.specs.declared.Order.the-variants.{Little, Big}
 use Rattle.header.specs.declared.Fixed.{Fixed}
 use Rattle.header.specs.declared.Fixed.the-variants.{Broken, Sizes}
-use Rattle.header.specs.Fixed.{orderOf, isOrder, arrayLength, headLength, messageLength, sizesOf, fixedPart}
+use Rattle.header.specs.Fixed.{orderOf, isOrder, headLength, messageLength, sizesOf, fixedPart}
 
 module _ (s : List ℕ) where
   pub big : getD s 0 0 ≡ 66 → Big ≡ orderOf s

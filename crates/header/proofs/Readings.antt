@@ -1,30 +1,28 @@
 -- The laws of a reading that callers go by. Assumes nothing.
 use mathlib.Core.Path.{_≡_, refl, sym, ap, subst, _∙_}
 use mathlib.Core.Bool.{Bool, true, false, cond, not}
-use mathlib.Core.List.{List, [], _∷_, _++_}
+use mathlib.Core.List.{List, _++_}
 use mathlib.Core.Option.{Option, none, some}
 use Prim.Native.Nat.{ℕ, _+_, _≤_, _<_}
-use native.Mathlib.Decide.{decLe, decLt}
+use native.Mathlib.Decide.{decLe}
 use native.Mathlib.Omega.{arith}
-use lib.Dec.{ltb, eqb}
-use lib.ListN.{length, take, drop, getD, length-append}
+use lib.ListN.{length, take, drop}
 use lib.Seq.{length-take-le, take-all, take-take, take-at}
-use borrow.Author.Tests.{lt-ltb, le-ltb, ltb-true, ltb-false, eqb-false}
+use borrow.Author.Tests.{le-ltb}
 use Rattle.wire.specs.Bytes.{allZero}
-use Rattle.wire.specs.Words.{wordAt}
 use Rattle.header.specs.declared.Place.{Place}
 use Rattle.header.specs.declared.Header.{Header}
 use Rattle.header.specs.declared.Fixed.{Fixed}
 use Rattle.header.specs.declared.Fixed.the-variants as fixed
 use Rattle.header.specs.declared.Reading.{Reading}
 use Rattle.header.specs.declared.Reading.the-variants.{Short, Broken, Whole}
-use Rattle.header.specs.Fixed.{orderOf, kindOf, flagsOf, bodyLength, serialOf, arrayLength, headLength, messageLength, fixedPart}
+use Rattle.header.specs.Fixed.{orderOf, kindOf, bodyLength, serialOf, arrayLength, headLength, messageLength, fixedPart}
 use Rattle.header.specs.Fields.{Fields, placeOf, noFields, walk, fieldsOf}
 use Rattle.header.specs.Values.{goodValues}
 use Rattle.header.specs.Required.{hasRequired}
-use Rattle.header.specs.Header.{headerOf, judged, orSeven, readHead, afterFixed, readHeader}
+use Rattle.header.specs.Header.{headerOf, judged, orSeven, readHead, readHeader}
 use Rattle.header.specs.Reader.{Head, Fits}
-use Rattle.header.proofs.Front.{byte-front, word-in-front, head-front, head-low, fixed-front, fixed-append, Good, fixed-good}
+use Rattle.header.proofs.Front.{word-in-front, head-front, head-low, fixed-front, fixed-append, Good, fixed-good}
 use Rattle.header.proofs.Walk.{fits-none, walk-fits}
 use Rattle.header.proofs.Whole.{few-bytes, fixed-broken, head-short, head-of}
 
@@ -116,38 +114,6 @@ read-append s t u = go (decLe 16 (length s))
         long i head message e (yes l) = l
         long i head message e (no l) = absurd (u (read-short s i e (omega arith)))
 
--- ---- too short, exactly
-
-pub data Unfinished (s : List ℕ) : Type 0 where
-  few : length s < 16 → Unfinished s
-  half : 16 ≤ length s → fixedPart s ≡ fixed.Sizes (headLength s) (messageLength s) → length s < headLength s → Unfinished s
-
-pub short-of : (s : List ℕ) → Unfinished s → readHeader s ≡ Short
-short-of s (few h) = read-few s h
-short-of s (half k e h) = read-short s k e h
-
-pub short-is : (s : List ℕ) → readHeader s ≡ Short → Unfinished s
-short-is s u = go (decLe 16 (length s))
-  where
-    sizes : 16 ≤ length s → (r : Fixed) → fixedPart s ≡ r → Unfinished s
-    sizes k (fixed.Broken n) e =
-        let x : readHeader s ≡ Broken n = read-broken s k e in
-        let z : _≡_ {A = ℕ} 0 1 = cc in
-        absurd (omega arith)
-    sizes k (fixed.Sizes head message) e = whole (decLe head (length s))
-      where
-        whole : Dec (head ≤ length s) → Unfinished s
-        whole (yes l) = absurd (head-not-short (take head s) (sym (read-whole s k e l) ∙ u))
-        whole (no l) =
-            let g : Good s head message = fixed-good s e in
-            let i : head ≡ headLength s = g .head-is in
-            let j : message ≡ messageLength s = g .message-is in
-            half k (e ∙ rw (i, j)) (omega arith)
-
-    go : Dec (16 ≤ length s) → Unfinished s
-    go (no k) = few (omega arith)
-    go (yes k) = sizes k (fixedPart s) refl
-
 -- ---- a whole head
 
 pub record Fitting (s : List ℕ) (d : Header) : Type 0 where
@@ -156,14 +122,11 @@ pub record Fitting (s : List ℕ) (d : Header) : Type 0 where
   pub head-low : 16 ≤ d .head
   pub head-inside : d .head ≤ length s
   pub head-small : d .head ≤ 2048
-  pub kind-is : d .kind ≡ kindOf s
-  pub flags-is : d .flags ≡ flagsOf s
   pub serial-is : d .serial ≡ serialOf s
   pub body-is : d .body ≡ bodyLength s
   pub path-fits : d .path .at + d .path .len ≤ d .head
   pub interface-fits : d .interface .at + d .interface .len ≤ d .head
   pub member-fits : d .member .at + d .member .len ≤ d .head
-  pub error-name-fits : d .«error_name» .at + d .«error_name» .len ≤ d .head
   pub destination-fits : d .destination .at + d .destination .len ≤ d .head
 
 -- the fields of a head as long as its array says lie in it
@@ -212,14 +175,11 @@ module _ (s : List ℕ) (d : Header) (u : readHeader s ≡ Whole d) (k : 16 ≤ 
         head-low = omega arith;
         head-inside = omega arith;
         head-small = let y : length (take head s) ≤ 2048 = w .small in omega arith;
-        kind-is = ap (λ (x : Header). x .kind) q ∙ byte-front head s m 1 (omega arith);
-        flags-is = ap (λ (x : Header). x .flags) q ∙ byte-front head s m 2 (omega arith);
         serial-is = ap (λ (x : Header). x .serial) q ∙ word-in-front head s m 8 (omega arith);
         body-is = ap (λ (x : Header). x .body) q ∙ word-in-front head s m 4 (omega arith);
         path-fits = in-place fs (d .path) 1 (ap (λ (x : Header). x .path) q) t p;
         interface-fits = in-place fs (d .interface) 2 (ap (λ (x : Header). x .interface) q) t p;
         member-fits = in-place fs (d .member) 3 (ap (λ (x : Header). x .member) q) t p;
-        error-name-fits = in-place fs (d .«error_name») 4 (ap (λ (x : Header). x .«error_name») q) t p;
         destination-fits = in-place fs (d .destination) 6 (ap (λ (x : Header). x .destination) q) t p;
       }
 

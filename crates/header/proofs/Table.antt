@@ -1,17 +1,19 @@
 -- The worked examples hold of the definition of a head: one statement, which antt computes. Assumes nothing.
 use mathlib.Core.Path.{_≡_, refl}
 use mathlib.Core.Bool.{true}
+use lib.Dec.{eqb}
+use Rattle.wire.specs.Lists.{agrees}
 use Rattle.wire.specs.Bytes.{allZero}
 use Rattle.wire.specs.Words.{wordAt, wordBytes}
 use Rattle.names.specs.Names.{startsWith, wellKnown, unique, validName}
 use Rattle.header.specs.Fixed.{orderOf, headLength, messageLength, sizesOf, fixedPart}
 use Rattle.header.specs.Codes.{letterOf}
 use Rattle.header.specs.Fields.{textIn, valueAt, framed, elementAt, walk, fieldsOf}
-use Rattle.header.specs.Values.{numberIn, goodValue, goodField, goodBelow, goodValues}
+use Rattle.header.specs.Values.{numberIn, goodValue, goodField, goodValues}
 use Rattle.header.specs.Required.{hasRequired}
 use Rattle.header.specs.Header.{headerOf, judged, readHead, readHeader}
-use Rattle.header.specs.Table.{table, agrees}
+use Rattle.header.specs.Table.{table, answer}
 
-pub table-agrees : agrees table ≡ true
-unfolding allZero wordAt wordBytes startsWith wellKnown unique validName orderOf headLength messageLength sizesOf fixedPart letterOf textIn valueAt framed elementAt walk fieldsOf numberIn goodValue goodField goodBelow goodValues hasRequired headerOf judged readHead readHeader
+pub table-agrees : agrees answer eqb table ≡ true
+unfolding allZero wordAt wordBytes startsWith wellKnown unique validName orderOf headLength messageLength sizesOf fixedPart letterOf textIn valueAt framed elementAt walk fieldsOf numberIn goodValue goodField goodValues hasRequired headerOf judged readHead readHeader
 table-agrees = refl

@@ -1,5 +1,5 @@
 -- The walk over the array: where an element stands, and what is left of the walk. Assumes nothing.
-use mathlib.Core.Path.{_≡_, refl, sym, ap, subst, _∙_}
+use mathlib.Core.Path.{_≡_, refl, sym, subst, _∙_}
 use mathlib.Core.Bool.{Bool, true, false, cond, not, _&&_}
 use mathlib.Core.List.{List, [], _∷_}
 use mathlib.Core.Option.{Option, none, some}
@@ -7,7 +7,7 @@ use Prim.Native.Nat.{ℕ, zero, suc, _+_, _-_, _*_, _≤_, _<_}
 use native.Mathlib.Decide.{decLe}
 use native.Mathlib.Omega.{arith}
 use lib.Dec.{leb, ltb, eqb}
-use lib.ListN.{length, take, drop, getD, set, replicate, length-set, getD-replicate, List·getD-eq-default}
+use lib.ListN.{length, take, drop, getD, set, length-set, getD-replicate, List·getD-eq-default}
 use lib.Seq.{getD-set-same, getD-set-other}
 use mir.Syntax.{w64}
 use mir.Val
@@ -17,7 +17,7 @@ use Rattle.wire.specs.Bytes.{allZero}
 use Rattle.wire.specs.Words.{wordAt, roundUp8}
 use Rattle.wire.specs.declared.Order.{Order}
 use Rattle.wire.proofs.Texts.{both-first, both-second}
-use Rattle.header.specs.declared.Place.{Place}
+use Rattle.wire.proofs.Below.{row-each}
 use Rattle.header.specs.declared.Element.{Element}
 use Rattle.header.specs.declared.Element.the-variants.{At, Bad}
 use Rattle.header.specs.Codes.{letterOf}
@@ -73,10 +73,6 @@ value-valued o h end code letter at {c} {a} {l} {s} e = go (eqb letter 103) (eqb
     go false true false t k = no-value k
     go false false n t k = lower (omega arith) (text-valued h end code (at + 4) (wordAt o h at) k)
 
-first-of-four : (a b c d : Bool) → a && b && c && d ≡ true → a ≡ true
-first-of-four true b c d h = refl
-first-of-four false b c d h = h
-
 -- a code with a letter is one of the table
 framed-code : (h : List ℕ) (at : ℕ) → framed h at ≡ true → getD h at 0 ≤ 9
 unfolding framed
@@ -89,7 +85,7 @@ framed-code h at t = go (letterOf (getD h at 0)) refl t
         known : Dec (getD h at 0 ≤ 9) → getD h at 0 ≤ 9
         known (yes k) = k
         known (no k) =
-            let f : not (eqb l 0) ≡ true = first-of-four (not (eqb l 0)) (eqb (getD h (at + 1) 0) 1) (eqb (getD h (at + 2) 0) l) (eqb (getD h (at + 3) 0) 0) u in
+            let f : not (eqb l 0) ≡ true = row-each true (not (eqb l 0) ∷ eqb (getD h (at + 1) 0) 1 ∷ eqb (getD h (at + 2) 0) l ∷ eqb (getD h (at + 3) 0) 0 ∷ []) u 0 in
             absurd (eqb-false l 0 (not-true (eqb l 0) f) (e ∙ sym (no-letter (getD h at 0) (omega arith))))
 
 pub record Stands (end from code at len stop : ℕ) : Type 0 where

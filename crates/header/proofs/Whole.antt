@@ -1,8 +1,7 @@
 -- A whole head and any bytes, way by way. Assumes nothing.
-use mathlib.Core.Path.{_≡_, refl, sym, ap, _∙_}
-use mathlib.Core.Bool.{Bool, true, false, cond, not}
-use mathlib.Core.List.{List, [], _∷_}
-use mathlib.Core.Option.{Option, none, some}
+use mathlib.Core.Path.{_≡_, sym, _∙_}
+use mathlib.Core.Bool.{Bool, true, false, not}
+use mathlib.Core.List.{List}
 use Prim.Native.Nat.{ℕ, _+_, _-_, _≤_, _<_}
 use native.Mathlib.Omega.{arith}
 use native.Mathlib.Nat.{add-sub-cancel-left, sub-zero}
@@ -11,10 +10,9 @@ use lib.Seq.{length-take-le}
 use borrow.Author.Needs.{needs}
 use borrow.Author.Tests.{lt-ltb, le-ltb, not-true, not-false}
 use Rattle.wire.specs.Bytes.{allZero}
-use Rattle.wire.specs.Words.{wordAt, roundUp8}
+use Rattle.wire.specs.Words.{wordAt}
 use Rattle.wire.specs.declared.Order.{Order}
 use Rattle.wire.proofs.Words.{rest-at}
-use Rattle.header.specs.declared.Place.{Place}
 use Rattle.header.specs.declared.Found.{Found}
 use Rattle.header.specs.declared.Header.{Header}
 use Rattle.header.specs.declared.Fixed.{Fixed}
@@ -25,7 +23,7 @@ use Rattle.header.specs.Fixed.{orderOf, arrayLength, headLength, fixedPa
 use Rattle.header.specs.Fields.{Fields, placeOf, noFields, walk, fieldsOf}
 use Rattle.header.specs.Values.{numberIn, goodValues}
 use Rattle.header.specs.Required.{hasRequired}
-use Rattle.header.specs.Header.{headerOf, judged, orSeven, readHead, readHeader}
+use Rattle.header.specs.Header.{headerOf, judged, readHead, readHeader}
 use Rattle.header.specs.Reader.{Head, Inside, Fits, Reads, foundIn}
 use Rattle.header.proofs.Front.{word-in-front, Good, fixed-good}
 use Rattle.header.proofs.Walk.{fits-none, walk-fits}

@@ -1,6 +1,6 @@
 -- The fixed part of a head, bytes 0 to 15 (01, "Message head"), and its answers 1 to 6 (01, "Answer numbers").
 -- Assumes nothing: these are definitions.
-use mathlib.Core.Bool.{Bool, true, false, cond, not, _||_}
+use mathlib.Core.Bool.{Bool, cond, not, _||_}
 use mathlib.Core.List.{List}
 use Prim.Native.Nat.{ℕ, _+_}
 use lib.Dec.{ltb, eqb}
@@ -19,7 +19,7 @@ orderOf s = cond (eqb (getD s 0 0) (byte "B")) Big Little
 abbrev pub isOrder : ℕ → Bool
 isOrder b = eqb b (byte "l") || eqb b (byte "B")
 
--- "Byte 1 type, 2 flags, 3 version 1. Then u32 body length, u32 serial, u32 field array length."
+-- "Byte 1 type, 2 flags (bit 0: no reply expected; others ignored), 3 version 1. Then u32 body length, u32 serial, u32 field array length."
 abbrev pub kindOf : List ℕ → ℕ
 kindOf s = getD s 1 0
 

@@ -1,5 +1,5 @@
 -- A head as a whole (01, "Message head" and "Answer numbers"): for any bytes, what a reader of them answers. Assumes nothing: these are definitions.
-use mathlib.Core.Bool.{Bool, true, false, cond, not}
+use mathlib.Core.Bool.{cond, not}
 use mathlib.Core.List.{List}
 use mathlib.Core.Option.{Option, none, some}
 use Prim.Native.Nat.{ℕ}

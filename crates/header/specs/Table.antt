@@ -1,9 +1,7 @@
 -- Worked examples of heads, T5 to T7 of 01's "Bench table" among them, as a table: bytes, and 01's number for what a reader answers.
 -- 10 says that the head has not come whole, 0 that it has none of the faults. Assumes nothing: these are definitions.
-use mathlib.Core.Bool.{Bool, true, false, _&&_}
 use mathlib.Core.List.{List, [], _∷_, _++_, reverse}
 use Prim.Native.Nat.{ℕ}
-use lib.Dec.{eqb}
 use lib.ListN.{take, set}
 use Rattle.wire.specs.Bytes.{byte, bytes}
 use Rattle.wire.specs.Words.{wordBytes}
@@ -64,7 +62,5 @@ lines o =
 abbrev pub table : List Line
 table = lines Little ++ lines Big
 
--- each line of a table says what the rules say
-abbrev pub agrees : List Line → Bool
-agrees [] = true
-agrees (l ∷ ls) = eqb (answerOf (readHeader (l .0))) (l .1) && agrees ls
+abbrev pub answer : List ℕ → ℕ
+answer s = answerOf (readHeader s)

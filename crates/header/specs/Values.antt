@@ -1,9 +1,10 @@
 -- The values of the fields and their answer 8 (01, "Message head" and "Answer numbers"). Assumes nothing: these are definitions.
-use mathlib.Core.Bool.{Bool, true, false, cond, not, _&&_, _||_}
+use mathlib.Core.Bool.{Bool, true, cond, not, _||_}
 use mathlib.Core.List.{List}
-use Prim.Native.Nat.{ℕ, zero, suc}
+use Prim.Native.Nat.{ℕ}
 use lib.Dec.{ltb, eqb}
 use lib.ListN.{length}
+use Rattle.wire.specs.Lists.{below}
 use Rattle.wire.specs.Words.{wordAt}
 use Rattle.wire.specs.declared.Order.{Order}
 use Rattle.names.specs.Names.{validName}
@@ -29,13 +30,5 @@ goodValue o code t = obeys o (ruleOf code) t
 unfoldable pub goodField : Order → List ℕ → Place → ℕ → Bool
 goodField o h p code = not (present p) || goodValue o code (textAt h p)
 
--- each number below n passes
-abbrev pub below : (ℕ → Bool) → ℕ → Bool
-below p zero = true
-below p (suc n) = below p n && p n
-
-unfoldable pub goodBelow : Order → List ℕ → Fields → ℕ → Bool
-goodBelow o h fs n = below (λ code. goodField o h (placeOf fs code) code) n
-
 unfoldable pub goodValues : Order → List ℕ → Fields → Bool
-goodValues o h fs = goodBelow o h fs 10
+goodValues o h fs = below (λ code. goodField o h (placeOf fs code) code) 10

@@ -1,18 +1,16 @@
 // The head of a D-Bus message: its fixed part, the array of header fields, their values, and the fields that a type requires.
 mod reader;
+mod values;
 
-use names::Form;
 use wire::Order;
 ghost use mathlib.Core.Path.{_≡_};
 ghost use Prim.Native.Nat.{_+_, _-_, _≤_, _<_};
 ghost use lib.ListN.{length};
 ghost use Rattle.header.specs.Fixed.{orderOf, sizesOf, fixedPart};
 ghost use Rattle.header.specs.Codes.{letterOf};
-ghost use Rattle.header.specs.Fields.{present, placeOf, noFields, textIn, valueAt, framed, elementAt, walk};
-ghost use Rattle.header.specs.Values.{numberIn, goodValue, goodField, goodValues};
-ghost use Rattle.header.specs.Required.{hasRequired};
+ghost use Rattle.header.specs.Fields.{noFields, textIn, valueAt, framed, elementAt, walk};
 ghost use Rattle.header.specs.Header.{headerOf, judged, readHead, readHeader};
-ghost use Rattle.header.specs.Reader.{Head, Inside, Fits, Reads, foundIn};
+ghost use Rattle.header.specs.Reader.{Head, Inside, Reads, foundIn};
 
 // A field's value in the head: `len` bytes from `at` on. No value starts at byte 0: there the field is absent.
 pub struct Place {
@@ -223,83 +221,6 @@ fn walk_all(head: &[u8], end: usize) -> Found
     Found { good: true, places }
 }
 
-// The number in the four bytes of a value, 0 where it has fewer.
-fn number_in(order: Order, value: &[u8]) -> u32
-    ensures { λ r. ⌜ r ≡ numberIn order (now (value .entry)) ⌝ }
-{
-    if value.len() < 4 {
-        return 0;
-    }
-    wire::u32_at(order, value, 0)
-}
-
-// The value obeys the rule of its code.
-fn is_good_value(order: Order, code: usize, value: &[u8]) -> bool
-    ensures { λ r. ⌜ r ≡ goodValue order code (now (value .entry)) ⌝ }
-{
-    match code {
-        1 => names::is_valid(Form::Path, value),
-        2 => names::is_valid(Form::Interface, value),
-        3 => names::is_valid(Form::Member, value),
-        4 => names::is_valid(Form::Interface, value),
-        5 => !(number_in(order, value) == 0),
-        6 => names::is_valid(Form::BusName, value),
-        7 => names::is_valid(Form::BusName, value),
-        8 => signature::is_valid(value),
-        _ => true,
-    }
-}
-
-// The field of a code is absent, or its value obeys the code's rule.
-fn is_good(order: Order, head: &[u8], place: Place, code: usize) -> bool
-    requires { ⌜ place .at + place .len ≤ length (now head) ⌝ }
-    ensures { λ r. ⌜ r ≡ goodField order (now (head .entry)) place code ⌝ }
-{
-    let at = place.at;
-    if at == 0 {
-        return true;
-    }
-    let end = at + place.len;
-    is_good_value(order, code, &head[at..end])
-}
-
-// Each field that is present obeys its rule.
-fn are_good(order: Order, head: &[u8], places: [Place; 10]) -> bool
-    requires { ⌜ Fits (now head) places ⌝ }
-    ensures { λ r. ⌜ r ≡ goodValues order (now (head .entry)) places ⌝ }
-{
-    let mut code = 10;
-    while 0 < code {
-        code -= 1;
-        let place = places[code];
-        if !is_good(order, head, place, code) {
-            return false;
-        }
-    }
-    true
-}
-
-fn has(places: [Place; 10], code: usize) -> bool
-    requires { ⌜ code < 10 ⌝ }
-    ensures { λ r. ⌜ r ≡ present (placeOf places code) ⌝ }
-{
-    let place = places[code];
-    !(place.at == 0)
-}
-
-// Each field that the type requires is present.
-fn has_required(kind: u8, places: [Place; 10]) -> bool
-    ensures { λ r. ⌜ r ≡ hasRequired kind places ⌝ }
-{
-    match kind {
-        1 => has(places, 1) & has(places, 3),
-        2 => has(places, 5),
-        3 => has(places, 4) & has(places, 5),
-        4 => has(places, 1) & has(places, 2) & has(places, 3),
-        _ => true,
-    }
-}
-
 fn header_of(order: Order, head: &[u8], places: [Place; 10]) -> Header
     requires { ⌜ Reads (now head) order places ⌝ }
     ensures { λ r. ⌜ r ≡ headerOf (now (head .entry)) places ⌝ }
@@ -309,7 +230,7 @@ fn header_of(order: Order, head: &[u8], places: [Place; 10]) -> Header
     let reply = places[5];
     let at = reply.at;
     let end = at + reply.len;
-    let reply_serial = number_in(order, &head[at..end]);
+    let reply_serial = values::number_in(order, &head[at..end]);
     let path = places[1];
     let interface = places[2];
     let member = places[3];
@@ -335,10 +256,10 @@ fn judge(order: Order, head: &[u8], places: [Place; 10]) -> Reading
     requires { ⌜ Reads (now head) order places ⌝ }
     ensures { λ r. ⌜ r ≡ judged (now (head .entry)) places ⌝ }
 {
-    if !are_good(order, head, places) {
+    if !values::are_good(order, head, places) {
         return Reading::Broken(8);
     }
-    if !has_required(head[1], places) {
+    if !values::has_required(head[1], places) {
         return Reading::Broken(9);
     }
     Reading::Whole(header_of(order, head, places))

@@ -7,12 +7,12 @@ use native.Mathlib.Omega.{arith}
 use lib.Dec.{leb, eqb}
 use lib.ListN.{length, getD}
 use borrow.Author.Tests.{not-false, leb-true, eqb-true}
+use Rattle.wire.specs.Lists.{below}
+use Rattle.wire.proofs.Below.{row-each}
 use Rattle.image.specs.Image.{totalLength, connectCount, connectOffset, ownCount, ownOffset, transactionCount, transactionOffset, stringOffset}
-use Rattle.image.specs.Good.{goodCounts, goodSections, goodHeader, goodConnect, goodOwn, goodTransaction, below, goodImage, outcomeOf}
+use Rattle.image.specs.Good.{goodCounts, goodSections, goodHeader, goodConnect, goodOwn, goodTransaction, goodImage, outcomeOf}
 use Rattle.image.specs.Contracts.{Header, GoodImage}
-use Rattle.image.specs.declared.Outcome.{Outcome}
 use Rattle.image.specs.declared.Outcome.the-variants.{Good, Bad}
-use Rattle.image.proofs.Below.{row-each}
 
 -- ---- the header
 

@@ -1,4 +1,3 @@
-mod Below
 mod Ways
 pub mod Holds
 pub mod RuleHolds

@@ -1,13 +1,13 @@
 -- A law for each way through the tests of an image: what the code has read makes the definition. Assumes nothing.
-use mathlib.Core.Path.{_≡_, refl, sym, _∙_}
+use mathlib.Core.Path.{_≡_, _∙_}
 use mathlib.Core.Bool.{Bool, true, false, not, _&&_, _||_, and-false}
 use mathlib.Core.List.{List}
 use Prim.Native.Nat.{ℕ, _+_, _-_, _*_, _≤_, _<_}
-use native.Mathlib.Omega.{arith}
 use lib.Dec.{leb, eqb}
 use lib.ListN.{length, take, drop, getD}
 use borrow.Author.Needs.{needs}
 use borrow.Author.Tests.{not-true, not-false, le-leb, lt-leb, eq-eqb, ne-eqb}
+use Rattle.wire.specs.Lists.{below}
 use Rattle.wire.specs.Words.{wordAt}
 use Rattle.wire.specs.declared.Order.the-variants.{Little}
 use Rattle.wire.proofs.Words.{cut-at}
@@ -16,8 +16,7 @@ use Rattle.names.specs.declared.Form.{Form}
 use Rattle.names.specs.declared.Form.the-variants.{Interface, WellKnown, Member, Path}
 use Rattle.image.specs.Image.{totalLength, connectCount, connectOffset, ownCount, ownOffset, transactionCount, transactionOffset, stringOffset}
 use Rattle.image.specs.Rules.{spanAt, textOf, transactionAt}
-use Rattle.image.specs.Good.{goodCounts, goodSections, goodHeader, goodString, goodOrAny, goodOwned, goodStrings, goodSubject, goodMatcher, goodConnectRule, goodOwnRule, goodTransactionRule, goodConnect, goodOwn, goodTransaction, below, goodImage, outcomeOf}
-use Rattle.image.specs.declared.Outcome.{Outcome}
+use Rattle.image.specs.Good.{goodCounts, goodSections, goodHeader, goodString, goodOrAny, goodOwned, goodStrings, goodSubject, goodMatcher, goodConnectRule, goodOwnRule, goodTransactionRule, goodConnect, goodOwn, goodTransaction, goodImage, outcomeOf}
 use Rattle.image.specs.declared.Outcome.the-variants.{Good, Bad}
 
 module _ (image : List ℕ) where

@@ -5,7 +5,7 @@ use mathlib.Core.List.{List}
 use Prim.Native.Nat.{ℕ, _+_, _*_, _≤_}
 use lib.ListN.{length}
 use Rattle.image.specs.Image.{totalLength, connectCount, connectOffset, ownCount, ownOffset, transactionCount, transactionOffset, stringOffset}
-use Rattle.image.specs.Rules.{Span, spanAt}
+use Rattle.image.specs.Rules.{spanAt}
 use Rattle.image.specs.Good.{goodImage}
 
 -- the header is good

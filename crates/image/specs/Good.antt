@@ -1,9 +1,10 @@
 -- Which policy images are good (01, "Policy image"): "Any breach is answer 50." Assumes nothing: these are definitions.
-use mathlib.Core.Bool.{Bool, true, false, cond, _&&_, _||_}
+use mathlib.Core.Bool.{Bool, cond, _&&_, _||_}
 use mathlib.Core.List.{List}
-use Prim.Native.Nat.{ℕ, zero, suc, _+_, _*_}
+use Prim.Native.Nat.{ℕ, _+_, _*_}
 use lib.Dec.{leb, eqb}
 use lib.ListN.{length}
+use Rattle.wire.specs.Lists.{below}
 use Rattle.names.specs.Names.{validName}
 use Rattle.names.specs.declared.Form.{Form}
 use Rattle.names.specs.declared.Form.the-variants.{Interface, WellKnown, Member, Path}
@@ -55,7 +56,7 @@ goodOwned image matcher s = cond (eqb matcher 0) (eqb (s .offset) 0 && eqb (s .l
 abbrev pub goodSubject : ℕ → ℕ → Bool
 goodSubject context subject = leb context 3 && (eqb context 1 || eqb context 2 || eqb subject 0)
 
--- "verdict (0 deny, 1 allow), matcher (0 any, 1, 2), zero": three bytes that connect and own rules share
+-- verdict 0 or 1, matcher 0 to 2, zero: three bytes that connect and own rules share
 abbrev pub goodMatcher : ℕ → ℕ → ℕ → Bool
 goodMatcher verdict matcher reserved = leb verdict 1 && leb matcher 2 && eqb reserved 0
 
@@ -99,11 +100,6 @@ unfoldable pub goodTransaction : List ℕ → ℕ → Bool
 goodTransaction image i = goodTransactionRule image (transactionRule image i)
 
 -- ---- the image
-
--- p holds of each number below n
-unfoldable pub below : (ℕ → Bool) → ℕ → Bool
-below p zero = true
-below p (suc i) = below p i && p i
 
 unfoldable pub goodImage : List ℕ → Bool
 goodImage image =

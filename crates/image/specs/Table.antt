@@ -1,8 +1,6 @@
 -- Worked examples of policy images, as a table. Assumes nothing: these are definitions.
-use mathlib.Core.Bool.{Bool, true, false, _&&_}
 use mathlib.Core.List.{List, [], _∷_, _++_}
 use Prim.Native.Nat.{ℕ, _+_, _/_}
-use lib.Dec.{eqb}
 use lib.ListN.{length, take, replicate}
 use Rattle.wire.specs.Bytes.{bytes}
 use Rattle.wire.specs.Words.{wordBytes}
@@ -59,7 +57,5 @@ table =
     ∷ (imageOf [] [] (head 0 0 0 0 0 ++ cites 1 0 ++ replicate 24 0) [], 50)
     ∷ []
 
--- each line of a table says what the rules say
-abbrev pub agrees : List Line → Bool
-agrees [] = true
-agrees (l ∷ ls) = eqb (answerOf (outcomeOf (l .0))) (l .1) && agrees ls
+abbrev pub answer : List ℕ → ℕ
+answer image = answerOf (outcomeOf image)

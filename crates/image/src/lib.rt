@@ -2,11 +2,12 @@
 ghost use mathlib.Core.Path.{_≡_};
 ghost use Prim.Native.Nat.{_+_, _*_, _≤_, _<_};
 ghost use lib.ListN.{length, getD};
+ghost use Rattle.wire.specs.Lists.{below};
 ghost use Rattle.wire.specs.Words.{wordAt};
 ghost use Rattle.wire.specs.declared.Order.the-variants.{Little};
-ghost use Rattle.image.specs.Image.{connectCount, connectOffset, ownCount, ownOffset, transactionCount, transactionOffset, stringOffset};
+ghost use Rattle.image.specs.Image.{connectCount, connectOffset, ownCount, ownOffset, transactionCount, transactionOffset};
 ghost use Rattle.image.specs.Rules.{spanAt, textOf, transactionAt};
-ghost use Rattle.image.specs.Good.{goodCounts, goodSections, goodHeader, goodString, goodOrAny, goodOwned, goodStrings, goodSubject, goodMatcher, goodConnect, goodOwn, goodTransaction, below, outcomeOf};
+ghost use Rattle.image.specs.Good.{goodCounts, goodSections, goodHeader, goodString, goodOrAny, goodOwned, goodStrings, goodSubject, goodMatcher, goodConnect, goodOwn, goodTransaction, outcomeOf};
 ghost use Rattle.image.specs.Contracts.{Header, Strings, RuleAt, Cites};
 
 // What the test of an image says: 01's answer 50 is Bad.

@@ -112,74 +112,26 @@ fn header() {
     word(b"total one too small", 0, 102);
     word(b"total one too large", 0, 104);
     word(b"total with a high bit", 0, 2147483751);
-    zeros(
-        b"256 connect, 256 own, 512 transaction rules",
-        256,
-        256,
-        512,
-        26656,
-        65537,
-        0,
-    );
+}
+
+// The largest counts, with the byte at `at` another.
+fn full(label: &[u8], at: usize, x: u8) {
+    zeros(label, 256, 256, 512, 26656, at, x);
+}
+
+fn counts() {
+    full(b"256 connect, 256 own, 512 transaction rules", 65537, 0);
     zeros(b"257 connect rules", 257, 0, 0, 2088, 65537, 0);
     zeros(b"257 own rules", 0, 257, 0, 4144, 65537, 0);
     zeros(b"513 transaction rules", 0, 0, 513, 20552, 65537, 0);
     zeros(b"rules end at the total", 1, 1, 1, 96, 65537, 0);
     zeros(b"rules end behind the total", 1, 1, 1, 95, 65537, 0);
-    zeros(
-        b"breach in the first connect rule of 256",
-        256,
-        256,
-        512,
-        26656,
-        33,
-        2,
-    );
-    zeros(
-        b"breach in the last connect rule of 256",
-        256,
-        256,
-        512,
-        26656,
-        2073,
-        2,
-    );
-    zeros(
-        b"breach in the first own rule of 256",
-        256,
-        256,
-        512,
-        26656,
-        2081,
-        2,
-    );
-    zeros(
-        b"breach in the last own rule of 256",
-        256,
-        256,
-        512,
-        26656,
-        6161,
-        2,
-    );
-    zeros(
-        b"breach in the first transaction rule of 512",
-        256,
-        256,
-        512,
-        26656,
-        6177,
-        2,
-    );
-    zeros(
-        b"breach in the last transaction rule of 512",
-        256,
-        256,
-        512,
-        26656,
-        26617,
-        2,
-    );
+    full(b"breach in the first connect rule of 256", 33, 2);
+    full(b"breach in the last connect rule of 256", 2073, 2);
+    full(b"breach in the first own rule of 256", 2081, 2);
+    full(b"breach in the last own rule of 256", 6161, 2);
+    full(b"breach in the first transaction rule of 512", 6177, 2);
+    full(b"breach in the last transaction rule of 512", 26617, 2);
 }
 
 fn sections() {
@@ -306,6 +258,7 @@ fn strings() {
 
 fn main() {
     header();
+    counts();
     sections();
     connect();
     own();

@@ -14,7 +14,7 @@ use Rattle.rules.specs.Addresses.{uniqueName, answersTo, resolve}
 use Rattle.rules.specs.Calls.{slotAt}
 use Rattle.memory.specs.Encoding.{stateOf}
 use Rattle.memory.proofs.Reading.{numberAt, sixteen, slot-free, slot-peer}
-use Rattle.memory.proofs.Search.{Looking, Found, looking-begins, looking-hit, looking-miss, looking-ends}
+use Rattle.memory.proofs.Search.{Found, looking-begins, tested-hit, tested-miss, tested-ends}
 use Rattle.memory.proofs.Find.{found-first, found-passes}
 use Rattle.slots.specs.Slots.{peerAt}
 use Rattle.judge.specs.declared.address.Destination.the-variants.{Absent, Bus, At, Unknown}
@@ -40,17 +40,7 @@ pub ruleset answering = (answers-free, answers-unique, answers-name, needs)
 
 -- ---- the first
 
-module _ (text : List ℕ) {m : List ℕ} {i : ℕ} (f : Looking (answersTo text) m 0 i) (h : i < 16) {r : Bool} (e : r ≡ answersTo text (slotAt (stateOf m) i)) where
-  pub addressee-hit : r ≡ true → Found (answersTo text) m 0 i
-  addressee-hit q = looking-hit (answersTo text) m 0 i f h (sym e ∙ q)
-
-  pub addressee-miss : r ≡ false → Looking (answersTo text) m 0 (i + 1)
-  addressee-miss q = looking-miss (answersTo text) m 0 i f h (sym e ∙ q)
-
-pub addressee-ends : (text : List ℕ) {m : List ℕ} {i : ℕ} → Looking (answersTo text) m 0 i → 16 ≤ i → Found (answersTo text) m 0 i
-addressee-ends text {m} {i} f h = looking-ends (answersTo text) m 0 i f h
-
-pub ruleset addressees = (looking-begins, addressee-hit, addressee-miss, addressee-ends, needs)
+pub ruleset addressees = (looking-begins, tested-hit, tested-miss, tested-ends, needs)
 
 -- ---- the destination
 
@@ -82,7 +72,7 @@ module _ (m head : List ℕ) (p : Place) (z : p .at ≡ 0 → ⊥) where
       resolved-slot s h =
           record {
             is = rw (ne-eqb (p .at) 0 z, text-is, ← q, t, found-first (answersTo text) m j f, sixteen m, lt-ltb j 16 h);
-            stands = record { sized = s .sized; held = s .held; below = h; some = answers-some text m j f h };
+            stands = record { held = s .held; sized = s .held .sized; below = h; some = answers-some text m j f h };
           }
 
       pub resolved-nobody : 16 ≤ j → Resolved m head p Unknown

@@ -1,48 +1,31 @@
 -- Pending calls of a slot written: one more at the end, one taken out. Assumes nothing.
-use mathlib.Core.Path.{_≡_, refl, sym, ap, ap₂, _∙_}
+use mathlib.Core.Path.{_≡_, refl, sym, ap, _∙_}
 use mathlib.Core.List.{List, _++_}
-use Prim.Native.Nat.{ℕ, _+_, _-_, _*_, _≤_, _<_, min}
+use Prim.Native.Nat.{ℕ, _+_, _-_, _*_, _≤_, _<_}
 use native.Mathlib.Omega.{arith}
-use native.Mathlib.Nat.{add-zero}
-use lib.ListN.{length, take, drop, getD, replicate, length-append, length-drop}
-use lib.Seq.{drop-drop, take-add, length-take-le}
+use lib.ListN.{length, take, drop, getD}
 use mir.Syntax.{w8}
 use mir.Val.{Fits}
 use borrow.Author.Needs.{needs}
-use Rattle.wire.specs.Words.{wordAt, wordBytes}
-use Rattle.wire.specs.declared.Order.the-variants.{Little}
-use Rattle.wire.proofs.Words.{cut-at, put-at, bytes-again, word-length}
-use Rattle.tables.specs.Cut.{Cell}
-use Rattle.tables.proofs.Words.{word-part, bytes-take, bytes-drop}
-use Rattle.tables.proofs.Change.{removed, removed-last, removed-next}
-use Rattle.tables.proofs.Written.{put-joined}
-use Rattle.memory.specs.Sound.{Held}
-use Rattle.memory.proofs.Held.{held-counted}
-use Rattle.memory.proofs.Puts.{call-appended, call-removed}
-use Rattle.judge.specs.Judging.{PeerAt}
-use Rattle.judge.specs.Steps.{Holds, Began, Ended}
-
--- ---- how many
-
-pub held-in : {m : List ℕ} {i : ℕ} → PeerAt m i → Held m
-held-in p = record { sized = p .sized; held = p .held }
-
-pub holds-calls : {m : List ℕ} {i w n : ℕ} → PeerAt m i → w ≡ wordAt Little m (4 + 3292 * i + 76) → n ≡ min w 16 → Holds m i n
-holds-calls {m} {i} p e f =
-    let few : wordAt Little m (4 + 3292 * i + 76) ≤ 16 = held-counted m i (held-in p) (p .below) (p .some) .fewCalls in
-    record { caller = p; count = omega arith; few = omega arith }
-
-pub ruleset counting = (holds-calls, needs)
+use Rattle.wire.specs.Words.{wordBytes}
+use Rattle.wire.proofs.Words.{word-length}
+use Rattle.tables.specs.Cut.{cutOut, Cell}
+use Rattle.tables.proofs.Change.{without}
+use Rattle.tables.proofs.Written.{put-joined, part-cell, remove-written}
+use Rattle.memory.specs.Encoding.{pendingBytes}
+use Rattle.memory.proofs.Frame.{pending-length}
+use Rattle.memory.proofs.Puts.{pending-stands, pending-put, call-appended}
+use Rattle.slots.specs.Slots.{peerAt, Seated}
+use Rattle.judge.specs.Steps.{Began, Ended}
 
 -- ---- one more
 
-pub call-began : (m m₁ m₂ m₃ : List ℕ) (i n callee serial : ℕ) → Holds m i n → n < 16 → ((j : ℕ) → Fits w8 (getD m j 0))
+pub call-began : (m m₁ m₂ m₃ : List ℕ) (i n callee serial : ℕ) → Seated m i → n ≡ length (peerAt m i .pending) → n < 16 → ((j : ℕ) → Fits w8 (getD m j 0))
     → m₁ ≡ take (4 + 3292 * i + 80 + 8 * n) m ++ (wordBytes callee ++ drop (4 + 3292 * i + 80 + 8 * n + 4) m)
     → m₂ ≡ take (4 + 3292 * i + 80 + 8 * n + 4) m₁ ++ (wordBytes serial ++ drop (4 + 3292 * i + 80 + 8 * n + 4 + 4) m₁)
     → m₃ ≡ take (4 + 3292 * i + 76) m₂ ++ (wordBytes (n + 1) ++ drop (4 + 3292 * i + 76 + 4) m₂)
     → Began m i callee serial m₃
-call-began m m₁ m₂ m₃ i n callee serial h l b e₁ e₂ e₃ =
-    let p : PeerAt m i = h .caller in
+call-began m m₁ m₂ m₃ i n callee serial p q l b e₁ e₂ e₃ =
     let c : ℕ = 4 + 3292 * i + 80 + 8 * n in
     let s : length m ≡ 52676 = p .sized in
     let o : i < 16 = p .below in
@@ -52,7 +35,7 @@ call-began m m₁ m₂ m₃ i n callee serial h l b e₁ e₂ e₃ =
     ∙ put-joined m (wordBytes callee) (wordBytes serial) c 4 4 (omega arith) (word-length callee) in
     record {
       is =
-          call-appended m (λ j. b j .fits) (held-in p) i o (p .some) (record { callee = callee; serial = serial }) m₂ m₃ n c (h .count) l refl e e₃;
+          call-appended m (λ j. b j .fits) (p .held) i o (p .some) (record { callee = callee; serial = serial }) m₂ m₃ n c q l refl e e₃;
     }
 
 pub ruleset beginning = (call-began, needs)
@@ -60,30 +43,23 @@ pub ruleset beginning = (call-began, needs)
 -- ---- one less
 
 -- call k stands in the cells
-pub call-cell : (m : List ℕ) (i n k : ℕ) → Holds m i n → k < n
-    → Cell (take (4 + 3292 * i + 76 + 4 + 128 - (4 + 3292 * i + 76 + 4)) (drop (4 + 3292 * i + 76 + 4) m)) (8 * k) 8 (8 * n)
-call-cell m i n k h l =
-    let p : PeerAt m i = h .caller in
-    let s : length m ≡ 52676 = p .sized in
-    let o : i < 16 = p .below in
-    let f : n ≤ 16 = h .few in
-    let a : ℕ = 4 + 3292 * i + 76 + 4 in
-    let z : length (take (a + 128 - a) (drop a m)) ≡ 128 = ap length (cut-at a 128 m) ∙ length-take-le 128 (drop a m) (omega (arith, length-drop a m)) in
-    record { inside = omega arith; room = omega arith }
+pub call-cell : (m : List ℕ) (i n k : ℕ) → Seated m i → n ≤ 16 → k < n
+    → Cell (take (4 + 3292 * i + 76 + 132 - (4 + 3292 * i + 76)) (drop (4 + 3292 * i + 76) m)) (4 + 8 * k) 8 (4 + 8 * n)
+call-cell m i n k p f l = part-cell 8 16 k n m (4 + 3292 * i + 76) (omega (arith, p .sized, p .below)) f l
 
-pub call-ended : (m m₂ y : List ℕ) (i n k : ℕ) → Holds m i n → k < n → ((j : ℕ) → Fits w8 (getD m j 0))
-    → y ≡ removed 8 n k (take (4 + 3292 * i + 76 + 4 + 128 - (4 + 3292 * i + 76 + 4)) (drop (4 + 3292 * i + 76 + 4) m))
-    → m₂
-    ≡ take (4 + 3292 * i + 76) (take (4 + 3292 * i + 76 + 4) m ++ (y ++ drop (4 + 3292 * i + 76 + 4 + 128 - (4 + 3292 * i + 76 + 4)) (drop (4 + 3292 * i + 76 + 4) m)))
-    ++ (wordBytes (n - 1) ++ drop (4 + 3292 * i + 76 + 4) (take (4 + 3292 * i + 76 + 4) m ++ (y ++ drop (4 + 3292 * i + 76 + 4 + 128 - (4 + 3292 * i + 76 + 4)) (drop (4 + 3292 * i + 76 + 4) m))))
-    → Ended m i k m₂
-call-ended m m₂ y i n k h l b ey e₂ =
-    let p : PeerAt m i = h .caller in
-    let a : ℕ = 4 + 3292 * i + 76 + 4 in
+pub call-ended : (m t : List ℕ) (i n k : ℕ) → Seated m i → n ≡ length (peerAt m i .pending) → n ≤ 16 → k < n → ((j : ℕ) → Fits w8 (getD m j 0))
+    → t
+    ≡ wordBytes (n - 1)
+    ++ cutOut 8 (8 * n) (8 * k) (drop 4 (take (4 + 3292 * i + 76 + 132 - (4 + 3292 * i + 76)) (drop (4 + 3292 * i + 76) m)))
+    → Ended m i k
+    (take (4 + 3292 * i + 76) m ++ (t ++ drop (4 + 3292 * i + 76 + 132 - (4 + 3292 * i + 76)) (drop (4 + 3292 * i + 76) m)))
+call-ended m t i n k p e f l b et =
+    let ws = peerAt m i .pending in
     record {
       is =
-          call-removed m (λ j. b j .fits) (held-in p) i (p .below) (p .some) k
-          (take a m ++ (y ++ drop (a + 128 - a) (drop a m))) m₂ y n (h .count) l (rw (cut-at a 128 m) at ey) (put-at a 128 m y) e₂;
+          remove-written 8 16 pendingBytes pending-length ws k m t (4 + 3292 * i + 76) n
+          (pending-stands m (λ j. b j .fits) (p .held) i (p .below) (p .some)) e f l et
+          ∙ sym (pending-put m (λ j. b j .fits) (p .held) i (p .below) (p .some) (without k ws));
     }
 
 pub ruleset ending = (call-cell, call-ended, needs)

@@ -1,121 +1,89 @@
 -- A call or a signal to one peer, and replies. Assumes nothing.
 use mathlib.Core.Path.{_≡_, refl, sym, ap, _∙_}
-use mathlib.Core.Bool.{Bool, true, false, cond, not, _&&_, _||_}
-use mathlib.Core.List.{List, [], _∷_}
-use Prim.Native.Nat.{ℕ, suc, _%_, _≤_, _<_}
+use mathlib.Core.Bool.{Bool, true, false, cond, not}
+use mathlib.Core.List.{List}
+use Prim.Native.Nat.{ℕ, _≤_, _<_}
 use native.Mathlib.Omega.{arith}
 use native.Mathlib.Nat.{zero-add}
-use lib.Dec.{eqb}
 use lib.ListN.{length, getD}
 use mir.Syntax.{w8}
 use mir.Val.{Fits}
 use borrow.Author.Needs.{needs}
-use borrow.Author.Tests.{le-leb, lt-leb, not-true, not-false}
+use borrow.Author.Tests.{le-leb, lt-leb, lt-ltb, le-ltb, not-true, not-false}
 use Rattle.header.specs.declared.Header.{Header}
 use Rattle.policy.specs.Matching.{messageOf}
+use Rattle.policy.specs.Decisions.{send, receive}
 use Rattle.stream.specs.Tail.{Tail}
 use Rattle.rules.specs.State.{Pending, peer, putSlot, withPending, firstBy}
 use Rattle.rules.specs.Pending.{isCall, awaits, ended}
 use Rattle.rules.specs.Judge.{Judged, refusal, refused, passed, maySend, mayReceive, expectsReply, waits}
 use Rattle.rules.specs.declared.Judgement.{Judgement}
 use Rattle.rules.specs.declared.Receiver.the-variants as to
+use Rattle.rules.proofs.Waits.{awaits-first}
 use Rattle.tables.proofs.Change.{without}
 use Rattle.memory.specs.Encoding.{memoryOf, stateOf}
 use Rattle.memory.proofs.Reading.{numberAt}
 use Rattle.memory.proofs.Good.{good-is}
-use Rattle.memory.proofs.Held.{held-counted}
 use Rattle.memory.proofs.Removal.{ended-without}
-use Rattle.slots.specs.Slots.{peerAt, CallAt}
-use Rattle.judge.specs.Judging.{PeerAt}
-use Rattle.judge.specs.Steps.{SentTo, Both, Left, Says, Waits, Delivers, Answer, ToPeer, RepliesTo, Holds, Began, Ended}
-use Rattle.judge.proofs.Calls.{held-in}
+use Rattle.slots.specs.Slots.{peerAt, Seated, CallAt}
+use Rattle.judge.specs.Judging.{Left}
+use Rattle.judge.specs.Steps.{Says, Waits, Delivers, Answer, ToPeer, RepliesTo, Began, Ended}
 
 -- ---- whether a call waits, by the place at which the search for it ended
 
-awaits-found : (c s : ℕ) (ws : List Pending) → firstBy (isCall c s) ws < length ws → awaits c s ws ≡ true
-unfolding awaits firstBy
-awaits-found c s [] h = absurd (omega arith)
-awaits-found c s (w ∷ ws) h = go (isCall c s w) h (awaits-found c s ws)
-  where
-    go : (b : Bool) → cond b 0 (suc (firstBy (isCall c s) ws)) < suc (length ws) → (firstBy (isCall c s) ws < length ws → awaits c s ws ≡ true)
-        → b || awaits c s ws ≡ true
-    go true k f = refl
-    go false k f = f (omega arith)
-
-awaits-none : (c s : ℕ) (ws : List Pending) → length ws ≤ firstBy (isCall c s) ws → awaits c s ws ≡ false
-unfolding awaits firstBy
-awaits-none c s [] h = refl
-awaits-none c s (w ∷ ws) h = go (isCall c s w) h (awaits-none c s ws)
-  where
-    go : (b : Bool) → suc (length ws) ≤ cond b 0 (suc (firstBy (isCall c s) ws)) → (length ws ≤ firstBy (isCall c s) ws → awaits c s ws ≡ false)
-        → b || awaits c s ws ≡ false
-    go true k f = absurd (omega arith)
-    go false k f = f (omega arith)
-
-module _ {m : List ℕ} {i n : ℕ} (h : Holds m i n) {c s f : ℕ} (a : CallAt m i c s 0 f) where
-  many : length (peerAt m i .pending) ≡ n
-  many = held-counted m i (held-in (h .caller)) (h .caller .below) (h .caller .some) .calls ∙ sym (h .count)
-
+module _ {m : List ℕ} {i n : ℕ} (h : n ≡ length (peerAt m i .pending)) {c s f : ℕ} (a : CallAt m i c s 0 f) where
   place : firstBy (isCall c s) (peerAt m i .pending) ≡ f
   place = sym (a .is ∙ zero-add (firstBy (isCall c s) (peerAt m i .pending)))
 
   waits-yes : f < n → awaits c s (peerAt m i .pending) ≡ true
-  waits-yes l = awaits-found c s (peerAt m i .pending) (omega (arith, many, place))
+  waits-yes l = awaits-first c s (peerAt m i .pending) ∙ rw (place, ← h, lt-ltb f n l)
 
   waits-no : n ≤ f → awaits c s (peerAt m i .pending) ≡ false
-  waits-no l = awaits-none c s (peerAt m i .pending) (omega (arith, many, place))
+  waits-no l = awaits-first c s (peerAt m i .pending) ∙ rw (place, ← h, le-ltb f n l)
 
--- ---- a refusal leaves memory as it is
+-- ---- what changes no state leaves memory as it is
 
-pub left-as-is : {m : List ℕ} {i : ℕ} (p : PeerAt m i) (b : (j : ℕ) → Fits w8 (getD m j 0)) {r : Judgement} {a : ℕ} → r ≡ refusal a → Left (refused (stateOf m) a) r m
-left-as-is {m} p b e = record { judgement = e; memory = sym (good-is m (λ j. b j .fits) (p .held)) }
+pub left-as-is : {m : List ℕ} {i : ℕ} (p : Seated m i) (b : (j : ℕ) → Fits w8 (getD m j 0)) {r j : Judgement} → r ≡ j → Left (record { judgement = j; state = stateOf m }) r m
+left-as-is {m} p b e = record { judgement = e; memory = sym (good-is m (λ j. b j .fits) (p .held .held)) }
 
 -- ---- a wait: 25, 26
 
-module _ {m : List ℕ} {i n : ℕ} (h : Holds m i n) {c s f : ℕ} (a : CallAt m i c s 0 f) where
+module _ {m : List ℕ} {i n : ℕ} (g : Seated m i) (h : n ≡ length (peerAt m i .pending)) {c s f : ℕ} (a : CallAt m i c s 0 f) where
   pub wait-twice : ((k : ℕ) → Fits w8 (getD m k 0)) → f < n → {r : Judgement} → r ≡ refusal 25 → Waits m i c s r m
-  wait-twice b l q = record { left = λ p x e y. rw (e, y, waits-yes h a l) (left-as-is (h .caller) b q) }
+  wait-twice b l q = record { left = λ p x e y. rw (e, y, waits-yes h a l) (left-as-is g b q) }
 
   module _ (l : n ≤ f) where
     pub wait-full : ((k : ℕ) → Fits w8 (getD m k 0)) → 16 ≤ n → {r : Judgement} → r ≡ refusal 26 → Waits m i c s r m
     wait-full b k q =
-        let t = le-leb 16 (length (peerAt m i .pending)) (omega (arith, many h a)) in
-        record { left = λ p x e y. rw (e, y, waits-no h a l, t) (left-as-is (h .caller) b q) }
+        let t = le-leb 16 (length (peerAt m i .pending)) (omega arith) in
+        record { left = λ p x e y. rw (e, y, waits-no h a l, t) (left-as-is g b q) }
 
     pub wait-begins : n < 16 → {m′ : List ℕ} → Began m i c s m′ → Waits m i c s (record { answer = 0; receiver = to.Peer c }) m′
-    wait-begins k g =
-        let t = lt-leb 16 (length (peerAt m i .pending)) (omega (arith, many h a)) in
-        record { left = λ p x e y. rw (e, y, waits-no h a l, t) (record { judgement = refl; memory = g .is }) }
+    wait-begins k z =
+        let t = lt-leb 16 (length (peerAt m i .pending)) (omega arith) in
+        record { left = λ p x e y. rw (e, y, waits-no h a l, t) (record { judgement = refl; memory = z .is }) }
 
 pub ruleset waiting = (wait-twice, wait-full, wait-begins, needs)
 
 -- ---- a message that may pass
 
 module _ {m : List ℕ} {i j : ℕ} (x : Header) {c : ℕ} (e : c ≡ numberAt m j) where
-  pub delivers-call : eqb (x .kind) 1 && eqb (x .flags % 2) 0 ≡ true → {r : Judgement} {m′ : List ℕ} → Waits m i c (x .serial) r m′ → Delivers m i j x r m′
+  pub delivers-call : expectsReply x ≡ true → {r : Judgement} {m′ : List ℕ} → Waits m i c (x .serial) r m′ → Delivers m i j x r m′
   delivers-call y w = record { left = rw y (w .left (peerAt m j) x (sym e) refl) }
 
-  pub delivers-signal : Both m i j → ((k : ℕ) → Fits w8 (getD m k 0)) → eqb (x .kind) 1 && eqb (x .flags % 2) 0 ≡ false
+  pub delivers-signal : Seated m i → ((k : ℕ) → Fits w8 (getD m k 0)) → expectsReply x ≡ false
       → Delivers m i j x (record { answer = 0; receiver = to.Peer c }) m
-  delivers-signal p b y =
-      record {
-        left =
-            rw y
-            (record {
-              judgement = λ k. record { answer = 0; receiver = to.Peer (e k) };
-              memory = sym (good-is m (λ k. b k .fits) (p .first .held));
-            });
-      }
+  delivers-signal p b y = record { left = rw y (left-as-is p b (ap (λ (k : ℕ). record { answer = 0; receiver = to.Peer k }) e)) }
 
 pub ruleset delivering = (delivers-call, delivers-signal, needs)
 
 -- ---- 22, 23
 
-module _ {image m : List ℕ} {i j : ℕ} {head : List ℕ} {x : Header} {s : Bool} (a : Says image 0 m i j head x s) where
+module _ {image m : List ℕ} {i j : ℕ} {head : List ℕ} {x : Header} {s : Bool} (a : Says image send m i j head x s) where
   pub answer-send : not s ≡ true → Answer image m i j head x 22
   answer-send t = record { is = rw (← a .is, not-true s t) }
 
-  module _ (t : not s ≡ false) {u : Bool} (d : Says image 1 m j i head x u) where
+  module _ (t : not s ≡ false) {u : Bool} (d : Says image receive m j i head x u) where
     pub answer-receive : not u ≡ true → Answer image m i j head x 23
     answer-receive v = record { is = rw (← a .is, not-false s t, ← d .is, not-true u v) }
 
@@ -124,7 +92,7 @@ module _ {image m : List ℕ} {i j : ℕ} {head : List ℕ} {x : Header} {s : Bo
 
 pub ruleset answers = (answer-send, answer-receive, answer-none, needs)
 
-module _ {image m : List ℕ} {i j : ℕ} {head : List ℕ} {x : Header} (p : SentTo image m i j head x) (b : (k : ℕ) → Fits w8 (getD m k 0)) {n : ℕ}
+module _ {image m : List ℕ} {i j : ℕ} {head : List ℕ} {x : Header} (p : Seated m i) (b : (k : ℕ) → Fits w8 (getD m k 0)) {n : ℕ}
     (a : Answer image m i j head x n) where
   -- whether send and receive allow
   abbrev sends : Bool
@@ -147,8 +115,8 @@ module _ {image m : List ℕ} {i j : ℕ} {head : List ℕ} {x : Header} (p : Se
     where
       go : (u v : Bool) → n ≡ cond u (cond v 0 23) 22 → Left (outcome u v) r m
       go true true e = absurd (z e)
-      go true false e = left-as-is (p .sender) b (q ∙ ap refusal e)
-      go false v e = left-as-is (p .sender) b (q ∙ ap refusal e)
+      go true false e = left-as-is p b (q ∙ ap refusal e)
+      go false v e = left-as-is p b (q ∙ ap refusal e)
 
   pub peer-delivered : n ≡ 0 → {r : Judgement} {m′ : List ℕ} → Delivers m i j x r m′ → ToPeer image m i j head x r m′
   peer-delivered z {r} {m′} w = record { left = go sends receives (sym z ∙ a .is) }
@@ -162,20 +130,20 @@ pub ruleset to-peer = (peer-refused, peer-delivered, needs)
 
 -- ---- a reply: 24
 
-module _ {m : List ℕ} {i j : ℕ} (p : Both m i j) (x : Header) (b : (k : ℕ) → Fits w8 (getD m k 0)) {c : ℕ} (e : c ≡ numberAt m i)
-    {n : ℕ} (h : Holds m j n) {f : ℕ} (a : CallAt m j c (x .«reply_serial») 0 f) where
+module _ {m : List ℕ} {i j : ℕ} (p : Seated m i) (x : Header) (b : (k : ℕ) → Fits w8 (getD m k 0)) {c : ℕ} (e : c ≡ numberAt m i)
+    {n : ℕ} (h : n ≡ length (peerAt m j .pending)) {f : ℕ} (a : CallAt m j c (x .«reply_serial») 0 f) where
   pub reply-none : n ≤ f → {r : Judgement} → r ≡ refusal 24 → RepliesTo m i j x r m
-  reply-none l q = record { left = rw (← e, waits-no h a l) (left-as-is (p .first) b q) }
+  reply-none l q = record { left = rw (← e, waits-no h a l) (left-as-is p b q) }
 
   pub reply-ends : f < n → {d : ℕ} → d ≡ numberAt m j → {m′ : List ℕ} → Ended m j f m′ → RepliesTo m i j x (record { answer = 0; receiver = to.Peer d }) m′
-  reply-ends l {d} q {m′} g =
+  reply-ends l q g =
       let w : ended c (x .«reply_serial») (peerAt m j .pending) ≡ without f (peerAt m j .pending)
       = ended-without c (x .«reply_serial») (peerAt m j .pending) ∙ ap (λ (k : ℕ). without k (peerAt m j .pending)) (place h a) in
       record {
         left =
             rw (← e, waits-yes h a l)
             (record {
-              judgement = λ k. record { answer = 0; receiver = to.Peer (q k) };
+              judgement = ap (λ (k : ℕ). record { answer = 0; receiver = to.Peer k }) q;
               memory =
                   g .is ∙ ap (λ (ws : List Pending). memoryOf (putSlot (stateOf m) j (peer (withPending (peerAt m j) ws)))) (sym w);
             });

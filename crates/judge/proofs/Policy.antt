@@ -1,8 +1,8 @@
 -- What policy says, asked of one slot about the names of another's or of the bus. Assumes nothing.
-use mathlib.Core.Path.{_≡_, refl, sym, ap, _∙_}
+use mathlib.Core.Path.{_≡_, sym, ap, _∙_}
 use mathlib.Core.Bool.{Bool, true, false, not}
 use mathlib.Core.List.{List, [], _∷_}
-use Prim.Native.Nat.{ℕ, _+_, _-_, _*_, _≤_, _<_, min}
+use Prim.Native.Nat.{ℕ, _+_, _-_, _*_, _<_}
 use native.Mathlib.Omega.{arith}
 use native.Mathlib.Nat.{sub-zero}
 use lib.ListN.{length, take, drop, getD}
@@ -10,24 +10,23 @@ use mir.Syntax.{w8}
 use mir.Val.{Fits}
 use borrow.Author.Needs.{needs}
 use borrow.Author.Tests.{not-true, not-false}
-use Rattle.wire.specs.Bytes.{pad}
 use Rattle.wire.specs.Words.{wordAt}
 use Rattle.wire.specs.declared.Order.the-variants.{Little}
 use Rattle.wire.proofs.Words.{cut-at}
 use Rattle.header.specs.declared.Header.{Header}
-use Rattle.policy.specs.Names.{cells, namesIn, cellOf, busName}
+use Rattle.policy.specs.Names.{namesIn, cellOf, busName}
 use Rattle.policy.specs.Matching.{Message, messageOf}
-use Rattle.policy.specs.Decisions.{mayTransact}
+use Rattle.policy.specs.Decisions.{send, receive, mayTransact}
 use Rattle.policy.specs.declared.Uid.{Uid}
+use Rattle.policy.proofs.Cells.{bus-names}
 use Rattle.rules.specs.Judge.{refusal}
 use Rattle.rules.specs.declared.Judgement.{Judgement}
 use Rattle.rules.specs.declared.Receiver.the-variants as to
 use Rattle.memory.proofs.Reading.{numberAt, slot-free, slot-peer}
 use Rattle.memory.proofs.Held.{held-counted}
 use Rattle.memory.proofs.Names.{names-in}
-use Rattle.slots.specs.Slots.{peerAt, GidsOf}
+use Rattle.slots.specs.Slots.{peerAt, Seated, GidsOf}
 use Rattle.slots.specs.declared.Gids.{Gids}
-use Rattle.judge.specs.Judging.{PeerAt}
 use Rattle.judge.specs.Steps.{Asks, Says, ToBus, Reaches}
 
 pub ask-is : (image : List ℕ) (direction : ℕ) (uid : Uid) (gids : List ℕ) (count : ℕ) (names : List (List ℕ)) (x : Message) (r : Bool)
@@ -44,34 +43,30 @@ asks-peer image direction m i names head x e g q = record { is = q ∙ rw (e, g 
 
 pub ruleset asking-peer = (asks-peer, needs)
 
-pub says-is : (image : List ℕ) (direction : ℕ) (m : List ℕ) (s o : ℕ) (head : List ℕ) (x : Header) → PeerAt m o → ((j : ℕ) → Fits w8 (getD m j 0))
-    → {w n : ℕ} → w ≡ wordAt Little m (4 + 3292 * o + 208) → n ≡ min w 4
+pub says-is : (image : List ℕ) (direction : ℕ) (m : List ℕ) (s o : ℕ) (head : List ℕ) (x : Header) → Seated m o → ((j : ℕ) → Fits w8 (getD m j 0))
+    → {n : ℕ} → n ≡ length (peerAt m o .names)
     → {r : Bool}
     → Asks image direction m s (take (4 + 3292 * o + 212 + 256 * n - (4 + 3292 * o + 212)) (drop (4 + 3292 * o + 212) m)) head x r
     → Says image direction m s o head x r
-says-is image direction m s o head x p b {w} {n} e f a =
+says-is image direction m s o head x p b {n} e a =
     let h : o < 16 = p .below in
     let l : length m ≡ 52676 = p .sized in
-    let few : wordAt Little m (4 + 3292 * o + 208) ≤ 4 = held-counted m o (record { sized = p .sized; held = p .held }) h (p .some) .fewNames in
+    let c = held-counted m o (p .held) h (p .some) in
     let q : namesIn (take (256 * n) (drop (4 + 3292 * o + 212) m)) ≡ peerAt m o .names
-    = names-in m (4 + 3292 * o) n (λ j. b j .fits) (omega arith) (omega arith) (omega arith) in
+    = names-in m (4 + 3292 * o) n (λ j. b j .fits) (omega arith) (e ∙ c .names) (omega (arith, c .names, c .fewNames)) in
     record { is = a .is ∙ rw (cut-at (4 + 3292 * o + 212) (256 * n) m, q) }
 
 pub ruleset saying = (says-is, needs)
 
 -- ---- the bus
 
-bus-names : namesIn (cellOf busName) ≡ busName ∷ []
-unfolding namesIn cells cellOf pad
-bus-names = refl
-
 module _ (image m : List ℕ) (i : ℕ) (head : List ℕ) (x : Header) {cell : List ℕ} (e : cell ≡ cellOf busName) {r : Bool}
-    (a : Asks image 0 m i cell head x r) where
-  says : mayTransact image 0 (record { 0 = peerAt m i .uid }) (peerAt m i .gids) (busName ∷ []) (messageOf head x) ≡ r
+    (a : Asks image send m i cell head x r) where
+  says : mayTransact image send (record { 0 = peerAt m i .uid }) (peerAt m i .gids) (busName ∷ []) (messageOf head x) ≡ r
   says =
       sym
       (a .is
-      ∙ ap (λ (z : List (List ℕ)). mayTransact image 0 (record { 0 = peerAt m i .uid }) (peerAt m i .gids) z (messageOf head x)) (ap namesIn e ∙ bus-names))
+      ∙ ap (λ (z : List (List ℕ)). mayTransact image send (record { 0 = peerAt m i .uid }) (peerAt m i .gids) z (messageOf head x)) (ap namesIn e ∙ bus-names))
 
   pub bus-denied : not r ≡ true → {j : Judgement} → j ≡ refusal 22 → ToBus image m i head x j
   bus-denied t q = record { is = q ∙ rw (says, not-true r t) }
@@ -87,12 +82,11 @@ module _ (image m : List ℕ) (i k : ℕ) (head : List ℕ) (x : Header) (h : k 
   pub reach-free : n ≡ 0 → Reaches image m i k head x false
   reach-free z = record { is = rw (slot-free m k h (sym e ∙ z)) }
 
-  module _ (z : n ≡ 0 → ⊥) {s : Bool} (a : Says image 0 m i k head x s) where
+  module _ (z : n ≡ 0 → ⊥) {s : Bool} (a : Says image send m i k head x s) where
     pub reach-denied : not s ≡ true → Reaches image m i k head x false
     reach-denied t = record { is = rw (slot-peer m k h (λ y. z (e ∙ y)), ← a .is, not-true s t) }
 
-    pub reach-both : not s ≡ false → {r : Bool} → Says image 1 m k i head x r → Reaches image m i k head x r
+    pub reach-both : not s ≡ false → {r : Bool} → Says image receive m k i head x r → Reaches image m i k head x r
     reach-both t b = record { is = b .is ∙ rw (slot-peer m k h (λ y. z (e ∙ y)), ← a .is, not-false s t) }
 
--- the two slots that policy is asked about are peers'
 pub ruleset reaching = (reach-free, reach-denied, reach-both, needs)

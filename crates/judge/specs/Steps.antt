@@ -1,29 +1,26 @@
 -- What the private functions of a judgement require and ensure, each in the terms of a part of `judged`. Assumes nothing: these are definitions.
 use mathlib.Core.Path.{_≡_}
-use mathlib.Core.Bool.{Bool, true, cond}
+use mathlib.Core.Bool.{Bool, cond}
 use mathlib.Core.List.{List, [], _∷_, _++_}
-use Prim.Native.Nat.{ℕ, _+_, _*_, _≤_, _<_}
+use Prim.Native.Nat.{ℕ, _+_, _≤_}
 use lib.ListN.{length, drop}
-use Rattle.wire.specs.Words.{wordAt}
-use Rattle.wire.specs.declared.Order.the-variants.{Little}
 use Rattle.header.specs.declared.Header.{Header}
 use Rattle.header.specs.declared.Place.{Place}
 use Rattle.policy.specs.Matching.{fieldOf, messageOf}
 use Rattle.policy.specs.Decisions.{mayTransact}
-use Rattle.policy.specs.Contracts.{Asked}
 use Rattle.policy.specs.Names.{namesIn}
 use Rattle.stream.specs.Tail.{Tail}
 use Rattle.rules.specs.State.{Peer, peer, putSlot, withPending}
 use Rattle.rules.specs.Addresses as rules
-use Rattle.rules.specs.Judge.{Judged, passed, maySend, mayReceive, toBus, waits, expectsReply, toPeer, reaches, toAll, replyTo, reply, directed}
+use Rattle.rules.specs.Judge.{passed, maySend, mayReceive, toBus, waits, expectsReply, toPeer, reaches, toAll, replyTo, reply, directed}
 use Rattle.rules.specs.Calls.{slotAt}
 use Rattle.rules.specs.declared.Judgement.{Judgement}
 use Rattle.rules.specs.declared.Receiver.the-variants as to
 use Rattle.tables.proofs.Change.{without}
 use Rattle.memory.specs.Encoding.{memoryOf, stateOf}
-use Rattle.memory.specs.Good.{good}
-use Rattle.slots.specs.Slots.{peerAt}
-use Rattle.judge.specs.Judging.{PeerAt}
+use Rattle.memory.specs.Sound.{Held}
+use Rattle.slots.specs.Slots.{peerAt, Seated}
+use Rattle.judge.specs.Judging.{Left}
 use Rattle.judge.specs.declared.address.Text.{Text}
 use Rattle.judge.specs.declared.address.Destination.{Destination}
 use Rattle.judge.specs.declared.address.Destination.the-variants.{Absent, Bus, At, Unknown}
@@ -47,13 +44,12 @@ addressOf Unknown = rules.unknown
 abbrev pub Stands : List ℕ → Destination → Type 0
 Stands m Absent = Unit {0}
 Stands m Bus = Unit {0}
-Stands m (At j) = PeerAt m j
+Stands m (At j) = Seated m j
 Stands m Unknown = Unit {0}
 
 -- a destination is asked for: its text lies inside the head
 pub record Seeks (m head : List ℕ) (p : Place) : Type 0 where
-  pub sized : length m ≡ 52676
-  pub held : good m ≡ true
+  pub held : Held m
   pub inside : p .at + p .len ≤ length head
 
 -- who is meant by the field at a place of a head
@@ -67,49 +63,12 @@ pub record Resolved (m head : List ℕ) (p : Place) (r : Destination) : Type 0 w
 pub record Asks (image : List ℕ) (direction : ℕ) (m : List ℕ) (i : ℕ) (names head : List ℕ) (x : Header) (r : Bool) : Type 0 where
   pub is : r ≡ mayTransact image direction (record { 0 = peerAt m i .uid }) (peerAt m i .gids) (namesIn names) (messageOf head x)
 
-pub record Between (image m : List ℕ) (subject other : ℕ) (head : List ℕ) (x : Header) : Type 0 where
-  pub asked : Asked image head x
-  pub subject-below : subject < 16
-  pub named : PeerAt m other
-
 -- what policy says of a message, asked of the subject about the other's names
 pub record Says (image : List ℕ) (direction : ℕ) (m : List ℕ) (subject other : ℕ) (head : List ℕ) (x : Header) (r : Bool) : Type 0 where
   pub is : r
       ≡ mayTransact image direction (record { 0 = peerAt m subject .uid }) (peerAt m subject .gids) (peerAt m other .names) (messageOf head x)
 
 -- ---- what is judged
-
--- a message of the peer in slot i, whose fields lie inside its head
-pub record Sent (image m : List ℕ) (i : ℕ) (head : List ℕ) (x : Header) : Type 0 where
-  pub asked : Asked image head x
-  pub sender : PeerAt m i
-
--- the same, to the peer in slot j
-pub record SentTo (image m : List ℕ) (i j : ℕ) (head : List ℕ) (x : Header) : Type 0 where
-  pub asked : Asked image head x
-  pub sender : PeerAt m i
-  pub receiver : PeerAt m j
-
--- the same, to a destination
-pub record SentBy (image m : List ℕ) (i : ℕ) (to : Destination) (head : List ℕ) (x : Header) : Type 0 where
-  pub asked : Asked image head x
-  pub sender : PeerAt m i
-  pub receiver : Stands m to
-
--- slots i and j of good memory are peers'
-pub record Both (m : List ℕ) (i j : ℕ) : Type 0 where
-  pub first : PeerAt m i
-  pub second : PeerAt m j
-
--- slot i is a peer's, and the slot that is addressed
-pub record Answers (m : List ℕ) (i : ℕ) (to : Destination) : Type 0 where
-  pub sender : PeerAt m i
-  pub receiver : Stands m to
-
--- what a judgement leaves: r is its answer with its receiver, and m the bytes of its state
-pub record Left (j : Judged Tail) (r : Judgement) (m : List ℕ) : Type 0 where
-  pub judgement : r ≡ j .judgement
-  pub memory : m ≡ memoryOf (j .state)
 
 pub record ToBus (image m : List ℕ) (i : ℕ) (head : List ℕ) (x : Header) (r : Judgement) : Type 0 where
   pub is : r ≡ toBus image (stateOf m) (peerAt m i) (messageOf head x) .judgement
@@ -150,12 +109,6 @@ pub record Directs (image m : List ℕ) (i : ℕ) (to : Destination) (head : Lis
   pub left : Left (directed image (stateOf m) i (peerAt m i) (addressOf to) (messageOf head x) x) r m′
 
 -- ---- pending calls written
-
--- the table of slot i holds n calls
-pub record Holds (m : List ℕ) (i n : ℕ) : Type 0 where
-  pub caller : PeerAt m i
-  pub count : n ≡ wordAt Little m (4 + 3292 * i + 76)
-  pub few : n ≤ 16
 
 -- one call more
 pub record Began (m : List ℕ) (i callee serial : ℕ) (m′ : List ℕ) : Type 0 where

@@ -5,6 +5,7 @@ ghost use lib.ListN.{length};
 ghost use Rattle.wire.specs.Bytes.{same};
 ghost use Rattle.rules.specs.Addresses.{uniqueName, answersTo};
 ghost use Rattle.rules.specs.Calls.{slotAt};
+ghost use Rattle.memory.specs.Layout.{memoryLength};
 ghost use Rattle.memory.specs.Encoding.{stateOf};
 ghost use Rattle.memory.proofs.Search.{Found};
 ghost use Rattle.slots.specs.Slots.{At};
@@ -73,7 +74,7 @@ fn answers_to(memory: &[u8], i: usize, text: &[u8]) -> bool
 
 // The first slot whose peer answers to the text, or 16.
 fn find_addressee(memory: &[u8], text: &[u8]) -> usize
-    requires { ⌜ length (now memory) ≡ 52676 ⌝ }
+    requires { ⌜ length (now memory) ≡ memoryLength ⌝ }
     ensures { λ r. ⌜ Found (answersTo (now (text .entry))) (now (memory .entry)) 0 r ⌝ }
 {
     let mut i = 0;

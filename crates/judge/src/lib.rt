@@ -4,9 +4,14 @@ mod pending;
 
 use address::Destination;
 use header::Header;
+use memory::FIRST_NAME;
+use memory::SLOT_LENGTH;
+use memory::SLOTS_AT;
+use memory::UID_AT;
 use policy::Uid;
 use rules::Judgement;
 use rules::Receiver;
+use rules::refused;
 ghost use mathlib.Core.Path.{_≡_};
 ghost use Prim.Native.Nat.{_+_, _*_, _≤_, _<_};
 ghost use lib.ListN.{take};
@@ -14,10 +19,19 @@ ghost use Rattle.policy.specs.Contracts.{Asked};
 ghost use Rattle.policy.specs.Decisions.{mayTransact};
 ghost use Rattle.policy.specs.Matching.{messageOf};
 ghost use Rattle.policy.specs.Names.{namesIn};
-ghost use Rattle.rules.specs.Judge.{refusal, bit};
-ghost use Rattle.slots.specs.Slots.{At};
-ghost use Rattle.judge.specs.Judging.{PeerAt, Message, Judges};
-ghost use Rattle.judge.specs.Steps.{Asks, Between, Says, Sent, SentTo, SentBy, Both, Answers, ToBus, Reaches, ToAll, Waits, Delivers, Answer, ToPeer, RepliesTo, Replies, Directs};
+ghost use Rattle.rules.specs.Judge.{bit};
+ghost use Rattle.slots.specs.Slots.{At, Seated};
+ghost use Rattle.judge.specs.Judging.{Message, Judges};
+ghost use Rattle.judge.specs.Steps.{Stands, Asks, Says, ToBus, Reaches, ToAll, Waits, Delivers, Answer, ToPeer, RepliesTo, Replies, Directs};
+
+// "Types: 1 call, 2 return, 3 error, 4 signal."
+const CALL: u8 = 1;
+
+const RETURN: u8 = 2;
+
+const ERROR: u8 = 3;
+
+const SIGNAL: u8 = 4;
 
 // ---- policy
 
@@ -51,7 +65,7 @@ fn ask_peer(
     requires { ⌜ (Asked (now image) (now head) header) × (At (now memory) i) ⌝ }
     ensures { λ r. ⌜ Asks (now (image .entry)) direction (now (memory .entry)) i (now (names .entry)) (now (head .entry)) header r ⌝ }
 {
-    let uid = Uid(slots::word_at(memory, i, 4));
+    let uid = Uid(slots::word_at(memory, i, UID_AT));
     let gids = slots::gids_at(memory, i);
     let list = gids.list;
     let count = gids.count;
@@ -68,11 +82,11 @@ fn may(
     head: &[u8],
     header: Header,
 ) -> bool
-    requires { ⌜ Between (now image) (now memory) subject other (now head) header ⌝ }
+    requires { ⌜ (Asked (now image) (now head) header) × (subject < 16) × (Seated (now memory) other) ⌝ }
     ensures { λ r. ⌜ Says (now (image .entry)) direction (now (memory .entry)) subject other (now (head .entry)) header r ⌝ }
 {
-    let names = wire::least(slots::word_at(memory, other, 208) as usize, 4);
-    let from = 4 + 3292 * other + 212;
+    let names = slots::count_names(memory, other);
+    let from = SLOTS_AT + SLOT_LENGTH * other + FIRST_NAME;
     let to = from + 256 * names;
     ask_peer(
         image,
@@ -87,18 +101,9 @@ fn may(
 
 // ---- judgements
 
-fn refused(answer: u8) -> Judgement
-    ensures { λ r. ⌜ r ≡ refusal answer ⌝ }
-{
-    Judgement {
-        answer,
-        receiver: Receiver::Nobody,
-    }
-}
-
 // "Only send is judged; nothing waits."
 fn to_bus(image: &[u8], memory: &[u8], i: usize, head: &[u8], header: Header) -> Judgement
-    requires { ⌜ Sent (now image) (now memory) i (now head) header ⌝ }
+    requires { ⌜ (Asked (now image) (now head) header) × (Seated (now memory) i) ⌝ }
     ensures { λ r. ⌜ ToBus (now (image .entry)) (now (memory .entry)) i (now (head .entry)) header r ⌝ }
 {
     let cell = policy::bus_cell();
@@ -113,7 +118,7 @@ fn to_bus(image: &[u8], memory: &[u8], i: usize, head: &[u8], header: Header) ->
 
 // Slot k is a peer's for whom send and receive both allow.
 fn reaches(image: &[u8], memory: &[u8], i: usize, k: usize, head: &[u8], header: Header) -> bool
-    requires { ⌜ (Sent (now image) (now memory) i (now head) header) × (k < 16) ⌝ }
+    requires { ⌜ (Asked (now image) (now head) header) × (Seated (now memory) i) × (k < 16) ⌝ }
     ensures { λ r. ⌜ Reaches (now (image .entry)) (now (memory .entry)) i k (now (head .entry)) header r ⌝ }
 {
     if slots::number_at(memory, k) == 0 {
@@ -135,7 +140,7 @@ fn below(mask: u16, reached: bool) -> u16
 
 // A signal to everybody: bit k of the mask is slot k.
 fn to_all(image: &[u8], memory: &[u8], i: usize, head: &[u8], header: Header) -> Judgement
-    requires { ⌜ Sent (now image) (now memory) i (now head) header ⌝ }
+    requires { ⌜ (Asked (now image) (now head) header) × (Seated (now memory) i) ⌝ }
     ensures { λ r. ⌜ ToAll (now (image .entry)) (now (memory .entry)) i (now (head .entry)) header r ⌝ }
 {
     let mut mask: u16 = 0;
@@ -154,10 +159,10 @@ fn to_all(image: &[u8], memory: &[u8], i: usize, head: &[u8], header: Header) ->
 
 // A call of slot i that expects a reply of the callee to this serial: 25, then 26.
 fn wait(memory: &mut [u8], i: usize, callee: u32, serial: u32) -> Judgement
-    requires { ⌜ PeerAt (now memory) i ⌝ }
+    requires { ⌜ Seated (now memory) i ⌝ }
     ensures { λ r. ⌜ Waits (now (memory .entry)) i callee serial r (now (memory .exit)) ⌝ }
 {
-    let n = pending::calls_at(memory, i);
+    let n = slots::count_pending(memory, i);
     if slots::find_pending(memory, i, callee, serial, 0) < n {
         return refused(25);
     }
@@ -173,11 +178,11 @@ fn wait(memory: &mut [u8], i: usize, callee: u32, serial: u32) -> Judgement
 
 // A call or a signal of slot i that may pass to the peer of slot j: it waits where a reply is expected.
 fn deliver(memory: &mut [u8], i: usize, j: usize, header: Header) -> Judgement
-    requires { ⌜ Both (now memory) i j ⌝ }
+    requires { ⌜ (Seated (now memory) i) × (Seated (now memory) j) ⌝ }
     ensures { λ r. ⌜ Delivers (now (memory .entry)) i j header r (now (memory .exit)) ⌝ }
 {
     let receiver = slots::number_at(memory, j);
-    if (header.kind == 1) & (header.flags % 2 == 0) {
+    if (header.kind == CALL) & (header.flags % 2 == 0) {
         return wait(memory, i, receiver, header.serial);
     }
     Judgement {
@@ -188,7 +193,7 @@ fn deliver(memory: &mut [u8], i: usize, j: usize, header: Header) -> Judgement
 
 // What policy answers to a call or a signal of slot i to the peer of slot j: 22, 23, or 0.
 fn answer_to(image: &[u8], memory: &[u8], i: usize, j: usize, head: &[u8], header: Header) -> u8
-    requires { ⌜ SentTo (now image) (now memory) i j (now head) header ⌝ }
+    requires { ⌜ (Asked (now image) (now head) header) × (Seated (now memory) i) × (Seated (now memory) j) ⌝ }
     ensures { λ r. ⌜ Answer (now (image .entry)) (now (memory .entry)) i j (now (head .entry)) header r ⌝ }
 {
     if !may(image, policy::SEND, memory, i, j, head, header) {
@@ -209,7 +214,7 @@ fn to_peer(
     head: &[u8],
     header: Header,
 ) -> Judgement
-    requires { ⌜ SentTo (now image) (now memory) i j (now head) header ⌝ }
+    requires { ⌜ (Asked (now image) (now head) header) × (Seated (now memory) i) × (Seated (now memory) j) ⌝ }
     ensures { λ r. ⌜ ToPeer (now (image .entry)) (now (memory .entry)) i j (now (head .entry)) header r (now (memory .exit)) ⌝ }
 {
     let answer = answer_to(image, memory, i, j, head, header);
@@ -223,11 +228,11 @@ fn to_peer(
 
 // A return or error of slot i to the peer of slot j, which must await it.
 fn reply_to(memory: &mut [u8], i: usize, j: usize, header: Header) -> Judgement
-    requires { ⌜ Both (now memory) i j ⌝ }
+    requires { ⌜ (Seated (now memory) i) × (Seated (now memory) j) ⌝ }
     ensures { λ r. ⌜ RepliesTo (now (memory .entry)) i j header r (now (memory .exit)) ⌝ }
 {
     let callee = slots::number_at(memory, i);
-    let n = pending::calls_at(memory, j);
+    let n = slots::count_pending(memory, j);
     let k = slots::find_pending(memory, j, callee, header.reply_serial, 0);
     if n <= k {
         return refused(24);
@@ -242,7 +247,7 @@ fn reply_to(memory: &mut [u8], i: usize, j: usize, header: Header) -> Judgement
 
 // "A reply to the bus or with no destination never does."
 fn reply(memory: &mut [u8], i: usize, to: Destination, header: Header) -> Judgement
-    requires { ⌜ Answers (now memory) i to ⌝ }
+    requires { ⌜ (Seated (now memory) i) × (Stands (now memory) to) ⌝ }
     ensures { λ r. ⌜ Replies (now (memory .entry)) i to header r (now (memory .exit)) ⌝ }
 {
     match to {
@@ -264,7 +269,7 @@ fn direct(
     head: &[u8],
     header: Header,
 ) -> Judgement
-    requires { ⌜ SentBy (now image) (now memory) i to (now head) header ⌝ }
+    requires { ⌜ (Asked (now image) (now head) header) × (Seated (now memory) i) × (Stands (now memory) to) ⌝ }
     ensures { λ r. ⌜ Directs (now (image .entry)) (now (memory .entry)) i to (now (head .entry)) header r (now (memory .exit)) ⌝ }
 {
     match to {
@@ -272,7 +277,7 @@ fn direct(
         Destination::Bus => to_bus(image, memory, i, head, header),
         Destination::Unknown => refused(21),
         Destination::Absent => {
-            if header.kind == 1 {
+            if header.kind == CALL {
                 return to_bus(image, memory, i, head, header);
             }
             to_all(image, memory, i, head, header)
@@ -280,16 +285,16 @@ fn direct(
     }
 }
 
-// The judgement of a whole message of the peer in slot i. Types above 4 are 20; returns and errors are replies.
+// The judgement of a whole message of the peer in slot i. Other types are 20; returns and errors are replies.
 pub fn judge(image: &[u8], memory: &mut [u8], i: usize, head: &[u8], header: Header) -> Judgement
     requires { ⌜ Message (now image) (now memory) i (now head) header ⌝ }
     ensures { λ r. ⌜ Judges (now (image .entry)) (now (memory .entry)) i (now (head .entry)) header r (now (memory .exit)) ⌝ }
 {
-    if 4 < header.kind {
+    if SIGNAL < header.kind {
         return refused(20);
     }
     let to = address::resolve(memory, head, header.destination);
-    if (header.kind == 2) | (header.kind == 3) {
+    if (header.kind == RETURN) | (header.kind == ERROR) {
         return reply(memory, i, to, header);
     }
     direct(image, memory, i, to, head, header)

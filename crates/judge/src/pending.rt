@@ -1,34 +1,35 @@
 // The pending calls of a slot, a table in its caller's slot: one begun, one ended.
-ghost use Prim.Native.Nat.{_<_};
-ghost use Rattle.judge.specs.Judging.{PeerAt};
-ghost use Rattle.judge.specs.Steps.{Holds, Began, Ended};
+use memory::FIRST_CALLEE;
+use memory::PENDING_AT;
+use memory::SLOT_LENGTH;
+use memory::SLOTS_AT;
+ghost use mathlib.Core.Path.{_≡_};
+ghost use Prim.Native.Nat.{_≤_, _<_};
+ghost use lib.ListN.{length};
+ghost use Rattle.slots.specs.Slots.{peerAt, Seated};
+ghost use Rattle.judge.specs.Steps.{Began, Ended};
 
 // The peer of slot i, which has n pending calls, awaits a reply of the callee to the serial.
 pub fn begin_call(memory: &mut [u8], i: usize, n: usize, callee: u32, serial: u32)
-    requires { ⌜ (Holds (now memory) i n) × (n < 16) ⌝ }
+    requires { ⌜ (Seated (now memory) i) × (n ≡ length (peerAt (now memory) i .pending)) × (n < 16) ⌝ }
     ensures { λ r. ⌜ Began (now (memory .entry)) i callee serial (now (memory .exit)) ⌝ }
 {
-    let at = 4 + 3292 * i + 80 + 8 * n;
+    let at = SLOTS_AT + SLOT_LENGTH * i + FIRST_CALLEE + 8 * n;
     wire::put_u32(memory, at, callee);
     wire::put_u32(memory, at + 4, serial);
-    wire::put_u32(memory, 4 + 3292 * i + 76, (n + 1) as u32);
+    wire::put_u32(
+        memory,
+        SLOTS_AT + SLOT_LENGTH * i + PENDING_AT,
+        (n + 1) as u32,
+    );
 }
 
 // The peer of slot i, which has n pending calls, no longer awaits the reply to call k.
 pub fn end_call(memory: &mut [u8], i: usize, n: usize, k: usize)
-    requires { ⌜ (Holds (now memory) i n) × (k < n) ⌝ }
+    requires { ⌜ (Seated (now memory) i) × (n ≡ length (peerAt (now memory) i .pending)) × (n ≤ 16) × (k < n) ⌝ }
     ensures { λ r. ⌜ Ended (now (memory .entry)) i k (now (memory .exit)) ⌝ }
 {
-    let from = 4 + 3292 * i + 76 + 4;
-    let to = from + 128;
-    tables::cut_out(&mut memory[from..to], 8 * k, 8, 8 * n);
-    wire::put_u32(memory, 4 + 3292 * i + 76, (n - 1) as u32);
-}
-
-// How many pending calls the peer of slot i has.
-pub fn calls_at(memory: &[u8], i: usize) -> usize
-    requires { ⌜ PeerAt (now memory) i ⌝ }
-    ensures { λ r. ⌜ Holds (now (memory .entry)) i r ⌝ }
-{
-    wire::least(slots::word_at(memory, i, 76) as usize, 16)
+    let at = SLOTS_AT + SLOT_LENGTH * i + PENDING_AT;
+    let end = at + 132;
+    tables::remove(&mut memory[at..end], 8 * k, 8, 8 * n, (n - 1) as u32);
 }

@@ -8,20 +8,23 @@ use lib.Dec.{leb}
 use lib.ListN.{length}
 use lib.Seq.{take-at}
 use borrow.Author.Tests.{ltb-true, leb-true}
+use Rattle.wire.specs.Lists.{every, any}
 use Rattle.wire.specs.Bytes.{same}
 use Rattle.wire.specs.Words.{wordAt, wordBytes}
 use Rattle.wire.proofs.Texts.{both-first, both-second}
-use Rattle.tables.proofs.Parts.{pad-fits}
+use Rattle.wire.proofs.Parts.{pad-fits}
 use Rattle.names.specs.Names.{wellKnown}
-use Rattle.policy.specs.Names.{cellOf, nameOf, owns, busName}
+use Rattle.policy.specs.Names.{cellOf, nameOf, busName}
 use Rattle.stream.specs.Tail.{Tail}
-use Rattle.rules.specs.State.{Pending, Slot}
+use Rattle.rules.specs.State.{Pending, Slot, isPeer}
 use Rattle.rules.specs.Addresses.{ownable}
+use Rattle.rules.specs.Pending.{sameCall}
 use Rattle.rules.specs.Calls.{isOwner}
 use Rattle.memory.specs.Encoding.{pendingBytes, pendingOf, wordOf}
 use Rattle.memory.specs.Good.{nobody, goodNames, goodPending, goodSlots}
-use Rattle.memory.specs.Sound.{every, word32}
-use Rattle.memory.proofs.Peers.{connected-within, call-first, call-later}
+use Rattle.memory.specs.Sound.{word32}
+use Rattle.memory.proofs.Octets.{every-both, distinct-every}
+use Rattle.memory.proofs.Peers.{connected-within}
 
 -- ---- one thing
 
@@ -42,11 +45,14 @@ name-back name h = rw (pad-fits 255 name h) (take-at name _ (length name) refl)
 
 -- ---- lists
 
+-- what each gives back, all give back
+maps-back : {A : Type 0} (t : A → Bool) (enc : A → List ℕ) (dec : List ℕ → A) → ((x : A) → t x ≡ true → dec (enc x) ≡ x)
+    → (xs : List A) → every t xs ≡ true → map dec (map enc xs) ≡ xs
+maps-back t enc dec f [] e = refl
+maps-back t enc dec f (x ∷ xs) e = ap₂ _∷_ (f x (both-first (t x) (every t xs) e)) (maps-back t enc dec f xs (both-second (t x) (every t xs) e))
+
 pub words-back : (xs : List ℕ) → every word32 xs ≡ true → map wordOf (map wordBytes xs) ≡ xs
-words-back [] e = refl
-words-back (x ∷ xs) e =
-    ap₂ _∷_ (word-back x (ltb-true x 4294967296 (both-first (word32 x) (every word32 xs) e)))
-    (words-back xs (both-second (word32 x) (every word32 xs) e))
+words-back xs e = maps-back word32 wordBytes wordOf (λ x h. word-back x (ltb-true x 4294967296 h)) xs e
 
 pub ownable-short : (name : List ℕ) → ownable name ≡ true → length name ≤ 255
 unfolding wellKnown
@@ -54,18 +60,18 @@ ownable-short name e = leb-true (length name) 255 (both-first (leb (length name)
 
 pub names-back : (xs : List (List ℕ)) (later : List (Slot Tail)) → goodNames xs later ≡ true → map nameOf (map cellOf xs) ≡ xs
 unfolding goodNames
-names-back [] later e = refl
-names-back (x ∷ xs) later e =
-    let a : ownable x && not (owns xs x) && nobody (isOwner x) later ≡ true = both-first _ (goodNames xs later) e in
-    let b : ownable x && not (owns xs x) ≡ true = both-first _ (nobody (isOwner x) later) a in
-    ap₂ _∷_ (name-back x (ownable-short x (both-first (ownable x) (not (owns xs x)) b)))
-    (names-back xs later (both-second (ownable x && not (owns xs x) && nobody (isOwner x) later) (goodNames xs later) e))
+names-back xs later e =
+    let t : List ℕ → Bool = λ x. ownable x && nobody (isOwner x) later in
+    maps-back t cellOf nameOf (λ x h. name-back x (ownable-short x (both-first (ownable x) (nobody (isOwner x) later) h))) xs
+    (distinct-every t (λ x y. same y x) xs e)
 
 pub pendings-back : (all : List (Slot Tail)) (last : ℕ) (ws : List Pending) → goodSlots all last all ≡ true → last < 4294967296
     → goodPending all ws ≡ true → every (λ w. word32 (w .serial)) ws ≡ true → map pendingOf (map pendingBytes ws) ≡ ws
-pendings-back all last [] g l e n = refl
-pendings-back all last (w ∷ ws) g l e n =
-    let t : Pending → Bool = λ w. word32 (w .serial) in
-    let k : w .callee ≤ last = connected-within all last (w .callee) all g (call-first all w ws e .callee) in
-    ap₂ _∷_ (pending-back w (omega arith) (ltb-true (w .serial) 4294967296 (both-first (t w) (every t ws) n)))
-    (pendings-back all last ws g l (call-later all w ws e) (both-second (t w) (every t ws) n))
+unfolding goodPending
+pendings-back all last ws g l e n =
+    let t : Pending → Bool = λ w. any (isPeer (w .callee)) all && leb 1 (w .serial) in
+    let u : Pending → Bool = λ w. word32 (w .serial) in
+    maps-back (λ w. t w && u w) pendingBytes pendingOf
+    (λ w h. let k : w .callee ≤ last = connected-within all last (w .callee) all g (both-first (any (isPeer (w .callee)) all) (leb 1 (w .serial)) (both-first (t w) (u w) h)) in
+    pending-back w (omega arith) (ltb-true (w .serial) 4294967296 (both-second (t w) (u w) h)))
+    ws (every-both t u ws (distinct-every t sameCall ws e) n)

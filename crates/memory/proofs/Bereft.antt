@@ -1,7 +1,7 @@
 -- The bytes of a slot after a callee has gone, and of all slots after a peer has disconnected. Assumes nothing.
 use mathlib.Core.List.{List, _++_}
 use mathlib.Core.Path.{_≡_, refl, sym, ap, _∙_}
-use Prim.Native.Nat.{ℕ, _+_}
+use Prim.Native.Nat.{ℕ}
 use lib.ListN.{take, drop}
 use Rattle.wire.specs.Words.{wordAt}
 use Rattle.wire.specs.declared.Order.the-variants.{Little}

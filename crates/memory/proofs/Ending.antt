@@ -1,13 +1,16 @@
 -- A table of pending calls from which those of one callee are taken out, call by call. Assumes nothing.
-use mathlib.Core.List.{List, [], _∷_, _++_, map, append-nil}
+use mathlib.Core.List.{List, [], _++_, map, append-nil, _∷_}
 use mathlib.Core.Path.{_≡_, refl, sym, ap, ap₂, _∙_}
 use Prim.Native.Nat.{ℕ, zero, suc, _+_, _-_, _*_, _≤_, _<_, min}
 use native.Mathlib.Omega.{arith}
 use lib.ListN.{length, getD, take, drop}
+use mir.Syntax.{w8}
+use mir.Val.{Fits}
 use borrow.Author.Needs.{needs}
 use Rattle.wire.specs.Words.{wordAt, wordBytes}
 use Rattle.wire.specs.declared.Order.the-variants.{Little}
 use Rattle.tables.specs.Tables.{parts, tableBytes, tableOf}
+use Rattle.tables.specs.Cut.{Cell}
 use Rattle.tables.proofs.Words.{word-part, word-fits, bytes-take, bytes-drop}
 use Rattle.tables.proofs.Table.{table-length, table-many, table-count, table-again, table-at}
 use Rattle.tables.proofs.Change.{without, without-length, map-without, removed, table-remove}
@@ -43,7 +46,7 @@ pub record Ending (c : ℕ) (ws₀ : List Pending) (t : List ℕ) (n j : ℕ) : 
   pub below : j ≤ n
   pub left : Leaving c ws₀ calls j
 
-pub ending-begins : (c : ℕ) (t : List ℕ) (n : ℕ) → length t ≡ 132 → ((i : ℕ) → getD t i 0 < 256)
+pub ending-begins : (c : ℕ) (t : List ℕ) (n : ℕ) → length t ≡ 132 → ((i : ℕ) → Fits w8 (getD t i 0))
     → t ≡ tableBytes 8 16 pendingBytes (tableOf 8 16 pendingOf t) → n ≡ wordAt Little t 0 → Ending c (tableOf 8 16 pendingOf t) t n 0
 ending-begins c t n l b e en =
     let ws = tableOf 8 16 pendingOf t in
@@ -52,7 +55,7 @@ ending-begins c t n l b e en =
     = ap (λ (z : List ℕ). wordAt Little z 0) (e ∙ sym (append-nil (tableBytes 8 16 pendingBytes ws))) ∙ table-count 8 16 pendingBytes ws [] (omega arith) in
     record {
       calls = ws;
-      back = table-back t b;
+      back = table-back t (λ i. b i .fits);
       is = e;
       sized = l;
       count = en ∙ q;
@@ -61,7 +64,13 @@ ending-begins c t n l b e en =
       left = leaving-begins c ws;
     }
 
-module _ (c : ℕ) (ws₀ : List Pending) (t : List ℕ) (n j : ℕ) (g : Ending c ws₀ t n j) (h : j < n) (k : ℕ) (e : k ≡ wordAt Little t (4 + 8 * j)) where
+module _ {c : ℕ} {ws₀ : List Pending} {t : List ℕ} {n j : ℕ} (g : Ending c ws₀ t n j) (h : j < n) where
+  pub ending-cell : Cell t (4 + 8 * j) 8 (4 + 8 * n)
+  ending-cell =
+      let l : length t ≡ 132 = g .sized in
+      let f : n ≤ 16 = g .few in
+      record { inside = omega arith; room = omega arith }
+
   read : tableOf 8 16 pendingOf t ≡ g .calls
   read =
       let ws = g .calls in
@@ -79,41 +88,42 @@ module _ (c : ℕ) (ws₀ : List Pending) (t : List ℕ) (n j : ℕ) (g : Ending
       ∙ word-part t (4 + 8 * j) 8 0 (omega arith)
       ∙ ap (wordAt Little t) (omega arith)
 
-  pub ending-out : k ≡ c → (t₁ : List ℕ) (n₁ : ℕ) → t₁ ≡ wordBytes (n - 1) ++ removed 8 n j (drop 4 t) → n₁ ≡ n - 1 → Ending c ws₀ t₁ n₁ j
-  ending-out q t₁ n₁ e₁ en =
-      let ws = g .calls in
-      let m : n ≡ length ws = g .count in
-      let f : n ≤ 16 = g .few in
-      let l : length (without j ws) + 1 ≡ length ws = without-length j ws (omega arith) in
-      let is : t₁ ≡ tableBytes 8 16 pendingBytes (without j ws) = e₁ ∙ sym (table-remove 8 16 pendingBytes pending-length ws j t n (g .is) m f h) in
-      record {
-        calls = without j ws;
-        back = ap (map pendingOf) (map-without pendingBytes j ws) ∙ map-without pendingOf j (map pendingBytes ws) ∙ ap (without j) (g .back);
-        is = is;
-        sized = ap length is ∙ table-length 8 16 pendingBytes (without j ws);
-        count = omega arith;
-        few = omega arith;
-        below = omega arith;
-        left = leaving-out c ws₀ ws j (g .left) (pendingOf []) (omega arith) (callee-at ∙ sym e ∙ q);
-      }
+  module _ (k : ℕ) (e : k ≡ wordAt Little t (4 + 8 * j)) where
+    pub ending-out : k ≡ c → (t₁ : List ℕ) → t₁ ≡ wordBytes (n - 1) ++ removed 8 n j (drop 4 t) → Ending c ws₀ t₁ (n - 1) j
+    ending-out q t₁ e₁ =
+        let ws = g .calls in
+        let m : n ≡ length ws = g .count in
+        let f : n ≤ 16 = g .few in
+        let l : length (without j ws) + 1 ≡ length ws = without-length j ws (omega arith) in
+        let is : t₁ ≡ tableBytes 8 16 pendingBytes (without j ws) = e₁ ∙ sym (table-remove 8 16 pendingBytes pending-length ws j t n (g .is) m f h) in
+        record {
+          calls = without j ws;
+          back = ap (map pendingOf) (map-without pendingBytes j ws) ∙ map-without pendingOf j (map pendingBytes ws) ∙ ap (without j) (g .back);
+          is = is;
+          sized = ap length is ∙ table-length 8 16 pendingBytes (without j ws);
+          count = omega arith;
+          few = omega arith;
+          below = omega arith;
+          left = leaving-out c ws₀ ws j (g .left) (pendingOf []) (omega arith) (callee-at ∙ sym e ∙ q);
+        }
 
-  pub ending-stays : (k ≡ c → ⊥) → Ending c ws₀ t n (j + 1)
-  ending-stays q =
-      let m : n ≡ length (g .calls) = g .count in
-      record {
-        calls = g .calls;
-        back = g .back;
-        is = g .is;
-        sized = g .sized;
-        count = g .count;
-        few = g .few;
-        below = omega arith;
-        left = leaving-stays c ws₀ (g .calls) j (g .left) (pendingOf []) (omega arith) (λ z. q (e ∙ sym callee-at ∙ z));
-      }
+    pub ending-stays : (k ≡ c → ⊥) → Ending c ws₀ t n (j + 1)
+    ending-stays q =
+        let m : n ≡ length (g .calls) = g .count in
+        record {
+          calls = g .calls;
+          back = g .back;
+          is = g .is;
+          sized = g .sized;
+          count = g .count;
+          few = g .few;
+          below = omega arith;
+          left = leaving-stays c ws₀ (g .calls) j (g .left) (pendingOf []) (omega arith) (λ z. q (e ∙ sym callee-at ∙ z));
+        }
 
-pub ending-ends : (c : ℕ) (ws₀ : List Pending) (t : List ℕ) (n j : ℕ) → Ending c ws₀ t n j → n ≤ j → t ≡ tableBytes 8 16 pendingBytes (endedAll c ws₀)
-ending-ends c ws₀ t n j g h =
+pub ending-ends : {c : ℕ} {ws₀ : List Pending} {t : List ℕ} {n j : ℕ} → Ending c ws₀ t n j → n ≤ j → t ≡ tableBytes 8 16 pendingBytes (endedAll c ws₀)
+ending-ends {c} {ws₀} {n = n} {j = j} g h =
     let m : n ≡ length (g .calls) = g .count in
     g .is ∙ ap (tableBytes 8 16 pendingBytes) (leaving-ends c ws₀ (g .calls) j (g .left) (omega arith))
 
-pub ruleset ending = (ending-begins, ending-out, ending-stays, ending-ends, needs)
+pub ruleset ending = (ending-begins, ending-cell, ending-out, ending-stays, ending-ends, needs)

@@ -1,29 +1,51 @@
 -- The fields of a peer in its slot's bytes: each is put at its place, and the rest stays. Assumes nothing.
-use mathlib.Core.List.{List, [], _++_, append-assoc, append-nil}
-use mathlib.Core.Path.{_≡_, refl, sym, ap, _∙_}
-use Prim.Native.Nat.{ℕ, _+_, _≤_, _<_}
+use mathlib.Core.List.{List, [], _++_, map, append-assoc, append-nil}
+use mathlib.Core.Path.{_≡_, sym, ap, _∙_}
+use Prim.Native.Nat.{ℕ, _+_, _*_, _≤_, _<_}
+use native.Mathlib.Omega.{arith}
 use lib.ListN.{length, getD, take, drop, length-append}
 use lib.Seq.{take-at, drop-at}
-use Rattle.wire.specs.Words.{wordBytes}
+use Rattle.wire.specs.Words.{wordAt, wordBytes}
+use Rattle.wire.specs.declared.Order.the-variants.{Little}
 use Rattle.wire.proofs.Words.{word-length}
-use Rattle.tables.specs.Tables.{tableBytes}
-use Rattle.tables.proofs.Parts.{part-at, part-put, part-nested}
-use Rattle.tables.proofs.Table.{table-length}
+use Rattle.tables.specs.Tables.{tableBytes, tableOf}
+use Rattle.wire.proofs.Parts.{part-put, part-nested}
+use Rattle.tables.proofs.Words.{word-front}
+use Rattle.tables.proofs.Table.{table-length, table-count, table-again}
 use Rattle.policy.specs.Names.{cellOf}
 use Rattle.stream.specs.Tail.{Tail}
 use Rattle.rules.specs.State.{Pending, Peer, free, peer, State, putSlot, withNames, withPending, withStream}
 use Rattle.memory.specs.Layout.{slotStart}
-use Rattle.memory.specs.Encoding.{pendingBytes, headBytes, peerBytes, slotBytes, memoryOf}
+use Rattle.memory.specs.Encoding.{pendingBytes, streamBytes, peerBytes, slotBytes, memoryOf}
 use Rattle.memory.proofs.Frame.{head-length, put-memory, memory-at}
 
-pub peer-bytes : (p : Peer Tail) → slotBytes (peer p) ≡ peerBytes p
-unfolding slotBytes
-peer-bytes p = refl
+-- ---- the table of xs in the bytes s, at b: `pre` before it, `post` after it
+
+pub record Within {A : Type 0} (w k : ℕ) (enc : A → List ℕ) (xs : List A) (pre post : List ℕ) (b : ℕ) (s : List ℕ) : Type 0 where
+  pub start : length pre ≡ b
+  pub is : s ≡ pre ++ (tableBytes w k enc xs ++ post)
+
+module _ {A : Type 0} {w k b : ℕ} {enc : A → List ℕ} {xs : List A} {s pre post : List ℕ} (g : Within w k enc xs pre post b s) where
+  table-from : drop b s ≡ tableBytes w k enc xs ++ post
+  table-from = rw (g .is) (drop-at pre (tableBytes w k enc xs ++ post) b (g .start))
+
+  pub table-part : take (4 + w * k) (drop b s) ≡ tableBytes w k enc xs
+  table-part = ap (take (4 + w * k)) table-from ∙ take-at (tableBytes w k enc xs) post (4 + w * k) (table-length w k enc xs)
+
+  pub table-put : {ys : List A} {t : List ℕ} → Within w k enc ys pre post b t
+      → t ≡ take b s ++ (tableBytes w k enc ys ++ drop (b + (4 + w * k)) s)
+  table-put {ys} f =
+      f .is
+      ∙ rw (g .is) (part-put pre (tableBytes w k enc xs) (tableBytes w k enc ys) post b (4 + w * k) (g .start) (table-length w k enc xs))
+
+  pub table-counted : length xs < 4294967296 → wordAt Little s b ≡ length xs
+  table-counted h = sym (word-front s b) ∙ ap (λ (z : List ℕ). wordAt Little z 0) table-from ∙ table-count w k enc xs post h
+
+  pub table-back : ((x : A) → length (enc x) ≡ w) → (dec : List ℕ → A) → length xs ≤ k → k < 4294967296 → map dec (map enc xs) ≡ xs
+      → tableOf w k dec (drop b s) ≡ xs
+  table-back sized dec h o q = ap (tableOf w k dec) table-from ∙ table-again w k enc sized dec xs post h (omega arith) q
 
 -- ---- what stands before each field
-
-abbrev pub stream : Tail → List ℕ
-stream t = wordBytes (t .taken) ++ headBytes (t .head)
 
 unfoldable pub beforeGids : Peer Tail → List ℕ
 beforeGids p = wordBytes (p .number) ++ wordBytes (p .uid)
@@ -37,85 +59,64 @@ beforeNames p = beforePending p ++ tableBytes 8 16 pendingBytes (p .pending)
 unfoldable pub beforeStream : Peer Tail → List ℕ
 beforeStream p = beforeNames p ++ tableBytes 256 4 cellOf (p .names)
 
-pub before-gids : (p : Peer Tail) → length (beforeGids p) ≡ 8
-unfolding beforeGids
-before-gids p = simp (length-append, word-length)
+pub stream-length : (t : Tail) → length (streamBytes t) ≡ 2056
+stream-length t = simp (length-append, word-length, head-length)
 
-pub before-pending : (p : Peer Tail) → length (beforePending p) ≡ 76
+-- ---- the tables of a peer in its bytes, and the stream behind them
+
+pub gids-in : (p : Peer Tail)
+    → Within 4 16 wordBytes (p .gids) (beforeGids p)
+    (tableBytes 8 16 pendingBytes (p .pending) ++ (tableBytes 256 4 cellOf (p .names) ++ streamBytes (p .stream))) 8 (slotBytes (peer p))
+unfolding slotBytes peerBytes beforeGids
+gids-in p =
+    record { start = simp (length-append, word-length); is = sym (append-assoc (wordBytes (p .number)) (wordBytes (p .uid)) _) }
+
+pub pending-in : (p : Peer Tail)
+    → Within 8 16 pendingBytes (p .pending) (beforePending p) (tableBytes 256 4 cellOf (p .names) ++ streamBytes (p .stream)) 76 (slotBytes (peer p))
 unfolding beforePending
-before-pending p = simp (length-append, before-gids, table-length)
+pending-in p =
+    record {
+      start = simp (length-append, gids-in p .start, table-length);
+      is = gids-in p .is ∙ sym (append-assoc (beforeGids p) (tableBytes 4 16 wordBytes (p .gids)) _);
+    }
 
-pub before-names : (p : Peer Tail) → length (beforeNames p) ≡ 208
+pub names-in : (p : Peer Tail) → Within 256 4 cellOf (p .names) (beforeNames p) (streamBytes (p .stream)) 208 (slotBytes (peer p))
 unfolding beforeNames
-before-names p = simp (length-append, before-pending, table-length)
+names-in p =
+    record {
+      start = simp (length-append, pending-in p .start, table-length);
+      is = pending-in p .is ∙ sym (append-assoc (beforePending p) (tableBytes 8 16 pendingBytes (p .pending)) _);
+    }
 
 pub before-stream : (p : Peer Tail) → length (beforeStream p) ≡ 1236
 unfolding beforeStream
-before-stream p = simp (length-append, before-names, table-length)
+before-stream p = simp (length-append, names-in p .start, table-length)
 
-pub stream-length : (t : Tail) → length (stream t) ≡ 2056
-stream-length t = simp (length-append, word-length, head-length)
-
--- ---- the bytes of a peer, split at each field
-
-pub split-gids : (p : Peer Tail) → slotBytes (peer p)
-    ≡ beforeGids p
-    ++ (tableBytes 4 16 wordBytes (p .gids)
-    ++ (tableBytes 8 16 pendingBytes (p .pending) ++ (tableBytes 256 4 cellOf (p .names) ++ stream (p .stream))))
-unfolding slotBytes peerBytes beforeGids
-split-gids p = sym (append-assoc (wordBytes (p .number)) (wordBytes (p .uid)) _)
-
-pub split-pending : (p : Peer Tail) → slotBytes (peer p)
-    ≡ beforePending p ++ (tableBytes 8 16 pendingBytes (p .pending) ++ (tableBytes 256 4 cellOf (p .names) ++ stream (p .stream)))
-unfolding beforePending
-split-pending p = split-gids p ∙ sym (append-assoc (beforeGids p) (tableBytes 4 16 wordBytes (p .gids)) _)
-
-pub split-names : (p : Peer Tail) → slotBytes (peer p)
-    ≡ beforeNames p ++ (tableBytes 256 4 cellOf (p .names) ++ stream (p .stream))
-unfolding beforeNames
-split-names p = split-pending p ∙ sym (append-assoc (beforePending p) (tableBytes 8 16 pendingBytes (p .pending)) _)
-
-pub split-stream : (p : Peer Tail) → slotBytes (peer p) ≡ beforeStream p ++ (stream (p .stream) ++ [])
+pub split-stream : (p : Peer Tail) → slotBytes (peer p) ≡ beforeStream p ++ (streamBytes (p .stream) ++ [])
 unfolding beforeStream
 split-stream p =
-    split-names p
-    ∙ sym (append-assoc (beforeNames p) (tableBytes 256 4 cellOf (p .names)) (stream (p .stream)))
-    ∙ ap (λ (z : List ℕ). (beforeNames p ++ tableBytes 256 4 cellOf (p .names)) ++ z) (sym (append-nil (stream (p .stream))))
+    names-in p .is
+    ∙ sym (append-assoc (beforeNames p) (tableBytes 256 4 cellOf (p .names)) (streamBytes (p .stream)))
+    ∙ ap (λ (z : List ℕ). (beforeNames p ++ tableBytes 256 4 cellOf (p .names)) ++ z) (sym (append-nil (streamBytes (p .stream))))
 
 -- ---- a field put
 
 pub put-pending : (p : Peer Tail) (ws : List Pending) → slotBytes (peer (withPending p ws))
     ≡ take 76 (slotBytes (peer p)) ++ (tableBytes 8 16 pendingBytes ws ++ drop 208 (slotBytes (peer p)))
 unfolding beforePending beforeGids
-put-pending p ws =
-    rw (split-pending (withPending p ws), split-pending p)
-    (part-put (beforePending p) (tableBytes 8 16 pendingBytes (p .pending)) (tableBytes 8 16 pendingBytes ws)
-    (tableBytes 256 4 cellOf (p .names) ++ stream (p .stream)) 76 132 (before-pending p) (table-length 8 16 pendingBytes (p .pending)))
+put-pending p ws = table-put (pending-in p) (pending-in (withPending p ws))
 
 pub put-names : (p : Peer Tail) (ns : List (List ℕ)) → slotBytes (peer (withNames p ns))
     ≡ take 208 (slotBytes (peer p)) ++ (tableBytes 256 4 cellOf ns ++ drop 1236 (slotBytes (peer p)))
 unfolding beforeNames beforePending beforeGids
-put-names p ns =
-    rw (split-names (withNames p ns), split-names p)
-    (part-put (beforeNames p) (tableBytes 256 4 cellOf (p .names)) (tableBytes 256 4 cellOf ns) (stream (p .stream)) 208 1028
-    (before-names p) (table-length 256 4 cellOf (p .names)))
+put-names p ns = table-put (names-in p) (names-in (withNames p ns))
 
 pub put-stream : (p : Peer Tail) (t : Tail) → slotBytes (peer (withStream p t))
-    ≡ take 1236 (slotBytes (peer p)) ++ (wordBytes (t .taken) ++ headBytes (t .head))
+    ≡ take 1236 (slotBytes (peer p)) ++ streamBytes t
 unfolding beforeStream beforeNames beforePending beforeGids
 put-stream p t =
-    rw (split-stream (withStream p t), split-stream p, take-at (beforeStream p) (stream (p .stream) ++ []) 1236 (before-stream p))
-    (ap (λ (z : List ℕ). beforeStream p ++ z) (append-nil (stream t)))
-
--- the count of bytes taken alone
-pub put-taken : (p : Peer Tail) (n : ℕ) → slotBytes (peer (withStream p (record { taken = n; head = p .stream .head })))
-    ≡ take 1236 (slotBytes (peer p)) ++ (wordBytes n ++ drop 1240 (slotBytes (peer p)))
-unfolding beforeStream beforeNames beforePending beforeGids
-put-taken p n =
-    let t : Tail = record { taken = n; head = p .stream .head } in
-    rw (split-stream (withStream p t), split-stream p, append-nil (stream t), append-nil (stream (p .stream)))
-    (part-put (beforeStream p) (wordBytes (p .stream .taken)) (wordBytes n) (headBytes (p .stream .head)) 1236 4
-    (before-stream p) (word-length (p .stream .taken)))
+    rw (split-stream (withStream p t), split-stream p, take-at (beforeStream p) (streamBytes (p .stream) ++ []) 1236 (before-stream p))
+    (ap (λ (z : List ℕ). beforeStream p ++ z) (append-nil (streamBytes t)))
 
 -- ---- a field put in memory: `new` are the c bytes at b of slot i that differ
 
@@ -127,22 +128,8 @@ put-field s i p q new b c h e l f =
     put-memory s i (peer q) h
     ∙ rw (f, ← g) (part-nested (memoryOf s) new (slotStart i) b c 3292 l)
 
--- ---- a field read off the bytes of a peer
+-- ---- the stream read off the bytes of a peer
 
-pub gids-bytes : (p : Peer Tail) → take 68 (drop 8 (slotBytes (peer p))) ≡ tableBytes 4 16 wordBytes (p .gids)
-gids-bytes p =
-    rw (split-gids p) (part-at (beforeGids p) (tableBytes 4 16 wordBytes (p .gids)) _ 8 68 (before-gids p) (table-length 4 16 wordBytes (p .gids)))
-
-pub pending-bytes : (p : Peer Tail) → take 132 (drop 76 (slotBytes (peer p))) ≡ tableBytes 8 16 pendingBytes (p .pending)
-pending-bytes p =
-    rw (split-pending p)
-    (part-at (beforePending p) (tableBytes 8 16 pendingBytes (p .pending)) _ 76 132 (before-pending p) (table-length 8 16 pendingBytes (p .pending)))
-
-pub names-bytes : (p : Peer Tail) → take 1028 (drop 208 (slotBytes (peer p))) ≡ tableBytes 256 4 cellOf (p .names)
-names-bytes p =
-    rw (split-names p)
-    (part-at (beforeNames p) (tableBytes 256 4 cellOf (p .names)) _ 208 1028 (before-names p) (table-length 256 4 cellOf (p .names)))
-
-pub stream-bytes : (p : Peer Tail) → drop 1236 (slotBytes (peer p)) ≡ wordBytes (p .stream .taken) ++ headBytes (p .stream .head)
+pub stream-bytes : (p : Peer Tail) → drop 1236 (slotBytes (peer p)) ≡ streamBytes (p .stream)
 stream-bytes p =
-    rw (split-stream p, append-nil (stream (p .stream))) (drop-at (beforeStream p) (stream (p .stream)) 1236 (before-stream p))
+    rw (split-stream p, append-nil (streamBytes (p .stream))) (drop-at (beforeStream p) (streamBytes (p .stream)) 1236 (before-stream p))

@@ -1,5 +1,5 @@
 -- Searching the slots by the number that stands in each: the first free one, and the peer of a number. Assumes nothing.
-use mathlib.Core.Bool.{Bool, true, false, false≢true}
+use mathlib.Core.Bool.{Bool, true, false≢true}
 use mathlib.Core.List.{List}
 use mathlib.Core.Path.{_≡_, refl, sym, ap, _∙_}
 use Prim.Native.Nat.{ℕ, zero, suc, _+_, _-_, _≤_, _<_}
@@ -12,10 +12,11 @@ use borrow.Author.Tests.{eq-eqb, ne-eqb, eqb-true}
 use borrow.Author.Needs.{needs}
 use Rattle.stream.specs.Tail.{Tail}
 use Rattle.rules.specs.State.{Slot, free, peer, isFree, isPeer, firstBy}
+use Rattle.rules.proofs.First.{first-passes}
 use Rattle.memory.specs.Layout.{slotStart}
 use Rattle.memory.specs.Encoding.{stateOf}
 use Rattle.memory.proofs.Reading.{sixteen, numberAt, peerFrom, slot-free, slot-peer}
-use Rattle.memory.proofs.Search.{first-passes, Looking, Found, looking-begins, looking-hit, looking-miss, looking-ends}
+use Rattle.memory.proofs.Search.{Looking, Found, looking-begins, looking-hit, looking-miss, looking-ends, tested-ends}
 
 -- ---- the first free slot; k is the number that the code read in slot i
 
@@ -43,12 +44,6 @@ module _ {n : ℕ} {m : List ℕ} {from i : ℕ} (l : Looking (isPeer n) m from 
     | no z ↦ looking-miss (isPeer n) m from i l h (rw (slot-peer m i h (λ y. z (e ∙ y))) (ne-eqb (numberAt m i) n (λ y. q (e ∙ y))))
   ]
 
-pub peer-ends : {n : ℕ} {m : List ℕ} {from i : ℕ} → Looking (isPeer n) m from i → 16 ≤ i → Found (isPeer n) m from i
-peer-ends {n = n} {m = m} {from = from} {i = i} l h = looking-ends (isPeer n) m from i l h
-
-pub free-ends : {m : List ℕ} {from i : ℕ} → Looking isFree m from i → 16 ≤ i → Found isFree m from i
-free-ends {m = m} {from = from} {i = i} l h = looking-ends isFree m from i l h
-
 -- number 0 is nobody's
 nobody-from : (m : List ℕ) (from i j : ℕ) → i + j ≡ 16 → Looking (isPeer 0) m from i → Found (isPeer 0) m from 16
 nobody-from m from i zero e l =
@@ -62,7 +57,7 @@ nobody-from m from i (suc j) e l = elim (ℕ-discrete (numberAt m i) 0) [
 pub peer-nobody : (n : ℕ) (m : List ℕ) (from : ℕ) → n ≡ 0 → from ≤ 16 → Found (isPeer n) m from 16
 peer-nobody n m from e h = rw e (nobody-from m from from (16 - from) (omega arith) (looking-begins (isPeer 0) m from h))
 
-pub ruleset finding = (looking-begins, free-hit, free-miss, free-ends, peer-hit, peer-skip, peer-miss, peer-ends, peer-nobody, needs)
+pub ruleset finding = (looking-begins, free-hit, free-miss, peer-hit, peer-skip, peer-miss, tested-ends, peer-nobody, needs)
 
 -- ---- what was found
 

@@ -10,7 +10,7 @@ use Rattle.wire.specs.Words.{wordBytes}
 use Rattle.wire.proofs.Words.{word-length}
 use Rattle.wire.proofs.Texts.{pad-length}
 use Rattle.tables.specs.Tables.{cells}
-use Rattle.tables.proofs.Parts.{take-past, drop-past}
+use Rattle.wire.proofs.Parts.{take-past, drop-past}
 use Rattle.tables.proofs.Cells.{cells-length, cells-put, cells-at, cells-zeros}
 use Rattle.tables.proofs.Table.{table-length}
 use Rattle.policy.specs.Names.{cellOf}

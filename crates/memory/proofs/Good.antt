@@ -7,6 +7,7 @@ use native.Mathlib.Omega.{arith}
 use lib.Dec.{eqb}
 use lib.ListN.{length, getD, take, drop, set, length-drop, take-append-drop}
 use borrow.Author.Tests.{eqb-true, lt-ltb}
+use Rattle.wire.specs.Lists.{every}
 use Rattle.wire.specs.Bytes.{same}
 use Rattle.wire.specs.Words.{wordAt, wordBytes}
 use Rattle.wire.specs.declared.Order.the-variants.{Little}
@@ -18,7 +19,7 @@ use Rattle.rules.specs.State.{Pending, Slot, free, peer, putSlot}
 use Rattle.memory.specs.Layout.{slotStart}
 use Rattle.memory.specs.Encoding.{slotBytes, memoryOf, wordOf, pendingOf, peerOf, slotOf, stateOf}
 use Rattle.memory.specs.Good.{goodSlots, plain, good}
-use Rattle.memory.specs.Sound.{headOctets, every, word32, narrow, Sound, Held}
+use Rattle.memory.specs.Sound.{headOctets, word32, narrow, Sound, Held}
 use Rattle.memory.proofs.Octets.{slot-octets}
 use Rattle.memory.proofs.Frame.{put-memory, put-last}
 use Rattle.memory.proofs.Reading.{sixteen}

@@ -1,28 +1,24 @@
 -- In good memory the bytes of each slot are those of the slot that is read off them, and counts are what they say. Assumes nothing.
 use mathlib.Core.Bool.{true}
-use mathlib.Core.List.{List, [], _∷_, _++_}
+use mathlib.Core.List.{List, [], _∷_}
 use mathlib.Core.Path.{_≡_, sym, ap, _∙_}
 use Prim.Native.Nat.{ℕ, zero, suc, _+_, _≤_, _<_, min}
 use native.Mathlib.Omega.{arith}
 use lib.ListN.{length, getD, take, drop, length-take}
-use lib.Seq.{drop-at}
 use Rattle.wire.specs.Bytes.{same}
-use Rattle.wire.specs.Words.{wordAt, wordBytes}
+use Rattle.wire.specs.Words.{wordAt}
 use Rattle.wire.specs.declared.Order.the-variants.{Little}
 use Rattle.wire.proofs.Texts.{both-first, both-second, same-eq}
-use Rattle.tables.specs.Tables.{parts, tableBytes}
-use Rattle.tables.proofs.Words.{word-front, word-part}
+use Rattle.tables.specs.Tables.{parts}
+use Rattle.tables.proofs.Words.{word-part}
 use Rattle.tables.proofs.Cells.{parts-length}
-use Rattle.tables.proofs.Table.{table-count}
-use Rattle.policy.specs.Names.{cellOf}
-use Rattle.stream.specs.Tail.{Tail}
-use Rattle.rules.specs.State.{Peer, free, peer}
+use Rattle.rules.specs.State.{free, peer}
 use Rattle.memory.specs.Layout.{slotStart}
-use Rattle.memory.specs.Encoding.{pendingBytes, slotBytes, slotOf, stateOf}
+use Rattle.memory.specs.Encoding.{slotBytes, slotOf, stateOf}
 use Rattle.memory.specs.Good.{plain}
 use Rattle.memory.specs.Sound.{Held}
 use Rattle.memory.proofs.Reading.{slot-part, slot-at, numberAt, peerFrom, slot-free, slot-peer, gids-many, pending-many, names-many}
-use Rattle.memory.proofs.Fields.{beforeGids, beforePending, beforeNames, before-gids, before-pending, before-names, stream, split-gids, split-pending, split-names}
+use Rattle.memory.proofs.Fields.{gids-in, pending-in, names-in, table-counted}
 use Rattle.memory.proofs.Slots.{head-count}
 use Rattle.memory.proofs.Good.{good-plain}
 
@@ -46,25 +42,6 @@ pub held-peer : (m : List ℕ) (i : ℕ) → Held m → i < 16 → (numberAt m i
     → take 3292 (drop (slotStart i) m) ≡ slotBytes (peer (peerFrom m (slotStart i)))
 held-peer m i g h e = held-part m i g h ∙ ap slotBytes (slot-peer m i h e)
 
--- ---- counts of a peer's bytes
-
-gids-count : (p : Peer Tail) → length (p .gids) < 4294967296 → wordAt Little (slotBytes (peer p)) 8 ≡ length (p .gids)
-gids-count p h =
-    sym (word-front (slotBytes (peer p)) 8)
-    ∙ rw (split-gids p, drop-at (beforeGids p) (tableBytes 4 16 wordBytes (p .gids) ++ _) 8 (before-gids p)) (table-count 4 16 wordBytes (p .gids) _ h)
-
-calls-count : (p : Peer Tail) → length (p .pending) < 4294967296 → wordAt Little (slotBytes (peer p)) 76 ≡ length (p .pending)
-calls-count p h =
-    sym (word-front (slotBytes (peer p)) 76)
-    ∙ rw (split-pending p, drop-at (beforePending p) (tableBytes 8 16 pendingBytes (p .pending) ++ _) 76 (before-pending p))
-    (table-count 8 16 pendingBytes (p .pending) _ h)
-
-names-count : (p : Peer Tail) → length (p .names) < 4294967296 → wordAt Little (slotBytes (peer p)) 208 ≡ length (p .names)
-names-count p h =
-    sym (word-front (slotBytes (peer p)) 208)
-    ∙ rw (split-names p, drop-at (beforeNames p) (tableBytes 256 4 cellOf (p .names) ++ stream (p .stream)) 208 (before-names p))
-    (table-count 256 4 cellOf (p .names) _ h)
-
 -- ---- counts of the peer whose slot begins at a
 
 pub record Counted (m : List ℕ) (a : ℕ) : Type 0 where
@@ -87,9 +64,9 @@ held-counted m i g h e =
     let lc : length (p .pending) ≡ min (wordAt Little m (a + 76)) 16 = pending-many m a in
     let ln : length (p .names) ≡ min (wordAt Little m (a + 208)) 4 = names-many m a in
     let lh : length (p .stream .head) ≤ 2048 = omega (arith, length-take (min (wordAt Little m (a + 1240)) 2048) (drop (a + 1244) m)) in
-    let eg : wordAt Little m (a + 8) ≡ length (p .gids) = count 8 (omega arith) ∙ gids-count p (omega arith) in
-    let ec : wordAt Little m (a + 76) ≡ length (p .pending) = count 76 (omega arith) ∙ calls-count p (omega arith) in
-    let en : wordAt Little m (a + 208) ≡ length (p .names) = count 208 (omega arith) ∙ names-count p (omega arith) in
+    let eg : wordAt Little m (a + 8) ≡ length (p .gids) = count 8 (omega arith) ∙ table-counted (gids-in p) (omega arith) in
+    let ec : wordAt Little m (a + 76) ≡ length (p .pending) = count 76 (omega arith) ∙ table-counted (pending-in p) (omega arith) in
+    let en : wordAt Little m (a + 208) ≡ length (p .names) = count 208 (omega arith) ∙ table-counted (names-in p) (omega arith) in
     let eh : wordAt Little m (a + 1240) ≡ length (p .stream .head) = count 1240 (omega arith) ∙ head-count p lh in
     record {
       gids = sym eg;

@@ -1,5 +1,5 @@
 -- A peer's names as a region of memory: the cells in use, as the policy's functions take them. Assumes nothing.
-use mathlib.Core.List.{List, _∷_, map}
+use mathlib.Core.List.{List, map, _∷_}
 use mathlib.Core.Path.{_≡_, refl, sym, ap, ap₂, _∙_}
 use Prim.Native.Nat.{ℕ, zero, suc, _+_, _*_, _/_, _≤_, _<_, min}
 use native.Mathlib.Omega.{arith}
@@ -10,10 +10,10 @@ use Rattle.wire.specs.Bytes.{front}
 use Rattle.wire.specs.Words.{wordAt}
 use Rattle.wire.specs.declared.Order.the-variants.{Little}
 use Rattle.tables.specs.Tables.{parts, tableOf}
-use Rattle.tables.proofs.Parts.{drop-take}
+use Rattle.wire.proofs.Parts.{drop-take}
 use Rattle.tables.proofs.Words.{word-front, bytes-take, bytes-drop}
 use Rattle.tables.proofs.Cells.{parts-take}
-use Rattle.policy.specs.Names.{nameOf, cells as nameCells, namesIn}
+use Rattle.policy.specs.Names.{nameOf, cellNames, namesIn}
 use Rattle.memory.proofs.Reading.{peerFrom}
 
 -- a name is read no further than its cell
@@ -21,8 +21,8 @@ pub name-take : (s : List ℕ) → getD s 0 0 < 256 → nameOf (take 256 s) ≡ 
 name-take s h =
     rw (getD-take 256 s 0 0 (omega arith), drop-take 1 255 s) (take-take (front s) 255 (drop 1 s) (omega arith))
 
-names-cells : (n : ℕ) (d : List ℕ) → ((i : ℕ) → getD d i 0 < 256) → nameCells n d ≡ map nameOf (parts 256 n d)
-unfolding nameCells parts
+names-cells : (n : ℕ) (d : List ℕ) → ((i : ℕ) → getD d i 0 < 256) → cellNames n d ≡ map nameOf (parts 256 n d)
+unfolding cellNames parts
 names-cells zero d b = refl
 names-cells (suc n) d b = ap₂ _∷_ (sym (name-take d (b 0))) (names-cells n (drop 256 d) (bytes-drop 256 d b))
 

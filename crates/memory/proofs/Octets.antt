@@ -6,14 +6,15 @@ use Prim.Native.Nat.{ℕ, zero, suc, _+_, _<_, min}
 use lib.Dec.{ltb, eqb}
 use lib.ListN.{getD, take, drop}
 use borrow.Author.Tests.{lt-ltb, ltb-true}
+use Rattle.wire.specs.Lists.{every, distinct}
 use Rattle.wire.specs.Words.{wordAt}
 use Rattle.wire.specs.declared.Order.the-variants.{Little}
 use Rattle.wire.proofs.Texts.{both-first, both-second, both-true}
-use Rattle.rules.specs.State.{Slot, free, peer}
-use Rattle.stream.specs.Tail.{Tail}
+use Rattle.rules.specs.State.{free, peer}
+use Rattle.rules.proofs.Any.{first-good, rest-distinct}
 use Rattle.memory.specs.Layout.{headAt}
 use Rattle.memory.specs.Encoding.{tailOf, peerOf, slotOf}
-use Rattle.memory.specs.Sound.{every, octet, headOctets}
+use Rattle.memory.specs.Sound.{octet, headOctets}
 
 -- ---- every thing of a list
 
@@ -32,6 +33,16 @@ module _ {A : Type 0} (t : A → Bool) where
   every-drop zero l e = e
   every-drop (suc k) [] e = refl
   every-drop (suc k) (x ∷ l) e = every-drop k l (both-second (t x) (every t l) e)
+
+  pub every-both : (u : A → Bool) (l : List A) → every t l ≡ true → every u l ≡ true → every (λ x. t x && u x) l ≡ true
+  every-both u [] e f = refl
+  every-both u (x ∷ l) e f =
+      both-true (t x && u x) (every (λ y. t y && u y) l) (both-true (t x) (u x) (both-first (t x) (every t l) e) (both-first (u x) (every u l) f))
+      (every-both u l (both-second (t x) (every t l) e) (both-second (u x) (every u l) f))
+
+  pub distinct-every : (is : A → A → Bool) (l : List A) → distinct t is l ≡ true → every t l ≡ true
+  distinct-every is [] e = refl
+  distinct-every is (x ∷ l) e = both-true (t x) (every t l) (first-good t is x l e) (distinct-every is l (rest-distinct t is x l e))
 
 -- ---- numbers below k
 

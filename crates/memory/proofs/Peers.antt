@@ -1,16 +1,17 @@
--- The parts of a good peer, each by itself; who is awaited is connected. Assumes nothing.
-use mathlib.Core.Bool.{Bool, true, false, not, _&&_, false≢true}
+-- The parts of a good peer, each by itself; whose number it is. Assumes nothing.
+use mathlib.Core.Logic.{_⊎_, inl, inr}
+use mathlib.Core.Bool.{true, _&&_, false≢true}
 use mathlib.Core.List.{List, [], _∷_}
-use mathlib.Core.Path.{_≡_, refl, sym, _∙_}
+use mathlib.Core.Path.{_≡_}
 use Prim.Native.Nat.{ℕ, _≤_}
 use native.Mathlib.Omega.{arith}
-use lib.Dec.{eqb, leb, leb·suc-suc}
+use lib.Dec.{eqb, leb}
 use lib.ListN.{length}
-use borrow.Author.Tests.{eqb-true, leb-true, le-leb, not-true}
-use Rattle.wire.proofs.Texts.{both-first, both-second}
+use borrow.Author.Tests.{eqb-true, leb-true, le-leb}
+use Rattle.wire.specs.Lists.{any}
+use Rattle.wire.proofs.Texts.{both-first, both-second, either}
 use Rattle.stream.specs.Tail.{Tail, goodTail}
-use Rattle.rules.specs.State.{Pending, Peer, Slot, free, peer, isPeer, firstBy}
-use Rattle.rules.specs.Pending.{awaits}
+use Rattle.rules.specs.State.{Peer, Slot, free, peer, isPeer}
 use Rattle.memory.specs.Good.{nobody, goodNames, goodPending, goodPeer, goodSlot, goodSlots}
 
 pub record GoodPeer (all : List (Slot Tail)) (last : ℕ) (p : Peer Tail) (later : List (Slot Tail)) : Type 0 where
@@ -91,36 +92,14 @@ slots-later all last x later e = both-second (goodSlot all last x later) (goodSl
 
 -- a number that one of the slots has is not above the last number
 pub connected-within : (all : List (Slot Tail)) (last n : ℕ) (slots : List (Slot Tail)) → goodSlots all last slots ≡ true
-    → nobody (isPeer n) slots ≡ false → n ≤ last
-unfolding firstBy
-connected-within all last n [] g e = absurd (false≢true (sym e))
-connected-within all last n (free ∷ later) g e =
-    connected-within all last n later (slots-later all last free later g)
-    (sym (leb·suc-suc (length later) (firstBy (isPeer n) later)) ∙ e)
-connected-within all last n (peer p ∷ later) g e = go (eqb (p .number) n) refl (connected-within all last n later (slots-later all last (peer p) later g))
+    → any (isPeer n) slots ≡ true → n ≤ last
+connected-within all last n [] g e = absurd (false≢true e)
+connected-within all last n (free ∷ later) g e = connected-within all last n later (slots-later all last free later g) e
+connected-within all last n (peer p ∷ later) g e =
+    go (either (eqb (p .number) n) (any (isPeer n) later) e) (connected-within all last n later (slots-later all last (peer p) later g))
   where
-    go : (b : Bool) → eqb (p .number) n ≡ b → (nobody (isPeer n) later ≡ false → n ≤ last) → n ≤ last
-    go true q f =
+    go : (eqb (p .number) n ≡ true) ⊎ (any (isPeer n) later ≡ true) → (any (isPeer n) later ≡ true → n ≤ last) → n ≤ last
+    go (inl q) f =
         let w : p .number ≤ last = peer-good all last p later (slots-first all last (peer p) later g) .within in
         omega (arith, eqb-true (p .number) n q)
-    go false q f = f (sym (leb·suc-suc (length later) (firstBy (isPeer n) later)) ∙ rw q at e)
-
--- each call that awaits its reply: its callee's number is not above the last number, and its serial is not 0
-pub record GoodCall (all : List (Slot Tail)) (w : Pending) : Type 0 where
-  pub callee : nobody (isPeer (w .callee)) all ≡ false
-  pub serial : 1 ≤ w .serial
-
-pub call-first : (all : List (Slot Tail)) (w : Pending) (ws : List Pending) → goodPending all (w ∷ ws) ≡ true → GoodCall all w
-unfolding goodPending
-call-first all w ws e =
-    let a = not (nobody (isPeer (w .callee)) all) in
-    let b = leb 1 (w .serial) in
-    let c = not (awaits (w .callee) (w .serial) ws) in
-    let p : a && b && c ≡ true = both-first (a && b && c) (goodPending all ws) e in
-    let q : a && b ≡ true = both-first (a && b) c p in
-    record { callee = not-true (nobody (isPeer (w .callee)) all) (both-first a b q); serial = leb-true 1 (w .serial) (both-second a b q) }
-
-pub call-later : (all : List (Slot Tail)) (w : Pending) (ws : List Pending) → goodPending all (w ∷ ws) ≡ true → goodPending all ws ≡ true
-unfolding goodPending
-call-later all w ws e =
-    both-second (not (nobody (isPeer (w .callee)) all) && leb 1 (w .serial) && not (awaits (w .callee) (w .serial) ws)) (goodPending all ws) e
+    go (inr q) f = f q

@@ -6,23 +6,21 @@ use Prim.Native.Nat.{ℕ, _+_, _-_, _*_, _≤_, _<_}
 use native.Mathlib.Omega.{arith}
 use lib.ListN.{length, getD, take, drop, drop-of-length-le}
 use lib.Seq.{drop-drop, take-take}
-use Rattle.wire.specs.Words.{wordAt, wordBytes}
-use Rattle.wire.specs.declared.Order.the-variants.{Little}
+use Rattle.wire.specs.Words.{wordBytes}
 use Rattle.tables.specs.Tables.{tableBytes}
-use Rattle.tables.proofs.Parts.{drop-take}
-use Rattle.tables.proofs.Change.{without, removed}
-use Rattle.tables.proofs.Written.{append-written, remove-written}
+use Rattle.wire.proofs.Parts.{drop-take}
+use Rattle.tables.proofs.Written.{append-written}
 use Rattle.policy.specs.Names.{cellOf}
 use Rattle.stream.specs.Tail.{Tail}
 use Rattle.rules.specs.State.{Pending, Peer, peer, putSlot, withNames, withPending, withStream}
 use Rattle.memory.specs.Layout.{slotStart}
-use Rattle.memory.specs.Encoding.{pendingBytes, headBytes, slotBytes, memoryOf, stateOf}
+use Rattle.memory.specs.Encoding.{pendingBytes, streamBytes, slotBytes, memoryOf, stateOf}
 use Rattle.memory.specs.Sound.{Held}
 use Rattle.memory.proofs.Frame.{pending-length, cell-length, slot-length}
-use Rattle.memory.proofs.Fields.{put-field, put-names, put-pending, put-stream, put-taken, names-bytes, pending-bytes}
+use Rattle.memory.proofs.Fields.{put-field, put-names, put-pending, put-stream, table-part, names-in, pending-in}
 use Rattle.memory.proofs.Reading.{sixteen, numberAt, peerFrom, slot-peer}
 use Rattle.memory.proofs.Good.{good-is}
-use Rattle.memory.proofs.Held.{held-peer, Counted, held-counted}
+use Rattle.memory.proofs.Held.{held-peer}
 
 -- a part of a part
 part-of : (m : List ℕ) (a b c : ℕ) → b + c ≤ 3292 → take c (drop b (take 3292 (drop a m))) ≡ take c (drop (a + b) m)
@@ -41,13 +39,13 @@ module _ (m : List ℕ) (bytes : (j : ℕ) → getD m j 0 < 256) (g : Held m) (i
   names-stand =
       sym (part-of m (slotStart i) 208 1028 (omega arith))
       ∙ ap (λ (z : List ℕ). take 1028 (drop 208 z)) (held-peer m i g h some)
-      ∙ names-bytes (peerFrom m (slotStart i))
+      ∙ table-part (names-in (peerFrom m (slotStart i)))
 
   pub pending-stands : take 132 (drop (slotStart i + 76) m) ≡ tableBytes 8 16 pendingBytes (peerFrom m (slotStart i) .pending)
   pending-stands =
       sym (part-of m (slotStart i) 76 132 (omega arith))
       ∙ ap (λ (z : List ℕ). take 132 (drop 76 z)) (held-peer m i g h some)
-      ∙ pending-bytes (peerFrom m (slotStart i))
+      ∙ table-part (pending-in (peerFrom m (slotStart i)))
 
   -- ---- a field put in slot i: `new` are the c bytes at b of it that differ
 
@@ -70,31 +68,21 @@ module _ (m : List ℕ) (bytes : (j : ℕ) → getD m j 0 < 256) (g : Held m) (i
       let p = peerFrom m (slotStart i) in
       field-put (withPending p ws) (tableBytes 8 16 pendingBytes ws) 76 132 (omega arith) (put-pending p ws)
 
-  pub taken-put : (n : ℕ)
-      → memoryOf (putSlot (stateOf m) i (peer (withStream (peerFrom m (slotStart i)) (record { taken = n; head = peerFrom m (slotStart i) .stream .head }))))
-      ≡ take (slotStart i + 1236) m ++ (wordBytes n ++ drop (slotStart i + 1236 + 4) m)
-  taken-put n =
-      let p = peerFrom m (slotStart i) in
-      field-put (withStream p (record { taken = n; head = p .stream .head })) (wordBytes n) 1236 4 (omega arith) (put-taken p n)
-
   pub stream-put : (t : Tail) → memoryOf (putSlot (stateOf m) i (peer (withStream (peerFrom m (slotStart i)) t)))
-      ≡ take (slotStart i + 1236) m ++ ((wordBytes (t .taken) ++ headBytes (t .head)) ++ drop (slotStart i + 1236 + 2056) m)
+      ≡ take (slotStart i + 1236) m ++ (streamBytes t ++ drop (slotStart i + 1236 + 2056) m)
   stream-put t =
       let p = peerFrom m (slotStart i) in
       let s = slotBytes (peer p) in
-      let x = wordBytes (t .taken) ++ headBytes (t .head) in
+      let x = streamBytes t in
       let e : x ≡ x ++ drop 3292 s = sym (ap (λ (z : List ℕ). x ++ z) (drop-of-length-le s {i = 3292} (omega (arith, slot-length (peer p)))) ∙ append-nil x) in
       field-put (withStream p t) x 1236 2056 (omega arith) (put-stream p t ∙ ap (λ (z : List ℕ). take 1236 s ++ z) e)
 
   -- ---- the writes that make them; n is the count that the code read, c where the cell stands
 
-  counted : Counted m (slotStart i)
-  counted = held-counted m i g h some
-
   room : (k : ℕ) → k ≤ 3292 → slotStart i + k ≤ length m
   room k l = omega (arith, g .sized)
 
-  pub name-appended : (name m₁ m₂ : List ℕ) (n c : ℕ) → n ≡ wordAt Little m (slotStart i + 208) → n < 4 → c ≡ slotStart i + 212 + 256 * n
+  pub name-appended : (name m₁ m₂ : List ℕ) (n c : ℕ) → n ≡ length (peerFrom m (slotStart i) .names) → n < 4 → c ≡ slotStart i + 212 + 256 * n
       → m₁ ≡ take c m ++ (cellOf name ++ drop (c + 256) m)
       → m₂ ≡ take (slotStart i + 208) m₁ ++ (wordBytes (n + 1) ++ drop (slotStart i + 208 + 4) m₁)
       → m₂ ≡ memoryOf (putSlot (stateOf m) i (peer (withNames (peerFrom m (slotStart i)) (peerFrom m (slotStart i) .names ++ (name ∷ [])))))
@@ -103,23 +91,10 @@ module _ (m : List ℕ) (bytes : (j : ℕ) → getD m j 0 < 256) (g : Held m) (i
       let ns = peerFrom m a .names in
       let f : c ≡ a + 208 + (4 + 256 * n) = omega arith in
       append-written 256 4 cellOf cell-length ns name m m₁ m₂ (a + 208) c n (omega (arith, room 1236 (omega arith))) names-stand
-      (e ∙ sym (counted .names)) l f e₁ e₂
+      e l f e₁ e₂
       ∙ sym (names-put (ns ++ (name ∷ [])))
 
-  pub name-removed : (j : ℕ) (m₁ m₂ y : List ℕ) (n : ℕ) → n ≡ wordAt Little m (slotStart i + 208) → j < n
-      → y ≡ removed 256 n j (take 1024 (drop (slotStart i + 208 + 4) m))
-      → m₁ ≡ take (slotStart i + 208 + 4) m ++ (y ++ drop (slotStart i + 208 + 4 + 1024) m)
-      → m₂ ≡ take (slotStart i + 208) m₁ ++ (wordBytes (n - 1) ++ drop (slotStart i + 208 + 4) m₁)
-      → m₂ ≡ memoryOf (putSlot (stateOf m) i (peer (withNames (peerFrom m (slotStart i)) (without j (peerFrom m (slotStart i) .names)))))
-  name-removed j m₁ m₂ y n e l ey e₁ e₂ =
-      let a = slotStart i in
-      let ns = peerFrom m a .names in
-      let few : wordAt Little m (a + 208) ≤ 4 = counted .fewNames in
-      remove-written 256 4 cellOf cell-length ns j m m₁ m₂ y (a + 208) n (omega (arith, room 1236 (omega arith))) names-stand
-      (e ∙ sym (counted .names)) (omega arith) l ey e₁ e₂
-      ∙ sym (names-put (without j ns))
-
-  pub call-appended : (w : Pending) (m₁ m₂ : List ℕ) (n c : ℕ) → n ≡ wordAt Little m (slotStart i + 76) → n < 16 → c ≡ slotStart i + 80 + 8 * n
+  pub call-appended : (w : Pending) (m₁ m₂ : List ℕ) (n c : ℕ) → n ≡ length (peerFrom m (slotStart i) .pending) → n < 16 → c ≡ slotStart i + 80 + 8 * n
       → m₁ ≡ take c m ++ (pendingBytes w ++ drop (c + 8) m)
       → m₂ ≡ take (slotStart i + 76) m₁ ++ (wordBytes (n + 1) ++ drop (slotStart i + 76 + 4) m₁)
       → m₂ ≡ memoryOf (putSlot (stateOf m) i (peer (withPending (peerFrom m (slotStart i)) (peerFrom m (slotStart i) .pending ++ (w ∷ [])))))
@@ -128,18 +103,5 @@ module _ (m : List ℕ) (bytes : (j : ℕ) → getD m j 0 < 256) (g : Held m) (i
       let ws = peerFrom m a .pending in
       let f : c ≡ a + 76 + (4 + 8 * n) = omega arith in
       append-written 8 16 pendingBytes pending-length ws w m m₁ m₂ (a + 76) c n (omega (arith, room 208 (omega arith))) pending-stands
-      (e ∙ sym (counted .calls)) l f e₁ e₂
+      e l f e₁ e₂
       ∙ sym (pending-put (ws ++ (w ∷ [])))
-
-  pub call-removed : (j : ℕ) (m₁ m₂ y : List ℕ) (n : ℕ) → n ≡ wordAt Little m (slotStart i + 76) → j < n
-      → y ≡ removed 8 n j (take 128 (drop (slotStart i + 76 + 4) m))
-      → m₁ ≡ take (slotStart i + 76 + 4) m ++ (y ++ drop (slotStart i + 76 + 4 + 128) m)
-      → m₂ ≡ take (slotStart i + 76) m₁ ++ (wordBytes (n - 1) ++ drop (slotStart i + 76 + 4) m₁)
-      → m₂ ≡ memoryOf (putSlot (stateOf m) i (peer (withPending (peerFrom m (slotStart i)) (without j (peerFrom m (slotStart i) .pending)))))
-  call-removed j m₁ m₂ y n e l ey e₁ e₂ =
-      let a = slotStart i in
-      let ws = peerFrom m a .pending in
-      let few : wordAt Little m (a + 76) ≤ 16 = counted .fewCalls in
-      remove-written 8 16 pendingBytes pending-length ws j m m₁ m₂ y (a + 76) n (omega (arith, room 208 (omega arith))) pending-stands
-      (e ∙ sym (counted .calls)) (omega arith) l ey e₁ e₂
-      ∙ sym (pending-put (without j ws))

@@ -11,7 +11,7 @@ use Rattle.wire.specs.Words.{wordAt}
 use Rattle.wire.specs.declared.Order.the-variants.{Little}
 use Rattle.wire.proofs.Words.{word-drop}
 use Rattle.tables.specs.Tables.{parts, tableOf}
-use Rattle.tables.proofs.Parts.{drop-take}
+use Rattle.wire.proofs.Parts.{drop-take}
 use Rattle.tables.proofs.Words.{word-take, word-part, word-front}
 use Rattle.tables.proofs.Cells.{parts-length, parts-at}
 use Rattle.tables.proofs.Table.{table-take, table-many, table-next}

@@ -10,32 +10,28 @@ use lib.Seq.{take-at, drop-at, drop-cons, take-suc, append-snoc, take-all, lengt
 use borrow.Author.Tests.{eq-eqb, ne-eqb}
 use Rattle.wire.specs.Bytes.{same}
 use Rattle.tables.proofs.Change.{without, without-length, without-next}
-use Rattle.rules.specs.State.{Pending, firstBy}
+use Rattle.rules.specs.State.{Pending, firstBy, dropFirst}
 use Rattle.rules.specs.Pending.{isCall, ended, endedAll}
 use Rattle.rules.specs.Calls.{released}
 
 -- ---- the first that passes a test taken out, or nothing
 
-first-without : {A : Type 0} (t : A → Bool) (out : List A → List A) → out [] ≡ []
-    → ((x : A) (xs : List A) → out (x ∷ xs) ≡ cond (t x) xs (x ∷ out xs)) → (xs : List A) → out xs ≡ without (firstBy t xs) xs
-unfolding firstBy
-first-without t out none some [] = none
-first-without {A = A} t out none some (x ∷ xs) = some x xs ∙ go (t x) (first-without t out none some xs)
+drop-without : {A : Type 0} (t : A → Bool) (xs : List A) → dropFirst t xs ≡ without (firstBy t xs) xs
+unfolding firstBy dropFirst
+drop-without t [] = refl
+drop-without {A = A} t (x ∷ xs) = go (t x) (drop-without t xs)
   where
-    i : ℕ
-    i = firstBy t xs
-
-    go : (b : Bool) → out xs ≡ without i xs → cond b xs (x ∷ out xs) ≡ without (cond b 0 (suc i)) (x ∷ xs)
+    go : (b : Bool) → dropFirst t xs ≡ without (firstBy t xs) xs → cond b xs (x ∷ dropFirst t xs) ≡ without (cond b 0 (suc (firstBy t xs))) (x ∷ xs)
     go true e = refl
-    go false e = ap (λ (r : List A). x ∷ r) e ∙ sym (without-next x i xs)
+    go false e = ap (λ (r : List A). x ∷ r) e ∙ sym (without-next x (firstBy t xs) xs)
 
 pub released-without : (name : List ℕ) (xs : List (List ℕ)) → released name xs ≡ without (firstBy (λ x. same x name) xs) xs
 unfolding released
-released-without name xs = first-without (λ x. same x name) (released name) refl (λ x l. refl) xs
+released-without name xs = drop-without (λ x. same x name) xs
 
 pub ended-without : (callee serial : ℕ) (ws : List Pending) → ended callee serial ws ≡ without (firstBy (isCall callee serial) ws) ws
 unfolding ended
-ended-without callee serial ws = first-without (isCall callee serial) (ended callee serial) refl (λ x l. refl) ws
+ended-without callee serial ws = drop-without (isCall callee serial) ws
 
 -- ---- all of one callee: those before place j stay, and those from j on are still to be looked at
 

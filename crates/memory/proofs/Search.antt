@@ -37,17 +37,6 @@ module _ {A : Type 0} (t : A → Bool) where
       go true h = omega arith
       go false h = omega arith
 
-  -- the first that passes does pass
-  pub first-passes : (l : List A) (d : A) → firstBy t l < length l → t (getD l (firstBy t l) d) ≡ true
-  unfolding firstBy
-  first-passes [] d h = absurd (omega arith)
-  first-passes (x ∷ l) d h = go (t x) refl h (first-passes l d)
-    where
-      go : (b : Bool) → t x ≡ b → cond b 0 (suc (firstBy t l)) < suc (length l)
-          → (firstBy t l < length l → t (getD l (firstBy t l) d) ≡ true) → t (getD (x ∷ l) (cond b 0 (suc (firstBy t l))) d) ≡ true
-      go true e k f = e
-      go false e k f = f (omega arith)
-
 -- ---- of the slots of memory: t is what is asked, from slot `from` on, and slot i is looked at
 
 pub record Looking (t : Slot Tail → Bool) (m : List ℕ) (from i : ℕ) : Type 0 where
@@ -88,3 +77,15 @@ module _ (t : Slot Tail → Bool) (m : List ℕ) (from i : ℕ) (l : Looking t m
         bound = l .high;
         is = sym (l .left ∙ omega (arith, first-none t (stateOf m .slots) i (rw (sixteen m) h)));
       }
+
+-- the same, where r is what a test in code gave for slot i
+module _ {t : Slot Tail → Bool} {m : List ℕ} {from i : ℕ} (l : Looking t m from i) where
+  module _ (h : i < 16) {r : Bool} (e : r ≡ t (getD (stateOf m .slots) i free)) where
+    pub tested-hit : r ≡ true → Found t m from i
+    tested-hit q = looking-hit t m from i l h (sym e ∙ q)
+
+    pub tested-miss : r ≡ false → Looking t m from (i + 1)
+    tested-miss q = looking-miss t m from i l h (sym e ∙ q)
+
+  pub tested-ends : 16 ≤ i → Found t m from i
+  tested-ends h = looking-ends t m from i l h

@@ -1,7 +1,7 @@
 -- A slot that fits its bytes is read back from them. Assumes nothing.
-use mathlib.Core.List.{List, _++_, map}
+use mathlib.Core.List.{List, map}
 use mathlib.Core.Path.{_≡_, refl, sym, ap, _∙_}
-use Prim.Native.Nat.{ℕ, _+_, _≤_, _<_, min}
+use Prim.Native.Nat.{ℕ, _≤_, _<_, min}
 use native.Mathlib.Omega.{arith}
 use native.Mathlib.Nat.{min-eq-left}
 use lib.ListN.{length, take, drop, replicate, getD-replicate}
@@ -11,16 +11,14 @@ use Rattle.wire.specs.Bytes.{pad}
 use Rattle.wire.specs.Words.{wordAt, wordBytes}
 use Rattle.wire.specs.declared.Order.the-variants.{Little}
 use Rattle.wire.proofs.Words.{word-length, word-again}
-use Rattle.tables.specs.Tables.{tableBytes, tableOf}
-use Rattle.tables.proofs.Parts.{pad-fits}
+use Rattle.wire.proofs.Parts.{pad-fits}
 use Rattle.tables.proofs.Words.{word-front}
-use Rattle.tables.proofs.Table.{table-again}
 use Rattle.policy.specs.Names.{cellOf, nameOf}
 use Rattle.stream.specs.Tail.{Tail}
 use Rattle.rules.specs.State.{Peer, free, peer}
 use Rattle.memory.specs.Encoding.{pendingBytes, headBytes, peerBytes, slotBytes, wordOf, pendingOf, tailOf, peerOf, slotOf}
 use Rattle.memory.proofs.Frame.{pending-length, cell-length, free-bytes}
-use Rattle.memory.proofs.Fields.{beforeGids, beforePending, beforeNames, before-gids, before-pending, before-names, stream, split-gids, split-pending, split-names, stream-bytes}
+use Rattle.memory.proofs.Fields.{gids-in, pending-in, names-in, table-back, stream-bytes}
 
 -- what the bytes of a slot can hold
 pub record Fits (p : Peer Tail) : Type 0 where
@@ -47,24 +45,6 @@ uid-back p h =
     sym (word-front (peerBytes p) 4)
     ∙ ap (λ (z : List ℕ). wordAt Little z 0) (drop-at (wordBytes (p .number)) _ 4 (word-length (p .number)))
     ∙ word-again (p .uid) _ h
-
-pub gids-back : (p : Peer Tail) → length (p .gids) ≤ 16 → map wordOf (map wordBytes (p .gids)) ≡ p .gids
-    → tableOf 4 16 wordOf (drop 8 (slotBytes (peer p))) ≡ p .gids
-gids-back p h e =
-    rw (split-gids p, drop-at (beforeGids p) (tableBytes 4 16 wordBytes (p .gids) ++ _) 8 (before-gids p))
-    (table-again 4 16 wordBytes word-length wordOf (p .gids) _ h (omega arith) e)
-
-pub calls-back : (p : Peer Tail) → length (p .pending) ≤ 16 → map pendingOf (map pendingBytes (p .pending)) ≡ p .pending
-    → tableOf 8 16 pendingOf (drop 76 (slotBytes (peer p))) ≡ p .pending
-calls-back p h e =
-    rw (split-pending p, drop-at (beforePending p) (tableBytes 8 16 pendingBytes (p .pending) ++ _) 76 (before-pending p))
-    (table-again 8 16 pendingBytes pending-length pendingOf (p .pending) _ h (omega arith) e)
-
-pub names-back : (p : Peer Tail) → length (p .names) ≤ 4 → map nameOf (map cellOf (p .names)) ≡ p .names
-    → tableOf 256 4 nameOf (drop 208 (slotBytes (peer p))) ≡ p .names
-names-back p h e =
-    rw (split-names p, drop-at (beforeNames p) (tableBytes 256 4 cellOf (p .names) ++ stream (p .stream)) 208 (before-names p))
-    (table-again 256 4 cellOf cell-length nameOf (p .names) _ h (omega arith) e)
 
 -- the head behind the bytes d, of which the first 1236 are something else
 pub taken-back : (p : Peer Tail) → p .stream .taken < 4294967296 → wordAt Little (slotBytes (peer p)) 1236 ≡ p .stream .taken
@@ -110,9 +90,9 @@ unfolding peerOf
 peer-back p f =
     let a = number-back p (f .number) in
     let b = uid-back p (f .uid) in
-    let c = gids-back p (f .gids) (f .gidsBack) in
-    let d = calls-back p (f .calls) (f .callsBack) in
-    let e = names-back p (f .names) (f .namesBack) in
+    let c = table-back (gids-in p) word-length wordOf (f .gids) (omega arith) (f .gidsBack) in
+    let d = table-back (pending-in p) pending-length pendingOf (f .calls) (omega arith) (f .callsBack) in
+    let e = table-back (names-in p) cell-length nameOf (f .names) (omega arith) (f .namesBack) in
     let g = tail-back p (f .taken) (f .head) in
     λ j. record { number = a j; uid = b j; gids = c j; pending = d j; names = e j; stream = g j }
 

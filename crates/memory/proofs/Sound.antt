@@ -8,6 +8,7 @@ use Prim.Native.Nat.{ℕ, _≤_, _<_}
 use native.Mathlib.Omega.{arith}
 use lib.ListN.{length, getD, drop}
 use borrow.Author.Tests.{eq-eqb, ltb-true}
+use Rattle.wire.specs.Lists.{every}
 use Rattle.wire.specs.Words.{wordAt}
 use Rattle.wire.specs.declared.Order.the-variants.{Little}
 use Rattle.wire.proofs.Texts.{both-first, both-second, same-refl}
@@ -15,21 +16,16 @@ use Rattle.wire.proofs.Words.{word-again}
 use Rattle.tables.specs.Tables.{cells, parts}
 use Rattle.tables.proofs.Cells.{cells-parts}
 use Rattle.stream.proofs.Good.{tail-fits}
-use Rattle.stream.specs.Tail.{Tail, goodTail}
+use Rattle.stream.specs.Tail.{Tail}
 use Rattle.rules.specs.State.{Peer, Slot, free, peer, State}
-use Rattle.rules.specs.Calls.{empty}
 use Rattle.memory.specs.Encoding.{slotBytes, memoryOf, slotOf, stateOf}
 use Rattle.memory.specs.Good.{goodSlot, goodSlots, plain, good}
-use Rattle.memory.specs.Sound.{headOctets, every, word32, narrow, Sound}
+use Rattle.memory.specs.Sound.{word32, narrow, Sound}
 use Rattle.memory.proofs.Frame.{slot-length, memory-length, memory-slots}
 use Rattle.memory.proofs.Peers.{GoodPeer, peer-good, slots-first, slots-later}
 use Rattle.memory.proofs.Again.{words-back, names-back, pendings-back}
 use Rattle.memory.proofs.Slots.{Fits, slot-back, free-back}
 use Rattle.memory.proofs.Good.{good-is, good-sound}
-
-pub sound-empty : Sound empty
-unfolding goodSlots narrow headOctets
-sound-empty = record { sixteen = refl; fits = omega arith; slots = refl; narrows = refl; octets = refl }
 
 -- the parts of the bytes of slots are the bytes of each
 slot-parts : (slots : List (Slot Tail)) → length slots ≡ 16 → parts 3292 16 (cells slotBytes slots) ≡ map slotBytes slots

@@ -1,6 +1,6 @@
 -- The guard's calls on memory: what each leaves and gives, for all bytes. 50 comes first where an image is lent, then 51 (01, "Answer numbers").
 -- Assumes nothing: these are definitions.
-use mathlib.Core.Bool.{Bool, cond}
+use mathlib.Core.Bool.{cond}
 use mathlib.Core.List.{List}
 use mathlib.Core.Path.{_≡_}
 use Prim.Native.Nat.{ℕ}

@@ -1,6 +1,6 @@
 -- What a state is in bytes, and what bytes say. Each part has its length whatever the state is. Assumes nothing: these are definitions.
 use mathlib.Core.Bool.{cond}
-use mathlib.Core.List.{List, [], _∷_, _++_, map}
+use mathlib.Core.List.{List, _++_, map}
 use Prim.Native.Nat.{ℕ, _+_, min}
 use lib.Dec.{eqb}
 use lib.ListN.{length, take, drop, replicate}
@@ -11,7 +11,7 @@ use Rattle.tables.specs.Tables.{cells, parts, tableBytes, tableOf}
 use Rattle.policy.specs.Names.{cellOf, nameOf}
 use Rattle.stream.specs.Tail.{Tail}
 use Rattle.rules.specs.State.{Pending, Peer, Slot, free, peer, State}
-use Rattle.memory.specs.Layout.{gidsAt, pendingAt, namesAt, takenAt, headAt, slotLength, slotStart}
+use Rattle.memory.specs.Layout.{gidsAt, pendingAt, namesAt, takenAt, headAt, slotLength}
 
 -- ---- what a state is in bytes
 
@@ -21,13 +21,16 @@ pendingBytes w = wordBytes (w .callee) ++ wordBytes (w .serial)
 unfoldable pub headBytes : List ℕ → List ℕ
 headBytes h = wordBytes (length h) ++ pad 2048 h
 
+abbrev pub streamBytes : Tail → List ℕ
+streamBytes t = wordBytes (t .taken) ++ headBytes (t .head)
+
 unfoldable pub peerBytes : Peer Tail → List ℕ
 peerBytes p =
     wordBytes (p .number)
     ++ (wordBytes (p .uid)
     ++ (tableBytes 4 16 wordBytes (p .gids)
     ++ (tableBytes 8 16 pendingBytes (p .pending)
-    ++ (tableBytes 256 4 cellOf (p .names) ++ (wordBytes (p .stream .taken) ++ headBytes (p .stream .head))))))
+    ++ (tableBytes 256 4 cellOf (p .names) ++ streamBytes (p .stream)))))
 
 unfoldable pub slotBytes : Slot Tail → List ℕ
 slotBytes free = replicate slotLength 0

@@ -1,40 +1,34 @@
 -- Good memory (01, "Answer numbers"): "it has that length, its slots, numbers, names and waits keep the rules above, each open stream's count and head
 -- bytes fit .., and every place not in use is zero". Assumes nothing: these are definitions.
-use mathlib.Core.Bool.{Bool, true, false, cond, not, _&&_, _||_}
-use mathlib.Core.List.{List, [], _∷_, _++_}
-use Prim.Native.Nat.{ℕ, _+_}
-use lib.Dec.{ltb, leb, eqb}
+use mathlib.Core.Bool.{Bool, true, not, _&&_}
+use mathlib.Core.List.{List, [], _∷_}
+use Prim.Native.Nat.{ℕ}
+use lib.Dec.{leb, eqb}
 use lib.ListN.{length, drop}
 use Rattle.wire.specs.Bytes.{same}
+use Rattle.wire.specs.Lists.{any, distinct}
 use Rattle.tables.specs.Tables.{parts}
-use Rattle.policy.specs.Names.{owns}
 use Rattle.stream.specs.Tail.{Tail, goodTail}
-use Rattle.rules.specs.State.{Pending, Peer, Slot, free, peer, State, isPeer, firstBy}
+use Rattle.rules.specs.State.{Pending, Peer, Slot, free, peer, isPeer}
 use Rattle.rules.specs.Addresses.{ownable}
-use Rattle.rules.specs.Pending.{awaits}
+use Rattle.rules.specs.Pending.{sameCall}
 use Rattle.rules.specs.Calls.{isOwner}
 use Rattle.memory.specs.Layout.{slotLength, memoryLength}
 use Rattle.memory.specs.Encoding.{slotBytes, slotOf, stateOf}
 
 -- none of the slots passes
 abbrev pub nobody : (Slot Tail → Bool) → List (Slot Tail) → Bool
-nobody t slots = leb (length slots) (firstBy t slots)
+nobody t slots = not (any t slots)
 
--- "A name is well-known, is not the bus's, and stands once": in the names after it, and in the slots after its own
+-- each name is one that a peer may own, stands once among these, and in none of the slots after its own
 unfoldable pub goodNames : List (List ℕ) → List (Slot Tail) → Bool
-goodNames [] later = true
-goodNames (x ∷ xs) later = ownable x && not (owns xs x) && nobody (isOwner x) later && goodNames xs later
+goodNames names later = distinct (λ x. ownable x && nobody (isOwner x) later) (λ x y. same y x) names
 
--- "A wait's callee is connected, its serial is not 0, no triple stands twice"
+-- a wait's callee is connected, its serial is not 0, and no triple stands twice
 unfoldable pub goodPending : List (Slot Tail) → List Pending → Bool
-goodPending all [] = true
-goodPending all (w ∷ ws) =
-    not (nobody (isPeer (w .callee)) all)
-    && leb 1 (w .serial)
-    && not (awaits (w .callee) (w .serial) ws)
-    && goodPending all ws
+goodPending all ws = distinct (λ w. any (isPeer (w .callee)) all && leb 1 (w .serial)) sameCall ws
 
--- "Numbers are distinct, not 0 and not above the last number given"; at most 16 gids, 16 waits and 4 names
+-- numbers are distinct, not 0 and not above the last number given; at most 16 gids, 16 waits and 4 names
 unfoldable pub goodPeer : List (Slot Tail) → ℕ → Peer Tail → List (Slot Tail) → Bool
 goodPeer all last p later =
     leb 1 (p .number)

@@ -1,22 +1,8 @@
 -- Where things stand in the guard's memory: the last number, then sixteen slots of one size. Assumes nothing: these are definitions.
 use Prim.Native.Nat.{ℕ, _+_, _*_}
 
--- of a slot: number, uid, gids (a count and 16 of 4 bytes), pending calls (a count and 16 of 8), names (a count and 4 of 256), bytes taken of the
--- unfinished message, and its head (a count and 2,048 bytes)
-abbrev pub gidsAt : ℕ
-gidsAt = 8
-
-abbrev pub pendingAt : ℕ
-pendingAt = 76
-
-abbrev pub namesAt : ℕ
-namesAt = 208
-
-abbrev pub takenAt : ℕ
-takenAt = 1236
-
-abbrev pub headAt : ℕ
-headAt = 1240
+abbrev pub memoryLength : ℕ
+memoryLength = 52676
 
 abbrev pub slotLength : ℕ
 slotLength = 3292
@@ -25,5 +11,31 @@ slotLength = 3292
 abbrev pub slotStart : ℕ → ℕ
 slotStart i = 4 + 3292 * i
 
-abbrev pub memoryLength : ℕ
-memoryLength = 52676
+-- of a slot: number, uid, gids (a count and 16 of 4 bytes), pending calls (a count and 16 of 8), names (a count and 4 of 256), bytes taken of the
+-- unfinished message, and its head (a count and 2,048 bytes)
+abbrev pub gidsAt : ℕ
+gidsAt = 8
+
+abbrev pub pendingAt : ℕ
+pendingAt = 76
+
+abbrev pub firstCallee : ℕ
+firstCallee = 80
+
+abbrev pub firstSerial : ℕ
+firstSerial = 84
+
+abbrev pub namesAt : ℕ
+namesAt = 208
+
+abbrev pub firstName : ℕ
+firstName = 212
+
+abbrev pub takenAt : ℕ
+takenAt = 1236
+
+abbrev pub headAt : ℕ
+headAt = 1240
+
+abbrev pub firstByte : ℕ
+firstByte = 1244

@@ -1,19 +1,16 @@
 -- A good state as a fact: sixteen slots that keep the rules, numbers of 32 bits and bytes of 8. Memory is good exactly where it is the bytes of a sound state.
 -- Assumes nothing: these are definitions.
-use mathlib.Core.Bool.{Bool, true, false, _&&_}
-use mathlib.Core.List.{List, [], _∷_}
+use mathlib.Core.Bool.{Bool, true, _&&_}
+use mathlib.Core.List.{List}
 use mathlib.Core.Path.{_≡_}
 use Prim.Native.Nat.{ℕ, _<_}
 use lib.Dec.{ltb}
 use lib.ListN.{length}
+use Rattle.wire.specs.Lists.{every}
 use Rattle.stream.specs.Tail.{Tail}
-use Rattle.rules.specs.State.{Pending, Peer, Slot, free, peer, State}
+use Rattle.rules.specs.State.{Slot, free, peer, State}
 use Rattle.memory.specs.Good.{goodSlots, good}
 use Rattle.memory.specs.Layout.{memoryLength}
-
-abbrev pub every : {A : Type 0} → (A → Bool) → List A → Bool
-every t [] = true
-every t (x ∷ xs) = t x && every t xs
 
 abbrev pub word32 : ℕ → Bool
 word32 n = ltb n 4294967296
@@ -40,5 +37,5 @@ pub record Sound (s : State Tail) : Type 0 where
 
 -- good memory, as what a function on it requires: its length stands by itself
 pub record Held (m : List ℕ) : Type 0 where
-  pub sized : length m ≡ 52676
+  pub sized : length m ≡ memoryLength
   pub held : good m ≡ true

@@ -1,17 +1,17 @@
 -- The scan of a long name, block by block: a law for each way through the loops. Assumes nothing.
-use mathlib.Core.Path.{_≡_, refl, sym, ap, ap₂, _∙_}
-use mathlib.Core.Bool.{Bool, true, false, not, _&&_, _||_}
+use mathlib.Core.Path.{_≡_, refl, sym, ap₂, _∙_}
+use mathlib.Core.Bool.{Bool, true, false, not, _&&_}
 use mathlib.Core.List.{List}
 use Prim.Native.Nat.{ℕ, suc, _+_, _-_, _≤_, _<_}
 use native.Mathlib.Omega.{arith}
 use native.Mathlib.Nat.{sub-zero, add-sub-cancel-left}
-use lib.Dec.{leb, eqb}
+use lib.Dec.{eqb}
 use lib.ListN.{length, drop, getD}
 use borrow.Author.Needs.{needs}
 use borrow.Author.Tests.{not-true, not-false, eq-eqb, ne-eqb, le-leb}
 use Rattle.wire.proofs.From.{next, past}
 use Rattle.wire.proofs.Ranges.{range-grows, range-laps, range-breaks, range-twice}
-use Rattle.names.specs.Names.{word, pieces, cut}
+use Rattle.names.specs.Names.{word, cut}
 use Rattle.names.specs.Near.{near, pairs, listed, parted}
 use Rattle.names.proofs.Near.{pairs-more, pairs-divide, listed-pairs}
 

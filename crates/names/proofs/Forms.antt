@@ -1,6 +1,6 @@
 -- Form by form, the tests that the code makes are those of the definition. Assumes nothing.
-use mathlib.Core.Path.{_≡_, refl, sym, ap, _∙_}
-use mathlib.Core.Bool.{Bool, true, false, _&&_, _||_, and-true, or-true}
+use mathlib.Core.Path.{_≡_, refl, _∙_}
+use mathlib.Core.Bool.{Bool, true, false, _&&_, _||_, and-true, and-false}
 use mathlib.Core.List.{List, [], _∷_}
 use Prim.Native.Nat.{ℕ, _-_, _≤_, _<_}
 use native.Mathlib.Omega.{arith}
@@ -9,7 +9,7 @@ use lib.ListN.{length, take, drop, getD}
 use borrow.Author.Needs.{needs}
 use borrow.Author.Tests.{le-leb, lt-leb, eq-eqb, ne-eqb}
 use Rattle.wire.proofs.Words.{rest-at}
-use Rattle.names.specs.Names.{word, pieces, startsWith, wellKnown, unique, validName, counted}
+use Rattle.names.specs.Names.{word, pieces, dotted, startsWith, wellKnown, unique, validName, counted}
 use Rattle.names.specs.Near.{listed, parted, several}
 use Rattle.names.specs.declared.Form.{Form}
 use Rattle.names.specs.declared.Form.the-variants.{Interface, WellKnown, Unique, BusName, Member, Path}
@@ -39,13 +39,8 @@ module _ (s : List ℕ) where
   -- ---- each form
 
   module _ (h : 255 < length s) where
-    pub interface-long : false ≡ validName Interface s
-    unfolding validName
-    interface-long = rw (lt-leb (length s) 255 h)
-
-    pub well-known-long : false ≡ validName WellKnown s
-    unfolding validName wellKnown
-    well-known-long = rw (lt-leb (length s) 255 h)
+    pub dotted-long : (dash : Bool) → false ≡ dotted dash s
+    dotted-long dash = rw (lt-leb (length s) 255 h)
 
     pub unique-long : false ≡ validName Unique s
     unfolding validName unique
@@ -55,13 +50,9 @@ module _ (s : List ℕ) where
     unfolding validName
     member-too-long = rw (lt-leb (length s) 255 h)
 
-  pub interface : length s ≤ 255 → {r : Bool} → r ≡ several false false s → r ≡ validName Interface s
-  unfolding validName several
-  interface h e = rw (le-leb (length s) 255 h) e
-
-  pub well-known : length s ≤ 255 → {r : Bool} → r ≡ several true false s → r ≡ validName WellKnown s
-  unfolding validName wellKnown several
-  well-known h e = rw (le-leb (length s) 255 h) e
+  pub dotted-is : (dash : Bool) → length s ≤ 255 → {r : Bool} → r ≡ several dash false s → r ≡ dotted dash s
+  unfolding several
+  dotted-is dash h e = rw (le-leb (length s) 255 h) e
 
   pub member-short : length s < 9 → {n : ℕ} → n ≡ counted 46 false false (drop 0 s) → eqb n 1 ≡ validName Member s
   unfolding validName
@@ -87,18 +78,14 @@ unfolding startsWith
 starts-none b [] e = refl
 starts-none b (x ∷ s) e = absurd (omega arith)
 
-no : (b : Bool) → b && false ≡ false
-no true = refl
-no false = refl
-
 module _ (s : List ℕ) where
   pub unique-none : length s ≡ 0 → false ≡ validName Unique s
   unfolding validName unique
-  unique-none e = rw (starts-none 58 s e, no (leb (length s) 255))
+  unique-none e = rw (starts-none 58 s e, and-false)
 
   pub unique-not : (getD s 0 0 ≡ 58 → ⊥) → false ≡ validName Unique s
   unfolding validName unique
-  unique-not e = rw (starts-not 58 s e, no (leb (length s) 255))
+  unique-not e = rw (starts-not 58 s e, and-false)
 
   pub unique-is : (length s ≡ 0 → ⊥) → getD s 0 0 ≡ 58 → length s ≤ 255 → {r : Bool} → r ≡ several true true (take (length s - 1) (drop 1 s)) → r ≡ validName Unique s
   unfolding validName unique several
@@ -127,9 +114,17 @@ module _ (f : Form) (s : List ℕ) where
   pub asked : (g : Form) → f ≡ g → {r : Bool} → r ≡ validName g s → r ≡ validName f s
   asked g e h = rw e h
 
-  pub either : f ≡ BusName → {u w : Bool} → u ≡ validName Unique s → w ≡ validName WellKnown s → u || w ≡ validName f s
+  pub asked-interface : f ≡ Interface → {r : Bool} → r ≡ dotted false s → r ≡ validName f s
   unfolding validName
-  either e p q = rw (e, p, q)
+  asked-interface e h = rw e h
+
+  pub asked-well-known : f ≡ WellKnown → {r : Bool} → r ≡ dotted true s → r ≡ validName f s
+  unfolding validName wellKnown
+  asked-well-known e h = rw e h
+
+  pub asked-bus-name : f ≡ BusName → {u w : Bool} → u ≡ validName Unique s → w ≡ dotted true s → u || w ≡ validName f s
+  unfolding validName wellKnown
+  asked-bus-name e p q = rw (e, p, q)
 
 -- what answers the needs of the forms' functions
-pub ruleset forms = (dot, several-short, several-long, walk-short, interface-long, well-known-long, unique-long, member-too-long, interface, well-known, member-short, member-long, unique-none, unique-not, unique-is, path-none, path-not, path-root, path-more, asked, either, needs)
+pub ruleset forms = (dot, several-short, several-long, walk-short, dotted-long, unique-long, member-too-long, dotted-is, member-short, member-long, unique-none, unique-not, unique-is, path-none, path-not, path-root, path-more, asked, asked-interface, asked-well-known, asked-bus-name, needs)

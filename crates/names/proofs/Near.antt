@@ -1,16 +1,17 @@
 -- The rule of elements, as a rule of neighbours: once for every separator and form. Assumes nothing.
-use mathlib.Core.Path.{_≡_, refl, sym, ap, ap₂, _∙_}
+use mathlib.Core.Path.{_≡_, refl, sym, ap, _∙_}
 use mathlib.Core.Bool.{Bool, true, false, cond, not, _&&_, _||_, and-true, and-false, and-assoc, or-false}
 use mathlib.Core.List.{List, [], _∷_}
-use Prim.Native.Nat.{ℕ, zero, suc, _+_, _-_, _≤_, _<_}
+use Prim.Native.Nat.{ℕ, zero, suc, _+_, _-_, _<_}
 use native.Mathlib.Omega.{arith}
 use native.Mathlib.Nat.{add-zero, zero-add, suc-add, add-suc}
 use native.Mathlib.Numerals.{add-one}
-use lib.Dec.{leb, eqb}
+use lib.Dec.{eqb}
 use lib.ListN.{length, getD}
 use borrow.Author.Tests.{eq-eqb, eqb-true, ne-eqb}
 use Rattle.wire.proofs.Ranges.{Divides}
-use Rattle.names.specs.Names.{digit, word, cut, every, element, pieces, elements}
+use Rattle.wire.specs.Lists.{every}
+use Rattle.names.specs.Names.{digit, word, cut, element}
 use Rattle.names.specs.Near.{near, pairs, listed}
 use Rattle.names.proofs.Scan.{present}
 

@@ -2,7 +2,7 @@
 -- Assumes nothing.
 use mathlib.Core.Path.{_≡_, refl, sym, _∙_}
 use mathlib.Core.Bool.{Bool, true, false, cond, not, _&&_, _||_, and-false, false≢true}
-use mathlib.Core.List.{List, [], _∷_}
+use mathlib.Core.List.{List, _∷_}
 use Prim.Native.Nat.{ℕ, suc, _+_, _≤_, _<_}
 use native.Mathlib.Nat.{add-zero}
 use native.Mathlib.Numerals.{one-add}
@@ -11,7 +11,8 @@ use borrow.Author.Needs.{needs}
 use borrow.Author.Tests.{eq-eqb, ne-eqb, not-true, not-false}
 use Rattle.wire.proofs.From.{next, past}
 use lib.ListN.{length, drop, getD}
-use Rattle.names.specs.Names.{digit, word, cut, every, element, pieces, elements, counted}
+use Rattle.wire.specs.Lists.{every}
+use Rattle.names.specs.Names.{digit, word, cut, element, pieces, elements, counted}
 
 -- the present element is good so far; it is whole after what is left of it
 abbrev pub present : Bool → Bool → Bool → List ℕ → Bool

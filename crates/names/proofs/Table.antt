@@ -1,11 +1,12 @@
 -- The worked examples hold of the name rules: one statement, which antt computes. Assumes nothing.
 use mathlib.Core.Path.{_≡_, refl}
-use mathlib.Core.Bool.{true}
+use mathlib.Core.Bool.{true, Bool·beq}
 use Rattle.names.specs.Names.{startsWith, wellKnown, unique, validName}
+use Rattle.wire.specs.Lists.{agrees}
 use Rattle.wire.specs.Bytes.{same}
 use Rattle.names.specs.Namespace.{inNamespace}
-use Rattle.names.specs.Table.{table, agrees}
+use Rattle.names.specs.Table.{answer, table}
 
-pub table-agrees : agrees table ≡ true
+pub table-agrees : agrees answer Bool·beq table ≡ true
 unfolding startsWith wellKnown unique validName same inNamespace
 table-agrees = refl

@@ -4,6 +4,7 @@ use mathlib.Core.List.{List, [], _∷_}
 use Prim.Native.Nat.{ℕ}
 use lib.Dec.{leb, eqb}
 use lib.ListN.{length, drop}
+use Rattle.wire.specs.Lists.{every}
 use Rattle.wire.specs.Bytes.{byte, between}
 use Rattle.names.specs.declared.Form.{Form}
 use Rattle.names.specs.declared.Form.the-variants.{Interface, WellKnown, Unique, BusName, Member, Path}
@@ -28,10 +29,6 @@ cut sep (b ∷ s) = let p = cut sep s in cond (eqb b sep) ([], p .0 ∷ p .1) (b
 abbrev pub pieces : ℕ → List ℕ → List (List ℕ)
 pieces sep s = cut sep s .0 ∷ cut sep s .1
 
-abbrev pub every {ℓ} : {A : Type ℓ} → (A → Bool) → List A → Bool
-every p [] = true
-every p (x ∷ xs) = p x && every p xs
-
 -- an element is not empty, is made of words' bytes, and starts with a digit only where `lead`
 abbrev pub element : Bool → Bool → List ℕ → Bool
 element dash lead [] = false
@@ -53,9 +50,13 @@ elements sep dash lead s = every (element dash lead) (pieces sep s)
 abbrev pub twoOrMore : Bool → Bool → List ℕ → Bool
 twoOrMore dash lead s = elements (byte ".") dash lead s && leb 2 (length (pieces (byte ".") s))
 
+-- "two or more dot-separated elements .., none empty or starting with a digit"
+abbrev pub dotted : Bool → List ℕ → Bool
+dotted dash s = short s && twoOrMore dash false s
+
 -- "Well-known name: the same plus `-`."
 unfoldable pub wellKnown : List ℕ → Bool
-wellKnown s = short s && twoOrMore true false s
+wellKnown s = dotted true s
 
 -- "Unique name: `:` then two or more such elements, which may start with a digit."
 unfoldable pub unique : List ℕ → Bool
@@ -63,7 +64,7 @@ unique s = short s && startsWith (byte ":") s && twoOrMore true true (drop 1 s)
 
 -- the forms of 01, "Message head"; an error name is an interface name, and a bus name is a unique or a well-known one
 unfoldable pub validName : Form → List ℕ → Bool
-validName Interface s = short s && twoOrMore false false s
+validName Interface s = dotted false s
 validName WellKnown s = wellKnown s
 validName Unique s = unique s
 validName BusName s = unique s || wellKnown s

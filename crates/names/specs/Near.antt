@@ -1,6 +1,6 @@
 -- The name rule byte by byte: which byte may follow which. The scanner's own functions cite these, and `proofs/Near.antt` shows that they say what
 -- the rule of elements says. Assumes nothing: these are definitions.
-use mathlib.Core.Bool.{Bool, true, false, not, _&&_, _||_}
+use mathlib.Core.Bool.{Bool, true, not, _&&_, _||_}
 use mathlib.Core.List.{List}
 use Prim.Native.Nat.{ℕ, zero, suc}
 use lib.Dec.{leb, eqb}

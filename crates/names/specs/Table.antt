@@ -1,5 +1,5 @@
--- Worked examples of the name rules, as a table, with T9 of the paper. Assumes nothing: these are definitions.
-use mathlib.Core.Bool.{Bool, true, false, _&&_, Bool·beq}
+-- Worked examples of the name rules, as a table, with T9 of 01's bench table. Assumes nothing: these are definitions.
+use mathlib.Core.Bool.{Bool, true, false}
 use mathlib.Core.List.{List, [], _∷_, _++_}
 use Prim.Native.Nat.{ℕ}
 use lib.ListN.{replicate}
@@ -7,7 +7,7 @@ use Rattle.wire.specs.Bytes.{byte, bytes}
 use Rattle.names.specs.Names.{validName}
 use Rattle.names.specs.Namespace.{inNamespace}
 use Rattle.names.specs.declared.Form.{Form}
-use Rattle.names.specs.declared.Form.the-variants.{Interface, WellKnown, Unique, BusName, Member, Path}
+use Rattle.names.specs.declared.Form.the-variants.{Interface, WellKnown, Unique, Member, Path}
 
 -- is the text a name of the form; is the second text under the first, a prefix
 pub data Question : Type 0 where
@@ -18,7 +18,7 @@ abbrev pub answer : Question → Bool
 answer (named f s) = validName f s
 answer (under p s) = inNamespace p s
 
--- a question, and its answer by the paper
+-- a question, and its answer by 01
 abbrev pub Line : Type 0
 Line = Question × Bool
 
@@ -46,8 +46,3 @@ table =
     ∷ (under (bytes "org.foo") (bytes "org.foo.bar"), true)
     ∷ (under (bytes "org.foo") (bytes "org.foobar"), false)
     ∷ []
-
--- each line of a table says what the rules say
-abbrev pub agrees : List Line → Bool
-agrees [] = true
-agrees (l ∷ ls) = Bool·beq (answer (l .0)) (l .1) && agrees ls

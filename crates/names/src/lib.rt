@@ -3,7 +3,7 @@ ghost use mathlib.Core.Path.{_≡_};
 ghost use mathlib.Core.Bool.{true, false};
 ghost use Prim.Native.Nat.{_+_, _≤_, _<_};
 ghost use lib.ListN.{length, drop};
-ghost use Rattle.names.specs.Names.{validName, counted, digit, word, elements};
+ghost use Rattle.names.specs.Names.{dotted, validName, counted, digit, word};
 ghost use Rattle.names.specs.Near.{near, pairs, listed, parted, several};
 ghost use Rattle.names.specs.Namespace.{inNamespace};
 
@@ -144,22 +144,14 @@ fn is_several(s: &[u8], dash: bool, lead: bool) -> bool
     is_listed(s, b'.', dash, lead, true) & is_parted(s, b'.')
 }
 
-fn is_interface(s: &[u8]) -> bool
-    ensures { λ r. ⌜ r ≡ validName Form.Interface (now (s .entry)) ⌝ }
+// An interface name, or with dashes a well-known name.
+fn is_dotted(s: &[u8], dash: bool) -> bool
+    ensures { λ r. ⌜ r ≡ dotted dash (now (s .entry)) ⌝ }
 {
     if 255 < s.len() {
         return false;
     }
-    is_several(s, false, false)
-}
-
-fn is_well_known(s: &[u8]) -> bool
-    ensures { λ r. ⌜ r ≡ validName Form.WellKnown (now (s .entry)) ⌝ }
-{
-    if 255 < s.len() {
-        return false;
-    }
-    is_several(s, true, false)
+    is_several(s, dash, false)
 }
 
 fn is_unique(s: &[u8]) -> bool
@@ -219,10 +211,10 @@ pub fn is_valid(form: Form, s: &[u8]) -> bool
     ensures { λ r. ⌜ r ≡ validName form (now (s .entry)) ⌝ }
 {
     match form {
-        Form::Interface => is_interface(s),
-        Form::WellKnown => is_well_known(s),
+        Form::Interface => is_dotted(s, false),
+        Form::WellKnown => is_dotted(s, true),
         Form::Unique => is_unique(s),
-        Form::BusName => is_unique(s) | is_well_known(s),
+        Form::BusName => is_unique(s) | is_dotted(s, true),
         Form::Member => is_member(s),
         Form::Path => is_path(s),
     }

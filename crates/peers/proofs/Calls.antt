@@ -1,55 +1,27 @@
--- Ending the calls to a callee: in a table, in a slot, in every slot. Assumes nothing.
+-- Ending the calls to a callee: in a slot, in every slot. Assumes nothing.
 use mathlib.Core.Path.{_≡_, refl, sym, ap, _∙_}
-use mathlib.Core.List.{List, [], _++_, append-nil}
+use mathlib.Core.List.{List, _++_}
 use Prim.Native.Nat.{ℕ, _+_, _-_, _*_, _≤_, _<_}
 use native.Mathlib.Omega.{arith}
-use lib.ListN.{length, take, drop, length-drop, drop-of-length-le}
-use lib.Seq.{drop-at, drop-drop, take-take, take-all, length-take-le}
+use lib.ListN.{length, take, drop, length-drop}
+use lib.Seq.{drop-at, drop-drop, take-take, length-take-le}
 use borrow.Author.Needs.{needs}
-use Rattle.wire.specs.Words.{wordAt, wordBytes}
+use Rattle.wire.specs.Words.{wordAt}
 use Rattle.wire.specs.declared.Order.the-variants.{Little}
 use Rattle.wire.proofs.Words.{cut-at, put-at}
 use Rattle.tables.specs.Tables.{tableBytes, tableOf}
-use Rattle.tables.proofs.Parts.{drop-take, drop-past, part-nested, cut-two}
+use Rattle.wire.proofs.Parts.{drop-take, drop-past, part-nested, cut-two}
 use Rattle.tables.proofs.Table.{table-take}
 use Rattle.rules.specs.State.{Pending, peer}
 use Rattle.rules.specs.Pending.{endedAll, bereft}
 use Rattle.memory.specs.Encoding.{pendingBytes, pendingOf, slotBytes, peerOf, slotOf, memoryOf, stateOf}
 use Rattle.memory.proofs.Reading.{sixteen, slot-at, numberAt, part-peer, part-number}
-use Rattle.memory.proofs.Fields.{pending-bytes}
+use Rattle.memory.proofs.Fields.{table-part, pending-in}
 use Rattle.memory.proofs.Frame.{slot-length, memory-at}
-use Rattle.tables.specs.Cut.{cutOut}
-use Rattle.memory.proofs.Ending.{Ending, ending-begins, ending-out, ending-stays, ending-ends}
 use Rattle.memory.proofs.Bereft.{bereft-free, bereft-peer, pending-of}
 use Rattle.memory.proofs.Sweep.{changed, Sweeping, sweeping-begins, sweeping-again, sweeping-ends}
-use Rattle.peers.specs.Writes.{Table}
 use Rattle.peers.specs.Steps.{PlainSlot, Encoded, endedAt, endedFor}
 use Rattle.peers.proofs.Found.{Octets, below}
-
--- ---- in a table
-
-pub calls-begin : (c : ℕ) (t : List ℕ) (n : ℕ) → length t ≡ 132 → Octets t → t ≡ tableBytes 8 16 pendingBytes (tableOf 8 16 pendingOf t)
-    → n ≡ wordAt Little t 0 → Ending c (tableOf 8 16 pendingOf t) t n 0
-calls-begin c t n l f e en = ending-begins c t n l (below t f) e en
-
-module _ {c : ℕ} {ws : List Pending} {t : List ℕ} {n j : ℕ} (g : Ending c ws t n j) (h : j < n) where
-  pub calls-table : Table t (8 * j) 8 (8 * n)
-  calls-table =
-      let l : length t ≡ 132 = g .sized in
-      let f : n ≤ 16 = g .few in
-      record { inside = omega arith; room = omega arith }
-
-  module _ (k : ℕ) (e : k ≡ wordAt Little t (4 + 8 * j)) where
-    pub calls-out : k ≡ c → (t₂ : List ℕ) → t₂ ≡ wordBytes (n - 1) ++ cutOut 8 (8 * n) (8 * j) (drop 4 t) → Ending c ws t₂ (n - 1) j
-    calls-out q t₂ e₂ = ending-out c ws t n j g h k e q t₂ (n - 1) e₂ refl
-
-    pub calls-on : (k ≡ c → ⊥) → Ending c ws t n (j + 1)
-    calls-on q = ending-stays c ws t n j g h k e q
-
-pub calls-end : {c : ℕ} {ws : List Pending} {t : List ℕ} {n j : ℕ} → Ending c ws t n j → n ≤ j → t ≡ tableBytes 8 16 pendingBytes (endedAll c ws)
-calls-end {c} {ws} {t} {n} {j} g h = ending-ends c ws t n j g h
-
-pub ruleset calls = (calls-begin, calls-table, calls-out, calls-on, calls-end, needs)
 
 -- ---- in slot i
 
@@ -97,7 +69,7 @@ module _ (m : List ℕ) (i : ℕ) (p : PlainSlot m i) (n : ℕ) (e : n ≡ numbe
     slot-table =
         let s : slotBytes (peer (peerOf part)) ≡ part = ap slotBytes (sym (part-peer part taken)) ∙ p .plain in
         let q : take 132 (drop 76 part) ≡ tableBytes 8 16 pendingBytes (peerOf part .pending)
-        = ap (λ (y : List ℕ). take 132 (drop 76 y)) (sym s) ∙ pending-bytes (peerOf part) in
+        = ap (λ (y : List ℕ). take 132 (drop 76 y)) (sym s) ∙ table-part (pending-in (peerOf part)) in
         rw cut-table (q ∙ ap (tableBytes 8 16 pendingBytes) (sym pending-is))
 
     pub slot-ended : (c : ℕ) (t : List ℕ)
@@ -121,8 +93,6 @@ pub ruleset slot-calls = (slot-none, slot-length-is, slot-table, slot-ended, nee
 
 pub record Bereaving (m₀ m : List ℕ) (c i : ℕ) : Type 0 where
   pub sweeping : Sweeping (bereft c) m₀ m i
-  pub inside : i ≤ 16
-  pub sized : length m ≡ 52676
   pub whole : memoryOf (stateOf m₀) ≡ m₀
   pub rest : drop (4 + 3292 * i) m ≡ drop (4 + 3292 * i) m₀
 
@@ -130,8 +100,6 @@ pub bereaving-begins : (m : List ℕ) (c : ℕ) → Octets m → Encoded m → B
 bereaving-begins m c f g =
     record {
       sweeping = sweeping-begins (bereft c) m (below m f) (g .sized);
-      inside = omega arith;
-      sized = g .sized;
       whole = g .is;
       rest = refl;
     }
@@ -145,13 +113,13 @@ module _ {m₀ m : List ℕ} {c i : ℕ} (b : Bereaving m₀ m c i) where
         = ap (λ (y : List ℕ). take 3292 (drop a y)) (sym (b .whole))
         ∙ memory-at (stateOf m₀) i (rw (sixteen m₀) h)
         ∙ ap slotBytes (slot-at m₀ i h) in
-        record { sized = b .sized; below = h; plain = rw (b .rest) (sym q) }
+        record { sized = b .sweeping .sized; below = h; plain = rw (b .rest) (sym q) }
 
     pub bereaving-more : (u : List ℕ) → u ≡ endedAt m i c → Bereaving m₀ u c (i + 1)
     unfolding endedAt
     bereaving-more u e =
         let a = 4 + 3292 * i in
-        let l : length m ≡ 52676 = b .sized in
+        let l : length m ≡ 52676 = b .sweeping .sized in
         let y = changed (bereft c) (take 3292 (drop a m)) in
         let ly : length y ≡ 3292 = slot-length (bereft c (slotOf (take 3292 (drop a m)))) in
         let s = sweeping-again (bereft c) m₀ m u y i (b .sweeping) h e refl in
@@ -163,7 +131,7 @@ module _ {m₀ m : List ℕ} {c i : ℕ} (b : Bereaving m₀ m c i) where
         ∙ sym (drop-drop 3292 a m)
         ∙ ap (drop 3292) (b .rest)
         ∙ drop-drop 3292 a m₀ in
-        record { sweeping = s; inside = omega arith; sized = s .sized; whole = b .whole; rest = rw n r }
+        record { sweeping = s; whole = b .whole; rest = rw n r }
 
   pub bereaving-ends : 16 ≤ i → m ≡ endedFor m₀ c
   unfolding endedFor

@@ -23,7 +23,7 @@ use Rattle.memory.proofs.Frame.{free-bytes}
 use Rattle.memory.proofs.Newcomer.{newcomer-spread}
 use Rattle.memory.proofs.Good.{seated}
 use Rattle.rules.specs.declared.Connected.{Connected}
-use Rattle.peers.specs.Writes.{newBytes, Seating}
+use Rattle.peers.specs.Writes.{newBytes}
 use Rattle.peers.specs.Steps.{Free, admitted, entered}
 use Rattle.peers.proofs.Zeros.{zero-rest}
 use Rattle.peers.proofs.Found.{Octets, below, did-stay, free-part}
@@ -51,9 +51,6 @@ seat-bytes m gids a n u h e =
 
 -- ---- the seat
 
-pub admit-seats : (m gids : List ℕ) (i : ℕ) → Free m i gids → Seating m i gids
-admit-seats m gids i g = record { sized = g .sized; below = g .below; few = g .few }
-
 pub admit-seated : (m : List ℕ) → Octets m → (i n uid : ℕ) (gids m₁ m₂ : List ℕ) → Free m i gids
     → m₁ ≡ take (4 + 3292 * i) m ++ (newBytes n uid gids ++ drop (4 + 3292 * i + (12 + 4 * length gids)) m)
     → m₂ ≡ wordBytes n ++ drop 4 m₁
@@ -66,7 +63,7 @@ admit-seated m f i n uid gids m₁ m₂ g e₁ e₂ =
     = e₁ ∙ ap (λ (y : List ℕ). take a m ++ y) (seat-bytes m gids a n uid (g .few) (g .zeros ∙ free-bytes)) in
     e₂ ∙ ap (λ (y : List ℕ). wordBytes n ++ drop 4 y) q ∙ sym (seated m (below m f) (g .held .held) n i x (g .below))
 
-pub ruleset admitting = (admit-seats, admit-seated, needs)
+pub ruleset admitting = (admit-seated, needs)
 
 -- ---- 38, 39, and the seat
 
@@ -77,20 +74,20 @@ enter-free m gids i g e q h =
     record { sized = g .sized; held = g; below = k; few = h; zeros = free-part m i g e k }
 
 module _ (m : List ℕ) (f : Octets m) (g : Held m) (i : ℕ) (e : Found isFree m 0 i) (uid : ℕ) (gids : List ℕ) where
-  pub enter-full : i ≡ 16 → Did (stored (entered m uid gids)) (record { answer = 38; number = 0; slot = 0 }) m
+  pub enter-full : i ≡ 16 → (r : Connected) → r ≡ noConnect 38 → Did (stored (entered m uid gids)) r m
   unfolding entered
-  enter-full q =
-      did-stay m f g (noConnect 38) (entered m uid gids) (rw (found-first isFree m i e, sixteen m, le-ltb i 16 (omega arith)))
+  enter-full q r d =
+      did-stay m f g r (entered m uid gids) (rw (found-first isFree m i e, sixteen m, le-ltb i 16 (omega arith), d))
 
   module _ (q : i ≡ 16 → ⊥) (l : ℕ) (el : l ≡ stateOf m .last) where
     within : i < 16
     within = let b : i ≤ 16 = e .bound in omega arith
 
-    pub enter-last : l ≡ 4294967295 → Did (stored (entered m uid gids)) (record { answer = 39; number = 0; slot = 0 }) m
+    pub enter-last : l ≡ 4294967295 → (r : Connected) → r ≡ noConnect 39 → Did (stored (entered m uid gids)) r m
     unfolding entered
-    enter-last z =
-        did-stay m f g (noConnect 39) (entered m uid gids)
-        (rw (found-first isFree m i e, sixteen m, lt-ltb i 16 within, le-ltb (stateOf m .last) 4294967295 (omega arith)))
+    enter-last z r d =
+        did-stay m f g r (entered m uid gids)
+        (rw (found-first isFree m i e, sixteen m, lt-ltb i 16 within, le-ltb (stateOf m .last) 4294967295 (omega arith), d))
 
     pub enter-seated : (l ≡ 4294967295 → ⊥) → l < 4294967296 → (m₁ : List ℕ) → m₁ ≡ admitted m i (l + 1) uid gids
         → Did (stored (entered m uid gids)) (record { answer = 0; number = l + 1; slot = i }) m₁
@@ -104,15 +101,15 @@ pub ruleset entering = (enter-free, enter-full, enter-last, enter-seated, needs)
 -- ---- 37, 36
 
 module _ (image m : List ℕ) (f : Octets m) (g : Held m) (uid : ℕ) (gids : List ℕ) where
-  pub connect-many : 16 < length gids → Did (stored (connect tails image (stateOf m) uid gids)) (record { answer = 37; number = 0; slot = 0 }) m
+  pub connect-many : 16 < length gids → (r : Connected) → r ≡ noConnect 37 → Did (stored (connect tails image (stateOf m) uid gids)) r m
   unfolding connect
-  connect-many h = did-stay m f g (noConnect 37) (connect tails image (stateOf m) uid gids) (rw (lt-ltb 16 (length gids) h))
+  connect-many h r d = did-stay m f g r (connect tails image (stateOf m) uid gids) (rw (lt-ltb 16 (length gids) h, d))
 
   module _ (h : length gids ≤ 16) (b : Bool) (e : b ≡ mayConnect image (record { 0 = uid }) gids) where
-    pub connect-denied : not b ≡ true → Did (stored (connect tails image (stateOf m) uid gids)) (record { answer = 36; number = 0; slot = 0 }) m
+    pub connect-denied : not b ≡ true → (r : Connected) → r ≡ noConnect 36 → Did (stored (connect tails image (stateOf m) uid gids)) r m
     unfolding connect
-    connect-denied t =
-        did-stay m f g (noConnect 36) (connect tails image (stateOf m) uid gids) (rw (le-ltb 16 (length gids) h, ← e, not-true b t))
+    connect-denied t r d =
+        did-stay m f g r (connect tails image (stateOf m) uid gids) (rw (le-ltb 16 (length gids) h, ← e, not-true b t, d))
 
     pub connect-entered : not b ≡ false → (r : Connected) (m₁ : List ℕ) → Did (stored (entered m uid gids)) r m₁
         → Did (stored (connect tails image (stateOf m) uid gids)) r m₁

@@ -1,27 +1,23 @@
 -- The slot that a call speaks of, and what a refused call leaves. Assumes nothing.
-use mathlib.Core.Path.{_≡_, refl, sym, ap, _∙_}
-use mathlib.Core.Bool.{true, false, false≢true}
+use mathlib.Core.Path.{_≡_, refl, sym}
 use mathlib.Core.List.{List}
 use Prim.Native.Nat.{ℕ, _+_, _*_, _≤_, _<_}
 use native.Mathlib.Omega.{arith}
 use lib.ListN.{length, getD, take, drop, List·getD-eq-default}
 use mir.Syntax.{w8}
 use mir.Val.{Fits}
-use Rattle.wire.specs.Words.{wordAt}
-use Rattle.wire.specs.declared.Order.the-variants.{Little}
 use Rattle.stream.specs.Tail.{Tail}
-use Rattle.rules.specs.State.{Slot, free, peer, isFree, isPeer, firstBy}
+use Rattle.rules.specs.State.{free, peer, isFree, isPeer, firstBy}
 use Rattle.rules.specs.Calls.{Step, stays, slotAt}
-use Rattle.memory.specs.Encoding.{slotBytes, memoryOf, stateOf}
+use Rattle.memory.specs.Encoding.{slotBytes, stateOf}
 use Rattle.memory.specs.Sound.{Held}
 use Rattle.memory.specs.Calls.{stored, Did}
 use Rattle.memory.proofs.Reading.{sixteen}
 use Rattle.memory.proofs.Search.{Found}
-use Rattle.memory.proofs.Find.{found-first, found-passes, found-some, found-is}
+use Rattle.memory.proofs.Find.{found-first, found-some, found-is, found-free}
 use Rattle.memory.proofs.Good.{good-is}
-use Rattle.memory.proofs.Held.{held-part, Counted, held-counted}
-use Rattle.slots.specs.Slots.{peerAt}
-use Rattle.peers.specs.Steps.{Seated}
+use Rattle.memory.proofs.Held.{held-free, Counted, held-counted}
+use Rattle.slots.specs.Slots.{peerAt, Seated}
 
 -- bytes are below 256
 abbrev pub Octets : List ℕ → Type 0
@@ -30,12 +26,9 @@ Octets m = (j : ℕ) → Fits w8 (getD m j 0)
 pub below : (m : List ℕ) → Octets m → (j : ℕ) → getD m j 0 < 256
 below m f j = f j .fits
 
-pub is-memory : (m : List ℕ) → Octets m → Held m → memoryOf (stateOf m) ≡ m
-is-memory m f g = good-is m (below m f) (g .held)
-
 -- a step that changes nothing leaves the memory as it is
 pub did-stay : {R : Type 0} (m : List ℕ) → Octets m → Held m → (r : R) (s : Step Tail R) → s ≡ stays (stateOf m) r → Did (stored s) r m
-did-stay m f g r s e = rw e (record { result = refl; memory = sym (is-memory m f g) })
+did-stay m f g r s e = rw e (record { result = refl; memory = sym (good-is m (below m f) (g .held)) })
 
 -- ---- the peer of a number
 
@@ -55,21 +48,12 @@ module _ (n : ℕ) (m : List ℕ) (i : ℕ) (f : Found (isPeer n) m 0 i) (h : i 
   peer-some = found-is n m 0 i f found-below
 
   pub peer-seated : Held m → Seated m i
-  peer-seated g =
-      let c : Counted m (4 + 3292 * i) = held-counted m i g found-below (found-some n m 0 i f found-below) in
-      record { sized = g .sized; held = g; below = found-below; some = found-some n m 0 i f found-below; few = c .fewNames }
+  peer-seated g = record { sized = g .sized; held = g; below = found-below; some = found-some n m 0 i f found-below }
 
--- how many names it has
-pub names-counted : (m : List ℕ) (i : ℕ) → Seated m i → (n : ℕ) → n ≡ wordAt Little m (4 + 3292 * i + 208) → length (peerAt m i .names) ≡ n
-names-counted m i g n e =
-    let c : Counted m (4 + 3292 * i) = held-counted m i (g .held) (g .below) (g .some) in
-    c .names ∙ sym e
+pub counted : (m : List ℕ) (i : ℕ) → Seated m i → Counted m (4 + 3292 * i)
+counted m i g = held-counted m i (g .held) (g .below) (g .some)
 
 -- ---- a free slot
 
-is-free : (x : Slot Tail) → isFree x ≡ true → x ≡ free
-is-free free e = refl
-is-free (peer p) e = absurd (false≢true e)
-
 pub free-part : (m : List ℕ) (i : ℕ) → Held m → Found isFree m 0 i → i < 16 → take 3292 (drop (4 + 3292 * i) m) ≡ slotBytes free
-free-part m i g f h = held-part m i g h ∙ ap slotBytes (is-free (getD (stateOf m .slots) i free) (found-passes isFree m 0 i f h))
+free-part m i g f h = held-free m i g h (found-free m 0 i f h)

@@ -13,6 +13,7 @@ use Rattle.stream.specs.Tail.{tails}
 use Rattle.rules.specs.State.{free, putSlot, isPeer}
 use Rattle.rules.specs.Pending.{bereft}
 use Rattle.rules.specs.Calls.{disconnect, noGone}
+use Rattle.rules.specs.declared.Gone.{Gone}
 use Rattle.memory.specs.Encoding.{slotBytes, memoryOf, stateOf}
 use Rattle.memory.specs.Sound.{Held}
 use Rattle.memory.specs.Calls.{stored, Did}
@@ -64,9 +65,9 @@ pub ruleset leaving = (leave-encoded, leave-gone, needs)
 -- ---- 30, and the report
 
 module _ (m : List ℕ) (f : Octets m) (g : Held m) (n i : ℕ) (e : Found (isPeer n) m 0 i) where
-  pub disconnect-none : i ≡ 16 → Did (stored (disconnect tails (stateOf m) n)) (record { answer = 30; bytes = 0 }) m
+  pub disconnect-none : i ≡ 16 → (r : Gone) → r ≡ noGone 30 → Did (stored (disconnect tails (stateOf m) n)) r m
   unfolding disconnect
-  disconnect-none q = did-stay m f g (noGone 30) (disconnect tails (stateOf m) n) (rw (peer-none n m i e q))
+  disconnect-none q r d = did-stay m f g r (disconnect tails (stateOf m) n) (rw (peer-none n m i e q, d))
 
   pub disconnect-gone : (i ≡ 16 → ⊥) → (b : ℕ) → b ≡ wordAt Little m (4 + 3292 * i + 1236) → (m₂ : List ℕ) → m₂ ≡ gone m i n
       → Did (stored (disconnect tails (stateOf m) n)) (record { answer = 0; bytes = b }) m₂

@@ -1,6 +1,5 @@
 mod Zeros
 mod Newcomers
-mod Cutting
 mod Calls
 mod Found
 mod Entering

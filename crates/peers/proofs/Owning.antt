@@ -13,8 +13,8 @@ use borrow.Author.Tests.{lt-ltb, le-ltb, le-leb, lt-leb, not-true, not-false}
 use Rattle.wire.specs.Words.{wordAt, wordBytes}
 use Rattle.wire.specs.declared.Order.the-variants.{Little}
 use Rattle.wire.proofs.Words.{put-at}
-use Rattle.tables.proofs.Parts.{drop-take, pad-fits, take-zeros}
-use Rattle.tables.proofs.Written.{table-unused}
+use Rattle.wire.proofs.Parts.{drop-take, pad-fits, take-zeros}
+use Rattle.tables.proofs.Written.{put-sized, table-unused}
 use Rattle.policy.specs.Names.{cellOf, owns}
 use Rattle.policy.specs.Decisions.{mayOwn}
 use Rattle.policy.specs.declared.Uid.{Uid}
@@ -30,12 +30,11 @@ use Rattle.memory.proofs.Find.{found-first}
 use Rattle.memory.proofs.Frame.{cell-length}
 use Rattle.memory.proofs.Again.{ownable-short}
 use Rattle.memory.proofs.Puts.{names-stand, name-appended}
-use Rattle.slots.specs.Slots.{peerAt, GidsOf}
+use Rattle.slots.specs.Slots.{peerAt, Seated, GidsOf}
 use Rattle.slots.specs.declared.Gids.{Gids}
 use Rattle.peers.specs.Writes.{nameBytes, Naming}
-use Rattle.peers.specs.Steps.{Seated, granted, claimed}
-use Rattle.peers.proofs.Newcomers.{put-sized}
-use Rattle.peers.proofs.Found.{Octets, below, did-stay, peer-none, peer-place, peer-some, peer-seated, names-counted}
+use Rattle.peers.specs.Steps.{granted, claimed}
+use Rattle.peers.proofs.Found.{Octets, below, did-stay, peer-none, peer-place, peer-some, peer-seated, counted}
 use Rattle.peers.proofs.Zeros.{zero-rest}
 
 -- ---- what the policy is asked
@@ -92,7 +91,7 @@ pub ruleset naming = (name-room, name-put, name-sized, needs)
 
 module _ (m : List ℕ) (f : Octets m) (i : ℕ) (g : Seated m i) (name : List ℕ) (n : ℕ) (en : n ≡ wordAt Little m (4 + 3292 * i + 208)) where
   many : length (peerAt m i .names) ≡ n
-  many = names-counted m i g n en
+  many = counted m i g .names ∙ sym en
 
   pub grant-full : 4 ≤ n → Did (stored (granted m i name)) 34 m
   unfolding granted
@@ -135,7 +134,7 @@ module _ (m : List ℕ) (f : Octets m) (i : ℕ) (g : Seated m i) (name : List �
         = ap (λ (x : List ℕ). u ∷ x) (sym (append-assoc name z t) ∙ ap (λ (x : List ℕ). x ++ t) (sym (pad-fits 255 name k))) in
         let e₃ : m₁ ≡ take c m ++ (cellOf name ++ t)
         = e₁ ∙ ap (λ (x : List ℕ). take c m ++ (nameBytes name ++ x)) y ∙ ap (λ (x : List ℕ). take c m ++ x) p in
-        let w = name-appended m (below m f) (g .held) i (g .below) (g .some) name m₁ m₂ n c en l refl e₃ e₂ in
+        let w = name-appended m (below m f) (g .held) i (g .below) (g .some) name m₁ m₂ n c (sym many) l refl e₃ e₂ in
         rw (many, lt-leb 4 n l) (record { result = refl; memory = w })
 
 pub ruleset granting = (grant-full, grant-done, needs)

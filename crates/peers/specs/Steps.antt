@@ -2,21 +2,18 @@
 use mathlib.Core.Path.{_≡_}
 use mathlib.Core.Bool.{cond}
 use mathlib.Core.List.{List, [], _∷_, _++_, map}
-use Prim.Native.Nat.{ℕ, _+_, _*_, _≤_, _<_}
+use Prim.Native.Nat.{ℕ, _≤_, _<_}
 use lib.Dec.{leb}
 use lib.ListN.{length, take, drop, set}
-use Rattle.wire.specs.Bytes.{same}
-use Rattle.wire.specs.Words.{wordAt}
-use Rattle.wire.specs.declared.Order.the-variants.{Little}
 use Rattle.policy.specs.Names.{owns}
 use Rattle.stream.specs.Tail.{Tail, tails}
 use Rattle.rules.specs.State.{free, peer, isFree, firstBy, putSlot, withNames}
 use Rattle.rules.specs.Pending.{bereft}
 use Rattle.rules.specs.Calls.{Step, stays, newcomer, connectAt, ownNew, released}
 use Rattle.rules.specs.declared.Connected.{Connected}
+use Rattle.memory.specs.Layout.{slotStart, memoryLength, slotLength}
 use Rattle.memory.specs.Encoding.{slotBytes, slotOf, memoryOf, stateOf}
 use Rattle.memory.specs.Sound.{Held}
-use Rattle.memory.proofs.Reading.{numberAt}
 use Rattle.memory.proofs.Sweep.{putAt, changed, mapped}
 use Rattle.slots.specs.Slots.{peerAt}
 
@@ -24,11 +21,11 @@ use Rattle.slots.specs.Slots.{peerAt}
 
 -- slot i of good memory is free
 pub record Free (m : List ℕ) (i : ℕ) (gids : List ℕ) : Type 0 where
-  pub sized : length m ≡ 52676
+  pub sized : length m ≡ memoryLength
   pub held : Held m
   pub below : i < 16
   pub few : length gids ≤ 16
-  pub zeros : take 3292 (drop (4 + 3292 * i) m) ≡ slotBytes free
+  pub zeros : take slotLength (drop (slotStart i) m) ≡ slotBytes free
 
 -- a peer in slot i, whose number is the last
 unfoldable pub admitted : List ℕ → ℕ → ℕ → ℕ → List ℕ → List ℕ
@@ -43,18 +40,18 @@ entered m uid gids = connectAt tails (stateOf m) (firstBy isFree (stateOf m .slo
 
 -- the bytes of slot i are those of the slot that is read off them
 pub record PlainSlot (m : List ℕ) (i : ℕ) : Type 0 where
-  pub sized : length m ≡ 52676
+  pub sized : length m ≡ memoryLength
   pub below : i < 16
-  pub plain : slotBytes (slotOf (take 3292 (drop (4 + 3292 * i) m))) ≡ take 3292 (drop (4 + 3292 * i) m)
+  pub plain : slotBytes (slotOf (take slotLength (drop (slotStart i) m))) ≡ take slotLength (drop (slotStart i) m)
 
 -- memory is the bytes of the state that is read off it
 pub record Encoded (m : List ℕ) : Type 0 where
-  pub sized : length m ≡ 52676
+  pub sized : length m ≡ memoryLength
   pub is : memoryOf (stateOf m) ≡ m
 
 -- the calls to the callee that the peer of slot i awaits ended
 unfoldable pub endedAt : List ℕ → ℕ → ℕ → List ℕ
-endedAt m i callee = putAt m i (changed (bereft callee) (take 3292 (drop (4 + 3292 * i) m)))
+endedAt m i callee = putAt m i (changed (bereft callee) (take slotLength (drop (slotStart i) m)))
 
 -- every call to the callee ended
 unfoldable pub endedFor : List ℕ → ℕ → List ℕ
@@ -65,14 +62,6 @@ unfoldable pub gone : List ℕ → ℕ → ℕ → List ℕ
 gone m i callee = memoryOf (record { last = stateOf m .last; slots = map (bereft callee) (set (stateOf m .slots) i free) })
 
 -- ---- own and release
-
--- slot i of good memory is a peer's
-pub record Seated (m : List ℕ) (i : ℕ) : Type 0 where
-  pub sized : length m ≡ 52676
-  pub held : Held m
-  pub below : i < 16
-  pub some : numberAt m i ≡ 0 → ⊥
-  pub few : wordAt Little m (4 + 3292 * i + 208) ≤ 4
 
 -- own's last test, and its change
 unfoldable pub granted : List ℕ → ℕ → List ℕ → Step Tail ℕ
@@ -91,8 +80,3 @@ givenUp m i name =
     cond (owns (peerAt m i .names) name)
     (stays (putSlot (stateOf m) i (peer (withNames (peerAt m i) (released name (peerAt m i .names))))) 0)
     (stays (stateOf m) 35)
-
--- r is the first of the names of slot i that is this one, or how many there are
-pub record NameAt (m : List ℕ) (i : ℕ) (name : List ℕ) (r : ℕ) : Type 0 where
-  pub few : r ≤ wordAt Little m (4 + 3292 * i + 208)
-  pub is : r ≡ firstBy (λ x. same x name) (peerAt m i .names)

@@ -1,25 +1,15 @@
 -- Bytes as the calls write them. Assumes nothing: these are definitions.
 use mathlib.Core.Path.{_≡_}
 use mathlib.Core.List.{List, _∷_, _++_}
-use Prim.Native.Nat.{ℕ, _+_, _≤_, _<_}
-use lib.ListN.{length, take, drop, replicate}
+use Prim.Native.Nat.{ℕ, _+_, _≤_}
+use lib.ListN.{length}
 use Rattle.wire.specs.Words.{wordBytes}
 use Rattle.tables.specs.Tables.{cells}
-
--- w bytes at `at` stand in the first `end` bytes of the cells of a table
-pub record Table (t : List ℕ) (at w end : ℕ) : Type 0 where
-  pub inside : at + w ≤ end
-  pub room : 4 + end ≤ length t
+use Rattle.memory.specs.Layout.{memoryLength}
 
 -- what is written of a peer that connects
 unfoldable pub newBytes : ℕ → ℕ → List ℕ → List ℕ
 newBytes number uid gids = wordBytes number ++ (wordBytes uid ++ (wordBytes (length gids) ++ cells wordBytes gids))
-
--- slot i has room for it
-pub record Seating (m : List ℕ) (i : ℕ) (gids : List ℕ) : Type 0 where
-  pub sized : length m ≡ 52676
-  pub below : i < 16
-  pub few : length gids ≤ 16
 
 -- a name behind its length
 unfoldable pub nameBytes : List ℕ → List ℕ
@@ -27,6 +17,6 @@ nameBytes name = length name ∷ name
 
 -- a name has room at `at`
 pub record Naming (m : List ℕ) (at : ℕ) (name : List ℕ) : Type 0 where
-  pub sized : length m ≡ 52676
+  pub sized : length m ≡ memoryLength
   pub short : length name ≤ 255
-  pub room : at + 256 ≤ 52676
+  pub room : at + 256 ≤ memoryLength

@@ -1,52 +1,47 @@
 // The calls about peers and their names, on a good image and good memory: connect, own, release, disconnect.
+use memory::FIRST_NAME;
+use memory::NAMES_AT;
+use memory::PENDING_AT;
+use memory::SLOT_LENGTH;
+use memory::SLOTS_AT;
+use memory::TAKEN_AT;
+use memory::UID_AT;
 use policy::Uid;
 use rules::Connected;
 use rules::Gone;
+use rules::no_connect;
+use rules::no_gone;
 use wire::Order;
 ghost use mathlib.Core.Path.{_≡_};
 ghost use mathlib.Core.List.{_++_};
 ghost use Prim.Native.Nat.{_+_, _-_, _*_, _≤_, _<_};
-ghost use lib.ListN.{length, take, drop, getD};
-ghost use Rattle.wire.specs.Bytes.{same};
-ghost use Rattle.wire.specs.Words.{wordBytes};
-ghost use Rattle.tables.specs.Tables.{cells, tableBytes, tableOf};
+ghost use lib.ListN.{length, take, drop};
+ghost use Rattle.tables.specs.Tables.{tableBytes, tableOf};
 ghost use Rattle.image.specs.Contracts.{GoodImage};
 ghost use Rattle.policy.specs.Decisions.{mayOwn};
 ghost use Rattle.stream.specs.Tail.{tails};
 ghost use Rattle.rules.specs.Pending.{endedAll};
 ghost use Rattle.rules.specs.Calls.{connect, own, release, disconnect};
+ghost use Rattle.memory.specs.Layout.{slotStart, memoryLength};
 ghost use Rattle.memory.specs.Encoding.{pendingBytes, pendingOf, stateOf};
 ghost use Rattle.memory.specs.Sound.{Held};
 ghost use Rattle.memory.specs.Calls.{stored, Did};
-ghost use Rattle.slots.specs.Slots.{peerAt, nameAt};
-ghost use Rattle.tables.specs.Cut.{cutOut};
-ghost use Rattle.peers.specs.Writes.{Table, newBytes, Seating, nameBytes, Naming};
-ghost use Rattle.peers.specs.Steps.{Free, admitted, entered, PlainSlot, Encoded, endedAt, endedFor, gone, Seated, granted, claimed, givenUp, NameAt};
+ghost use Rattle.slots.specs.Slots.{peerAt, At, Seated};
+ghost use Rattle.peers.specs.Writes.{newBytes, nameBytes, Naming};
+ghost use Rattle.peers.specs.Steps.{Free, admitted, entered, PlainSlot, Encoded, endedAt, endedFor, gone, granted, claimed, givenUp};
 
 // ---- connect
 
-// Writes the gids one after the other from `at` on.
-fn put_gids(memory: &mut [u8], at: usize, gids: &[u32])
-    requires { ⌜ (at + 4 * length (now gids) ≤ length (now memory)) × (length (now memory) ≡ 52676) ⌝ }
-    ensures { λ r. ⌜ now (memory .exit) ≡ take at (now (memory .entry)) ++ (cells wordBytes (now (gids .entry)) ++ drop (at + 4 * length (now (gids .entry))) (now (memory .entry))) ⌝ }
-{
-    let mut k = 0;
-    while k < gids.len() {
-        wire::put_u32(memory, at + 4 * k, gids[k]);
-        k += 1;
-    }
-}
-
 // Writes a peer's number, uid and gids in slot i, where zeros stand.
 fn seat(memory: &mut [u8], i: usize, number: u32, uid: u32, gids: &[u32])
-    requires { ⌜ Seating (now memory) i (now gids) ⌝ }
-    ensures { λ r. ⌜ now (memory .exit) ≡ take (4 + 3292 * i) (now (memory .entry)) ++ (newBytes number uid (now (gids .entry)) ++ drop (4 + 3292 * i + (12 + 4 * length (now (gids .entry)))) (now (memory .entry))) ⌝ }
+    requires { ⌜ (At (now memory) i) × (length (now gids) ≤ 16) ⌝ }
+    ensures { λ r. ⌜ now (memory .exit) ≡ take (slotStart i) (now (memory .entry)) ++ (newBytes number uid (now (gids .entry)) ++ drop (slotStart i + (12 + 4 * length (now (gids .entry)))) (now (memory .entry))) ⌝ }
 {
-    let at = 4 + 3292 * i;
+    let at = SLOTS_AT + SLOT_LENGTH * i;
     wire::put_u32(memory, at, number);
     wire::put_u32(memory, at + 4, uid);
     wire::put_u32(memory, at + 8, gids.len() as u32);
-    put_gids(memory, at + 12, gids);
+    tables::put_words(memory, at + 12, gids);
 }
 
 // Gives slot i, which is free, to a peer, whose number is then the last.
@@ -65,19 +60,11 @@ fn enter(memory: &mut [u8], uid: u32, gids: &[u32]) -> Connected
 {
     let slot = slots::find_free(memory);
     if slot == 16 {
-        return Connected {
-            answer: 38,
-            number: 0,
-            slot: 0,
-        };
+        return no_connect(38);
     }
     let last = slots::last_of(memory);
     if last == 4294967295 {
-        return Connected {
-            answer: 39,
-            number: 0,
-            slot: 0,
-        };
+        return no_connect(39);
     }
     admit(memory, slot, last + 1, uid, gids);
     Connected {
@@ -93,31 +80,12 @@ pub fn connect(image: &[u8], memory: &mut [u8], uid: u32, gids: &[u32]) -> Conne
     ensures { λ r. ⌜ Did (stored (connect tails (now (image .entry)) (stateOf (now (memory .entry))) uid (now (gids .entry)))) r (now (memory .exit)) ⌝ }
 {
     if 16 < gids.len() {
-        return Connected {
-            answer: 37,
-            number: 0,
-            slot: 0,
-        };
+        return no_connect(37);
     }
     if !policy::may_connect(image, Uid(uid), gids) {
-        return Connected {
-            answer: 36,
-            number: 0,
-            slot: 0,
-        };
+        return no_connect(36);
     }
     enter(memory, uid, gids)
-}
-
-// ---- a cell taken out of a table
-
-// Takes the w bytes at `at` out of the first `end` bytes of the cells of a table, which then has `left` things.
-fn remove(table: &mut [u8], at: usize, w: usize, end: usize, left: u32)
-    requires { ⌜ Table (now table) at w end ⌝ }
-    ensures { λ r. ⌜ now (table .exit) ≡ wordBytes left ++ cutOut w end at (drop 4 (now (table .entry))) ⌝ }
-{
-    tables::cut_out(&mut table[4..], at, w, end);
-    wire::put_u32(table, 0, left);
 }
 
 // ---- disconnect
@@ -132,7 +100,7 @@ fn end_calls(table: &mut [u8], callee: u32)
     while j < n {
         let at = 8 * (j as usize);
         if wire::u32_at(Order::Little, table, 4 + at) == callee {
-            remove(table, at, 8, 8 * (n as usize), n - 1);
+            tables::remove(table, at, 8, 8 * (n as usize), n - 1);
             n -= 1;
             continue;
         }
@@ -148,7 +116,7 @@ fn end_at(memory: &mut [u8], i: usize, callee: u32)
     if slots::number_at(memory, i) == 0 {
         return;
     }
-    let at = 4 + 3292 * i + 76;
+    let at = SLOTS_AT + SLOT_LENGTH * i + PENDING_AT;
     let end = at + 132;
     end_calls(&mut memory[at..end], callee);
 }
@@ -170,8 +138,8 @@ fn leave(memory: &mut [u8], i: usize, number: u32)
     requires { ⌜ (Held (now memory)) × (i < 16) ⌝ }
     ensures { λ r. ⌜ now (memory .exit) ≡ gone (now (memory .entry)) i number ⌝ }
 {
-    let from = 4 + 3292 * i;
-    let to = from + 3292;
+    let from = SLOTS_AT + SLOT_LENGTH * i;
+    let to = from + SLOT_LENGTH;
     wire::wipe(&mut memory[from..to]);
     end_all(memory, number);
 }
@@ -183,12 +151,9 @@ pub fn disconnect(memory: &mut [u8], peer: u32) -> Gone
 {
     let i = slots::find(memory, peer, 0);
     if i == 16 {
-        return Gone {
-            answer: 30,
-            bytes: 0,
-        };
+        return no_gone(30);
     }
-    let bytes = slots::word_at(memory, i, 1236);
+    let bytes = slots::word_at(memory, i, TAKEN_AT);
     leave(memory, i, peer);
     Gone { answer: 0, bytes }
 }
@@ -205,10 +170,10 @@ fn may_own_as(image: &[u8], uid: Uid, gids: [u32; 16], count: usize, name: &[u8]
 
 // The policy lets the peer of slot i own the name.
 fn may_own_at(image: &[u8], memory: &[u8], i: usize, name: &[u8]) -> bool
-    requires { ⌜ (GoodImage (now image)) × (length (now memory) ≡ 52676) × (i < 16) ⌝ }
+    requires { ⌜ (GoodImage (now image)) × (length (now memory) ≡ memoryLength) × (i < 16) ⌝ }
     ensures { λ r. ⌜ r ≡ mayOwn (now (image .entry)) (record { 0 = peerAt (now (memory .entry)) i .uid }) (peerAt (now (memory .entry)) i .gids) (now (name .entry)) ⌝ }
 {
-    let uid = Uid(slots::word_at(memory, i, 4));
+    let uid = Uid(slots::word_at(memory, i, UID_AT));
     let gids = slots::gids_at(memory, i);
     let list = gids.list;
     let count = gids.count;
@@ -231,12 +196,16 @@ fn grant(memory: &mut [u8], i: usize, name: &[u8]) -> u8
     requires { ⌜ (Seated (now memory) i) × (length (now name) ≤ 255) ⌝ }
     ensures { λ r. ⌜ Did (stored (granted (now (memory .entry)) i (now (name .entry)))) r (now (memory .exit)) ⌝ }
 {
-    let n = slots::word_at(memory, i, 208);
+    let n = slots::word_at(memory, i, NAMES_AT);
     if 4 <= n {
         return 34;
     }
-    put_name(memory, 4 + 3292 * i + 212 + 256 * (n as usize), name);
-    wire::put_u32(memory, 4 + 3292 * i + 208, n + 1);
+    put_name(
+        memory,
+        SLOTS_AT + SLOT_LENGTH * i + FIRST_NAME + 256 * (n as usize),
+        name,
+    );
+    wire::put_u32(memory, SLOTS_AT + SLOT_LENGTH * i + NAMES_AT, n + 1);
     0
 }
 
@@ -274,46 +243,19 @@ pub fn own(image: &[u8], memory: &mut [u8], peer: u32, name: &[u8]) -> u8
 
 // ---- release
 
-// Name j of slot i is this one.
-fn is_name(memory: &[u8], i: usize, j: usize, name: &[u8]) -> bool
-    requires { ⌜ (length (now memory) ≡ 52676) × (i < 16) × (j < 4) ⌝ }
-    ensures { λ r. ⌜ (r ≡ same (nameAt (now (memory .entry)) i j) (now (name .entry))) × (getD (now (memory .entry)) (4 + 3292 * i + 212 + 256 * j) 0 < 256) ⌝ }
-{
-    let at = 4 + 3292 * i + 212 + 256 * j;
-    let from = at + 1;
-    let to = from + wire::wide(memory[at]) as usize;
-    wire::equal(&memory[from..to], name)
-}
-
-// The first of the names of slot i that is this one, or how many there are.
-fn find_name(memory: &[u8], i: usize, name: &[u8]) -> usize
-    requires { ⌜ Seated (now memory) i ⌝ }
-    ensures { λ r. ⌜ NameAt (now (memory .entry)) i (now (name .entry)) r ⌝ }
-{
-    let count = slots::word_at(memory, i, 208) as usize;
-    let mut j = 0;
-    while j < count {
-        if is_name(memory, i, j, name) {
-            return j;
-        }
-        j += 1;
-    }
-    j
-}
-
 // Takes the name from the peer of slot i, if it has it: 35.
 fn give_up(memory: &mut [u8], i: usize, name: &[u8]) -> u8
     requires { ⌜ Seated (now memory) i ⌝ }
     ensures { λ r. ⌜ Did (stored (givenUp (now (memory .entry)) i (now (name .entry)))) r (now (memory .exit)) ⌝ }
 {
-    let j = find_name(memory, i, name);
-    let n = slots::word_at(memory, i, 208);
+    let j = slots::find_name(memory, i, name, 0);
+    let n = slots::word_at(memory, i, NAMES_AT);
     if n as usize <= j {
         return 35;
     }
-    let at = 4 + 3292 * i + 208;
+    let at = SLOTS_AT + SLOT_LENGTH * i + NAMES_AT;
     let end = at + 1028;
-    remove(
+    tables::remove(
         &mut memory[at..end],
         256 * j,
         256,

@@ -1,44 +1,40 @@
 -- A whole message: its head stands in its slot, and memory is good once its stream is cleared. Assumes nothing.
 use mathlib.Core.Path.{_≡_, refl, sym, ap, ap₂, subst, _∙_}
-use mathlib.Core.Bool.{Bool, true, false}
-use mathlib.Core.List.{List, [], _∷_, _++_, append-assoc}
-use Prim.Native.Nat.{ℕ, _+_, _-_, _*_, _≤_, _<_, min}
+use mathlib.Core.Bool.{true, false}
+use mathlib.Core.List.{List, _++_, append-assoc}
+use Prim.Native.Nat.{ℕ, _+_, _-_, _*_, _≤_, _<_}
 use native.Mathlib.Omega.{arith}
-use lib.ListN.{length, take, drop, getD, replicate, length-append, length-take, length-drop}
-use lib.Seq.{take-at, drop-at, drop-drop, take-take, take-append-le, drop-append-le, length-take-le, getD-set-same}
+use lib.ListN.{length, take, drop, getD, replicate, length-append, length-drop, length-replicate}
+use lib.Seq.{take-at, drop-at, drop-drop, take-append-le, length-take-le}
 use mir.Syntax.{w8}
 use mir.Val.{Fits}
-use borrow.Author.Needs.{needs}
 use Rattle.wire.specs.Bytes.{pad}
-use Rattle.wire.specs.Words.{wordAt, wordBytes}
-use Rattle.wire.specs.declared.Order.the-variants.{Little}
+use Rattle.wire.specs.Words.{wordBytes}
 use Rattle.wire.proofs.Texts.{pad-length}
 use Rattle.wire.proofs.Words.{word-length}
 use Rattle.header.specs.Header.{readHeader}
 use Rattle.header.specs.declared.Header.{Header}
 use Rattle.header.specs.declared.Reading.the-variants.{Whole}
-use Rattle.header.proofs.Readings.{Fitting, whole-fits}
+use Rattle.header.proofs.Readings.{whole-fits}
 use Rattle.image.specs.Contracts.{GoodImage}
-use Rattle.tables.proofs.Parts.{take-past, drop-past}
-use Rattle.stream.specs.Stream.{Offer, offer, whole}
+use Rattle.wire.proofs.Parts.{drop-past, pad-fits}
+use Rattle.stream.specs.Stream.{offer, whole}
 use Rattle.stream.specs.Tail.{Tail, tails, closed, fresh, goodTail}
 use Rattle.stream.proofs.Good.{fresh-good, open-more}
 use Rattle.stream.proofs.Pushes.{offer-whole}
 use Rattle.rules.specs.State.{Peer, Slot, free, peer, State, putSlot, withStream}
-use Rattle.memory.specs.Encoding.{headBytes, memoryOf, stateOf}
-use Rattle.memory.specs.Sound.{Sound, Held}
-use Rattle.memory.proofs.Frame.{head-length, memory-length}
+use Rattle.memory.specs.Encoding.{headBytes, streamBytes, memoryOf, stateOf}
+use Rattle.memory.specs.Sound.{Sound}
+use Rattle.memory.proofs.Frame.{memory-length}
+use Rattle.memory.proofs.Fields.{stream-length}
 use Rattle.memory.proofs.Reading.{numberAt, slot-free, slot-peer, sixteen}
 use Rattle.memory.proofs.Sound.{state-again, good-memory}
 use Rattle.memory.proofs.Good.{held-of}
 use Rattle.sound.proofs.Put.{put-there}
 use Rattle.sound.proofs.Renew.{stream-sound}
-use Rattle.slots.specs.Slots.{peerAt}
-use Rattle.pieces.specs.Fed.{streamBytes, Seat, Running, cleared, headIn, Completed}
+use Rattle.slots.specs.Slots.{peerAt, Seated}
+use Rattle.pieces.specs.Fed.{cleared, headIn, behindIn, Completed}
 use Rattle.pieces.proofs.Seats.{sound, peer-is, fine, cleared-is}
-
-stream-length : (t : Tail) → length (streamBytes t) ≡ 2056
-stream-length t = length-append (wordBytes (t .taken)) (headBytes (t .head)) ∙ omega (arith, word-length (t .taken), head-length (t .head))
 
 -- ---- the bytes of a stream put into memory
 
@@ -57,23 +53,40 @@ module _ (m : List ℕ) (i : ℕ) (l : length m ≡ 52676) (h : i < 16) (t : Tai
       let y : drop (b + 2056) (p ++ (q ++ r)) ≡ r = drop-past p (q ++ r) b 2056 before ∙ drop-at q r 2056 (stream-length t) in
       ap₂ (λ (u v : List ℕ). u ++ (replicate 2056 0 ++ v)) x y
 
-  -- the head that was put
-  pub head-put : (n : ℕ) → n ≤ 2048
-      → headIn (take (4 + 3292 * i + 1236) m ++ (streamBytes t ++ drop (4 + 3292 * i + 1236 + 2056) m)) i n ≡ take n (pad 2048 (t .head))
+  -- the room of the head, from its first byte on
+  room-put : drop (4 + 3292 * i + 1244) (take (4 + 3292 * i + 1236) m ++ (streamBytes t ++ drop (4 + 3292 * i + 1236 + 2056) m))
+      ≡ pad 2048 (t .head) ++ drop (4 + 3292 * i + 1236 + 2056) m
   unfolding headBytes
-  head-put n k =
+  room-put =
       let b = 4 + 3292 * i + 1236 in
       let w = wordBytes (t .taken) in
       let v = wordBytes (length (t .head)) in
       let d = pad 2048 (t .head) in
       let r = drop (b + 2056) m in
       let e : 4 + 3292 * i + 1244 ≡ b + 8 = omega arith in
-      let x : drop (b + 8) (take b m ++ (streamBytes t ++ r)) ≡ d ++ r
-      = drop-past (take b m) (streamBytes t ++ r) b 8 before
+      rw e
+      (drop-past (take b m) (streamBytes t ++ r) b 8 before
       ∙ ap (drop 8) (append-assoc w (v ++ d) r ∙ ap (λ (z : List ℕ). w ++ z) (append-assoc v d r))
       ∙ drop-past w (v ++ (d ++ r)) 4 4 (word-length (t .taken))
-      ∙ drop-at v (d ++ r) 4 (word-length (length (t .head))) in
-      rw (e, x) (take-append-le n d r (omega (arith, pad-length 2048 (t .head))))
+      ∙ drop-at v (d ++ r) 4 (word-length (length (t .head))))
+
+  module _ (n : ℕ) (k : n ≤ 2048) where
+    pub head-put : headIn (take (4 + 3292 * i + 1236) m ++ (streamBytes t ++ drop (4 + 3292 * i + 1236 + 2056) m)) i n ≡ take n (pad 2048 (t .head))
+    head-put =
+        ap (take n) room-put
+        ∙ take-append-le n (pad 2048 (t .head)) (drop (4 + 3292 * i + 1236 + 2056) m) (omega (arith, pad-length 2048 (t .head)))
+
+    pub behind-put : length (t .head) ≡ n
+        → behindIn (take (4 + 3292 * i + 1236) m ++ (streamBytes t ++ drop (4 + 3292 * i + 1236 + 2056) m)) i n ≡ replicate (2048 - n) 0
+    behind-put l =
+        let r = drop (4 + 3292 * i + 1236 + 2056) m in
+        let z = replicate {A = ℕ} (2048 - n) 0 in
+        let p : pad 2048 (t .head) ≡ t .head ++ z = pad-fits 2048 (t .head) (omega arith) ∙ rw l in
+        ap (take (2048 - n))
+        (sym (drop-drop n (4 + 3292 * i + 1244) (take (4 + 3292 * i + 1236) m ++ (streamBytes t ++ r)))
+        ∙ ap (drop n) (room-put ∙ ap (λ (y : List ℕ). y ++ r) p ∙ append-assoc (t .head) z r)
+        ∙ drop-at (t .head) (z ++ r) n l)
+        ∙ take-at z r (2048 - n) (length-replicate (2048 - n) 0)
 
 -- ---- good memory after a whole message
 
@@ -81,16 +94,16 @@ abbrev peerOr : Peer Tail → Slot Tail → Peer Tail
 peerOr d free = d
 peerOr d (peer p) = p
 
-module _ (m : List ℕ) (f : (j : ℕ) → Fits w8 (getD m j 0)) (i : ℕ) (s : Running m i) where
+module _ (m : List ℕ) (f : (j : ℕ) → Fits w8 (getD m j 0)) (i : ℕ) (s : Seated m i) where
   -- the state in which the message is consumed
   abbrev pub consumed : State Tail
   consumed = putSlot (stateOf m) i (peer (withStream (peerAt m i) fresh))
 
   pub consumed-sound : Sound consumed
-  consumed-sound = stream-sound (stateOf m) i (peerAt m i) (sound m f i (s .seat)) (peer-is m f i (s .seat)) fresh fresh-good refl
+  consumed-sound = stream-sound (stateOf m) i (peerAt m i) (sound m f i s) (peer-is m f i s) fresh fresh-good refl
 
   pub consumed-at : getD (consumed .slots) i free ≡ peer (withStream (peerAt m i) fresh)
-  consumed-at = put-there (stateOf m) i (peerAt m i) (withStream (peerAt m i) fresh) (peer-is m f i (s .seat))
+  consumed-at = put-there (stateOf m) i (peerAt m i) (withStream (peerAt m i) fresh) (peer-is m f i s)
 
   pub consumed-again : stateOf (memoryOf consumed) ≡ consumed
   consumed-again = state-again consumed consumed-sound
@@ -113,7 +126,7 @@ module _ (m : List ℕ) (f : (j : ℕ) → Fits w8 (getD m j 0)) (i : ℕ) (s : 
   consumed-length : length (memoryOf consumed) ≡ 52676
   consumed-length = memory-length consumed (consumed-sound .sixteen)
 
-  consumed-seat : Seat (memoryOf consumed) i
+  consumed-seat : Seated (memoryOf consumed) i
   consumed-seat =
       record {
         held = held-of (memoryOf consumed) (good-memory consumed consumed-sound);
@@ -123,21 +136,21 @@ module _ (m : List ℕ) (f : (j : ℕ) → Fits w8 (getD m j 0)) (i : ℕ) (s : 
       }
 
   -- what the bytes of a whole message leave, where `after` is memory with them
-  module _ (image piece after : List ℕ) (x : Header) (g : GoodImage image)
+  module _ (image piece after : List ℕ) (x : Header) (g : GoodImage image) (o : closed (peerAt m i .stream) ≡ false)
       (e : after ≡ take (4 + 3292 * i + 1236) m ++ (streamBytes (offer tails (peerAt m i .stream) piece .stream) ++ drop (4 + 3292 * i + 1236 + 2056) m))
       (v : whole (take (x .head) (pad 2048 (offer tails (peerAt m i .stream) piece .stream .head))) x ≡ offer tails (peerAt m i .stream) piece .verdict) where
     pub consumed-clear : cleared after i ≡ memoryOf consumed
     consumed-clear =
         ap (λ (z : List ℕ). cleared z i) e
         ∙ cleared-put m i (s .sized) (s .below) (offer tails (peerAt m i .stream) piece .stream)
-        ∙ cleared-is m f i (s .seat)
+        ∙ cleared-is m f i s
 
     head-read : (readHeader (take (x .head) (pad 2048 (offer tails (peerAt m i .stream) piece .stream .head))) ≡ Whole x)
-        × (length (take (x .head) (pad 2048 (offer tails (peerAt m i .stream) piece .stream .head))) ≡ x .head)
+        × (length (offer tails (peerAt m i .stream) piece .stream .head) ≡ x .head)
     head-read =
         let t = peerAt m i .stream in
-        let k : goodTail t ≡ true = fine m f i (s .seat) .tail in
-        offer-whole t piece k (open-more t k (s .runs)) _ x (sym v)
+        let k : goodTail t ≡ true = fine m f i s .tail in
+        offer-whole t piece k (open-more t k o) _ x (sym v)
 
     head-small : x .head ≤ 2048
     head-small = whole-fits _ x (head-read .0) .head-small
@@ -162,7 +175,10 @@ module _ (m : List ℕ) (f : (j : ℕ) → Fits w8 (getD m j 0)) (i : ℕ) (s : 
           good = g;
           sized = after-length;
           below = s .below;
-          seat = subst (λ (z : List ℕ). Seat z i) (sym consumed-clear) consumed-seat;
+          seat = subst (λ (z : List ℕ). Seated z i) (sym consumed-clear) consumed-seat;
           read = ap readHeader consumed-head ∙ head-read .0;
           small = head-small;
+          behind =
+              ap (λ (z : List ℕ). behindIn z i (x .head)) e
+              ∙ behind-put m i (s .sized) (s .below) (offer tails (peerAt m i .stream) piece .stream) (x .head) head-small (head-read .1);
         }

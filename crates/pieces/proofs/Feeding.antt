@@ -1,10 +1,9 @@
 -- The bytes of a stream in its slot: its counts, its head, zeros; and what an offer leaves of them. Assumes nothing.
-use mathlib.Core.Path.{_≡_, refl, sym, ap, ap₂, subst, _∙_}
-use mathlib.Core.Bool.{true, false}
-use mathlib.Core.List.{List, [], _∷_, _++_, append-nil}
-use Prim.Native.Nat.{ℕ, _+_, _-_, _≤_, _<_, min}
+use mathlib.Core.Path.{_≡_, sym, ap, subst, _∙_}
+use mathlib.Core.List.{List, [], _++_, append-nil}
+use Prim.Native.Nat.{ℕ, _≤_, _<_, min}
 use native.Mathlib.Omega.{arith}
-use lib.ListN.{length, take, drop, length-append, length-take, length-drop, drop-of-length-le}
+use lib.ListN.{length, take, drop, length-drop, drop-of-length-le}
 use lib.Seq.{take-at, drop-at, drop-drop, take-all, length-take-le}
 use borrow.Author.Needs.{needs}
 use Rattle.wire.specs.Bytes.{pad}
@@ -12,14 +11,14 @@ use Rattle.wire.specs.Words.{wordAt, wordBytes}
 use Rattle.wire.specs.declared.Order.the-variants.{Little}
 use Rattle.wire.proofs.Texts.{pad-length}
 use Rattle.wire.proofs.Words.{word-length, word-again, word-drop}
-use Rattle.stream.specs.Stream.{Offer, offer, more}
-use Rattle.stream.specs.Tail.{Tail, tails, closed, judge, goodTail}
+use Rattle.stream.specs.Stream.{offer}
+use Rattle.stream.specs.Tail.{Tail, tails, judge, goodTail}
 use Rattle.stream.specs.Contracts.{tailIn, verdictOf, Open, Gives, Advanced}
 use Rattle.stream.specs.declared.Stream.{Stream}
 use Rattle.stream.specs.declared.Advance.{Advance}
 use Rattle.stream.proofs.Good.{tail-fits, open-more}
-use Rattle.memory.specs.Encoding.{headBytes}
-use Rattle.pieces.specs.Fed.{streamBytes, streamIn, Opens, Fed}
+use Rattle.memory.specs.Encoding.{headBytes, streamBytes}
+use Rattle.pieces.specs.Fed.{streamIn, Opens, Fed}
 
 module _ (x : List ℕ) (o : Opens x) where
   fits : (streamIn x .taken < 134217728) × (length (streamIn x .head) ≤ 2048)
@@ -76,7 +75,7 @@ module _ (x : List ℕ) (o : Opens x) where
       → x₁ ≡ take 8 x ++ (region ++ drop 2048 (drop 8 x))
       → x₂ ≡ take 0 x₁ ++ (wordBytes (r .stream .taken) ++ drop 4 x₁)
       → x₃ ≡ take 4 x₂ ++ (wordBytes (r .stream .stored) ++ drop 8 x₂)
-      → Fed (offer tails (streamIn x) piece) (length piece) r x₃
+      → Fed (offer tails (streamIn x) piece) r x₃
   unfolding headBytes
   fed s p q piece region x₁ x₂ x₃ r a e₁ e₂ e₃ =
       let g : Gives (offer tails (streamIn x) piece) (length piece) r region
@@ -94,7 +93,6 @@ module _ (x : List ℕ) (o : Opens x) where
         taken = g .taken;
         verdict = ap (λ (y : List ℕ). verdictOf y (r .event)) (sym (g .padded)) ∙ g .verdict;
         bytes = e₃ ∙ rw (t₂, d₂) (counted g);
-        within = g .within;
       }
     where
       counted : Gives (offer tails (streamIn x) piece) (length piece) r region

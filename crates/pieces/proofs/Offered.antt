@@ -1,40 +1,38 @@
 -- What a piece comes to, case by case. Assumes nothing.
-use mathlib.Core.Path.{_≡_, refl, sym, ap, ap₂, subst, _∙_}
+use mathlib.Core.Path.{_≡_, sym, ap, _∙_}
 use mathlib.Core.Bool.{Bool, true, false}
-use mathlib.Core.List.{List, [], _∷_, _++_}
-use Prim.Native.Nat.{ℕ, _+_, _-_, _*_, _≤_, _<_}
+use mathlib.Core.List.{List}
+use Prim.Native.Nat.{ℕ, _-_, _<_}
 use native.Mathlib.Omega.{arith}
-use lib.ListN.{length, take, drop, getD, length-drop, List·getD-eq-default}
-use lib.Seq.{length-take-le}
-use lib.Dec.{eqb}
+use lib.ListN.{take, getD, List·getD-eq-default}
 use mir.Syntax.{w8}
 use mir.Val.{Fits}
 use borrow.Author.Needs.{needs}
 use Rattle.wire.specs.Bytes.{pad}
 use Rattle.header.specs.declared.Header.{Header}
-use Rattle.header.proofs.Readings.{Fitting, whole-fits}
 use Rattle.image.specs.Contracts.{GoodImage}
-use Rattle.stream.specs.Stream.{Verdict, more, broken, whole, Offer, offer}
+use Rattle.stream.specs.Stream.{more, broken, whole, Offer, offer}
 use Rattle.stream.specs.Tail.{Tail, tails, closed, fresh}
 use Rattle.stream.specs.Contracts.{verdictOf}
 use Rattle.stream.specs.declared.Event.{Event}
 use Rattle.stream.specs.declared.Event.the-variants as event
 use Rattle.stream.specs.declared.Advance.{Advance}
-use Rattle.rules.specs.State.{Peer, Slot, free, peer, State, isPeer, firstBy, putSlot, withStream}
-use Rattle.rules.specs.Judge.{Judged, refusal, judged}
-use Rattle.rules.specs.Calls.{Step, stays, slotAt, noPiece, offered, offeredTo, pieceAt, piece}
+use Rattle.rules.specs.State.{Peer, free, peer, State, isPeer, firstBy, putSlot, withStream}
+use Rattle.rules.specs.Judge.{refusal, judged}
+use Rattle.rules.specs.Calls.{stays, slotAt, noPiece, offeredTo, piece}
 use Rattle.rules.specs.declared.Judgement.{Judgement}
 use Rattle.rules.specs.declared.Taken.{Taken}
 use Rattle.memory.specs.Encoding.{memoryOf, stateOf}
 use Rattle.memory.specs.Sound.{Held}
 use Rattle.memory.specs.Calls.{stored, Did}
-use Rattle.memory.proofs.Reading.{numberAt, sixteen, slot-peer}
+use Rattle.memory.proofs.Reading.{sixteen, slot-peer}
 use Rattle.memory.proofs.Search.{Found}
-use Rattle.memory.proofs.Find.{found-first, found-some, found-is}
+use Rattle.memory.proofs.Find.{found-first, found-some}
 use Rattle.memory.proofs.Good.{good-is}
-use Rattle.slots.specs.Slots.{peerAt}
-use Rattle.judge.specs.Judging.{PeerAt, Message, Judges}
-use Rattle.pieces.specs.Fed.{streamBytes, Seat, Running, FedAt, cleared, headIn, Completed}
+use Rattle.slots.specs.Slots.{peerAt, Seated}
+use Rattle.judge.specs.Judging.{Message, Judges}
+use Rattle.pieces.specs.Fed.{FedAt, cleared, headIn, Completed}
+use Rattle.pieces.proofs.Copied.{head-length}
 use Rattle.pieces.proofs.Consumed.{consumed, consumed-again, consumed-peer, consumed-clear, consumed-head, completed}
 
 -- ---- a whole message, once its head is copied and its stream cleared
@@ -51,9 +49,9 @@ module _ (image m d head : List ℕ) (i : ℕ) (x : Header) (c : Completed image
       rw (head-is, e)
       (record {
         good = c .good;
-        sender = record { sized = c .seat .sized; held = c .seat .held .held; below = c .seat .below; some = c .seat .some };
+        sender = c .seat;
         read = c .read;
-        long = length-take-le (x .head) (drop (4 + 3292 * i + 1244) m) (omega (arith, length-drop (4 + 3292 * i + 1244) m, c .sized, c .below, c .small));
+        long = head-length m i (x .head) (c .sized) (c .below) (c .small);
       })
 
   pub judge-left : (r : Judgement) (after : List ℕ) → Judges image d i (take (x .head - 0) head) x r after → Judges image (cleared m i) i (headIn m i (x .head)) x r after
@@ -78,8 +76,8 @@ module _ (image : List ℕ) (s : State Tail) (i : ℕ) (p : Peer Tail) (o : Offe
       ≡ record { state = judged image z i q h x .state; result = record { judgement = judged image z i q h x .judgement; taken = o .taken } }
   whole-step h x e z q a b = rw (e, a, b)
 
-module _ (image m bytes after : List ℕ) (f : (j : ℕ) → Fits w8 (getD m j 0)) (i : ℕ) (s : Running m i) (r : Advance)
-    (d : FedAt m i (offer tails (peerAt m i .stream) bytes) (length bytes) r after) where
+module _ (image m bytes after : List ℕ) (f : (j : ℕ) → Fits w8 (getD m j 0)) (i : ℕ) (s : Seated m i) (r : Advance)
+    (d : FedAt m i (offer tails (peerAt m i .stream) bytes) r after) where
   verdict-is : (e : Event) → r .event ≡ e → verdictOf (pad 2048 (offer tails (peerAt m i .stream) bytes .stream .head)) e ≡ offer tails (peerAt m i .stream) bytes .verdict
   verdict-is e q = ap (verdictOf (pad 2048 (offer tails (peerAt m i .stream) bytes .stream .head))) (sym q) ∙ d .verdict
 
@@ -97,9 +95,9 @@ module _ (image m bytes after : List ℕ) (f : (j : ℕ) → Fits w8 (getD m j 0
       rw (broken-step image (stateOf m) i (peerAt m i) (offer tails (peerAt m i .stream) bytes) a (sym (verdict-is (event.Broken a) q)))
       (record { result = rw (d .taken); memory = d .memory })
 
-  module _ (x : Header) (q : r .event ≡ event.Whole x) (g : GoodImage image) where
+  module _ (x : Header) (q : r .event ≡ event.Whole x) (g : GoodImage image) (c : closed (peerAt m i .stream) ≡ false) where
     pub offered-ready : Completed image after i x
-    offered-ready = completed m f i s image bytes after x g (d .bytes) (verdict-is (event.Whole x) q)
+    offered-ready = completed m f i s image bytes after x g c (d .bytes) (verdict-is (event.Whole x) q)
 
     pub offered-whole : (j : Judgement) (end : List ℕ) → Judges image (cleared after i) i (headIn after i (x .head)) x j end
         → Did (stored (offeredTo tails image (stateOf m) i (peerAt m i) (offer tails (peerAt m i .stream) bytes)))
@@ -110,9 +108,9 @@ module _ (image m bytes after : List ℕ) (f : (j : ℕ) → Fits w8 (getD m j 0
         let h = take (x .head) (pad 2048 (o .stream .head)) in
         let z = stateOf (memoryOf (consumed m f i s)) in
         let p = peerAt (memoryOf (consumed m f i s)) i in
-        let c : cleared after i ≡ memoryOf (consumed m f i s) = consumed-clear m f i s image bytes after x g (d .bytes) v in
-        let k : headIn after i (x .head) ≡ h = consumed-head m f i s image bytes after x g (d .bytes) v in
-        let u : Judges image (memoryOf (consumed m f i s)) i h x j end = rw (c, k) at w in
+        let l : cleared after i ≡ memoryOf (consumed m f i s) = consumed-clear m f i s image bytes after x g c (d .bytes) v in
+        let k : headIn after i (x .head) ≡ h = consumed-head m f i s image bytes after x g c (d .bytes) v in
+        let u : Judges image (memoryOf (consumed m f i s)) i h x j end = rw (l, k) at w in
         rw (whole-step image (stateOf m) i (peerAt m i) o h x (sym v) z p (consumed-again m f i s) (consumed-peer m f i s))
         (record { result = rw (u .judgement, d .taken); memory = u .memory })
 
@@ -124,11 +122,8 @@ module _ (m : List ℕ) (g : Held m) (n i : ℕ) (d : Found (isPeer n) m 0 i) (h
   inside : i < 16
   inside = omega (arith, d .bound)
 
-  pub piece-seat : Seat m i
+  pub piece-seat : Seated m i
   piece-seat = record { held = g; sized = g .sized; below = inside; some = found-some n m 0 i d inside }
-
-  pub piece-runs : (c : Bool) → c ≡ closed (peerAt m i .stream) → c ≡ false → Running m i
-  piece-runs c e t = record { seat = piece-seat; sized = g .sized; below = inside; runs = sym e ∙ t }
 
   slot-is : slotAt (stateOf m) i ≡ peer (peerAt m i)
   slot-is = slot-peer m i inside (found-some n m 0 i d inside)
@@ -155,4 +150,4 @@ module _ (image m bytes : List ℕ) (f : (j : ℕ) → Fits w8 (getD m j 0)) (g 
     unfolding piece
     piece-offered t after o = rw (first-is, slot-is m g n i d h, ← e, t) o
 
-pub ruleset piecing = (piece-seat, piece-runs, piece-none, piece-closed, piece-offered, needs)
+pub ruleset piecing = (piece-seat, piece-none, piece-closed, piece-offered, needs)

@@ -1,10 +1,10 @@
 -- The stream of a slot, in good memory. Assumes nothing.
-use mathlib.Core.Path.{_≡_, refl, sym, ap, ap₂, subst, _∙_}
-use mathlib.Core.Bool.{Bool, true, false}
-use mathlib.Core.List.{List, [], _∷_, _++_, append-nil}
+use mathlib.Core.Path.{_≡_, refl, sym, ap, subst, _∙_}
+use mathlib.Core.Bool.{Bool, false}
+use mathlib.Core.List.{List, _++_, append-assoc}
 use Prim.Native.Nat.{ℕ, _+_, _-_, _*_, _≤_, _<_, min}
 use native.Mathlib.Omega.{arith}
-use lib.ListN.{length, take, drop, getD, replicate, length-take, length-drop}
+use lib.ListN.{length, take, drop, getD, replicate, length-drop, replicate-append-replicate}
 use lib.Seq.{drop-drop, take-take, length-take-le}
 use mir.Syntax.{w8}
 use mir.Val.{Fits}
@@ -13,30 +13,30 @@ use Rattle.wire.specs.Bytes.{pad}
 use Rattle.wire.specs.Words.{wordAt, wordBytes}
 use Rattle.wire.specs.declared.Order.the-variants.{Little}
 use Rattle.wire.proofs.Words.{cut-at, put-at}
-use Rattle.tables.proofs.Parts.{drop-take}
+use Rattle.wire.proofs.Parts.{drop-take, zeros-front}
 use Rattle.tables.proofs.Words.{word-part}
-use Rattle.stream.specs.Stream.{Offer, offer}
+use Rattle.stream.specs.Stream.{offer}
 use Rattle.stream.specs.Tail.{Tail, tails, closed, fresh, goodTail}
 use Rattle.stream.specs.Contracts.{tailOf, GoodTail}
 use Rattle.stream.specs.declared.Advance.{Advance}
-use Rattle.rules.specs.State.{Peer, free, peer, putSlot, withStream}
-use Rattle.memory.specs.Encoding.{headBytes, memoryOf, stateOf}
-use Rattle.memory.specs.Sound.{Sound, Held}
-use Rattle.memory.proofs.Reading.{numberAt, peerFrom, slot-peer}
+use Rattle.rules.specs.State.{free, peer, putSlot, withStream}
+use Rattle.memory.specs.Encoding.{headBytes, streamBytes, memoryOf, stateOf}
+use Rattle.memory.specs.Sound.{Sound}
+use Rattle.memory.proofs.Reading.{slot-peer}
 use Rattle.memory.proofs.Held.{held-peer, held-counted, Counted}
 use Rattle.memory.proofs.Fields.{stream-bytes}
 use Rattle.memory.proofs.Good.{good-sound}
 use Rattle.memory.proofs.Puts.{stream-put}
 use Rattle.sound.proofs.Kept.{Fine}
 use Rattle.sound.proofs.Put.{peer-fine}
-use Rattle.slots.specs.Slots.{peerAt}
-use Rattle.pieces.specs.Fed.{streamBytes, streamIn, Opens, Fed, Seat, Running, FedAt, cleared}
+use Rattle.slots.specs.Slots.{peerAt, Seated}
+use Rattle.pieces.specs.Fed.{streamIn, Opens, Fed, FedAt, cleared, behindIn}
 
 fresh-bytes : streamBytes fresh ≡ replicate 2056 0
 unfolding wordBytes headBytes pad
 fresh-bytes = refl
 
-module _ (m : List ℕ) (f : (j : ℕ) → Fits w8 (getD m j 0)) (i : ℕ) (s : Seat m i) where
+module _ (m : List ℕ) (f : (j : ℕ) → Fits w8 (getD m j 0)) (i : ℕ) (s : Seated m i) where
   pub sound : Sound (stateOf m)
   sound = good-sound m (λ j. f j .fits) (s .held .held)
 
@@ -77,14 +77,14 @@ module _ (m : List ℕ) (f : (j : ℕ) → Fits w8 (getD m j 0)) (i : ℕ) (s : 
       })
 
   pub fed-at : (piece x after : List ℕ) (r : Advance)
-      → Fed (offer tails (streamIn (take (4 + 3292 * i + 1236 + 2056 - (4 + 3292 * i + 1236)) (drop (4 + 3292 * i + 1236) m))) piece) (length piece) r x
+      → Fed (offer tails (streamIn (take (4 + 3292 * i + 1236 + 2056 - (4 + 3292 * i + 1236)) (drop (4 + 3292 * i + 1236) m))) piece) r x
       → after ≡ take (4 + 3292 * i + 1236) m ++ (x ++ drop (4 + 3292 * i + 1236 + 2056 - (4 + 3292 * i + 1236)) (drop (4 + 3292 * i + 1236) m))
-      → FedAt m i (offer tails (peerAt m i .stream) piece) (length piece) r after
+      → FedAt m i (offer tails (peerAt m i .stream) piece) r after
   fed-at piece x after r d e =
       let q : streamIn (take (4 + 3292 * i + 1236 + 2056 - (4 + 3292 * i + 1236)) (drop (4 + 3292 * i + 1236) m)) ≡ peerAt m i .stream
       = ap streamIn (cut-at (4 + 3292 * i + 1236) 2056 m) ∙ stream-in in
-      let g : Fed (offer tails (peerAt m i .stream) piece) (length piece) r x
-      = subst (λ (t : Tail). Fed (offer tails t piece) (length piece) r x) q d in
+      let g : Fed (offer tails (peerAt m i .stream) piece) r x
+      = subst (λ (t : Tail). Fed (offer tails t piece) r x) q d in
       record {
         taken = g .taken;
         verdict = g .verdict;
@@ -93,35 +93,30 @@ module _ (m : List ℕ) (f : (j : ℕ) → Fits w8 (getD m j 0)) (i : ℕ) (s : 
             e
             ∙ put-at (4 + 3292 * i + 1236) 2056 m x
             ∙ rw (g .bytes) (sym (stream-put m (λ j. f j .fits) (s .held) i (s .below) (s .some) (offer tails (peerAt m i .stream) piece .stream)));
-        within = g .within;
       }
 
-  -- the region of its head
+  -- the region of its head, as the code lends it
+  tail-at : (t n : ℕ) → t ≡ wordAt Little m (4 + 3292 * i + 1236) → n ≡ wordAt Little m (4 + 3292 * i + 1240)
+      → tailOf (take (4 + 3292 * i + 1244 + 2048 - (4 + 3292 * i + 1244)) (drop (4 + 3292 * i + 1244) m)) t n ≡ peerAt m i .stream
+  tail-at t n p q =
+      let k : n ≤ 2048 = rw (← q) at (counts .small) in
+      let e : min (wordAt Little m (4 + 3292 * i + 1240)) 2048 ≡ n = omega arith in
+      rw (cut-at (4 + 3292 * i + 1244) 2048 m, e, ← p) (ap (λ (h : List ℕ). record { taken = t; head = h }) (take-take n 2048 (drop (4 + 3292 * i + 1244) m) k))
+
   pub closed-at : (t n : ℕ) → t ≡ wordAt Little m (4 + 3292 * i + 1236) → n ≡ wordAt Little m (4 + 3292 * i + 1240)
       → GoodTail (take (4 + 3292 * i + 1244 + 2048 - (4 + 3292 * i + 1244)) (drop (4 + 3292 * i + 1244) m)) t n
   closed-at t n p q =
-      let k : n ≤ 2048 = rw (← q) at (counts .small) in
-      rw (cut-at (4 + 3292 * i + 1244) 2048 m)
-      (record {
+      record {
         inside =
-            rw (length-take-le 2048 (drop (4 + 3292 * i + 1244) m) (omega (arith, length-drop (4 + 3292 * i + 1244) m, s .sized, s .below))) k;
+            rw (cut-at (4 + 3292 * i + 1244) 2048 m, length-take-le 2048 (drop (4 + 3292 * i + 1244) m) (omega (arith, length-drop (4 + 3292 * i + 1244) m, s .sized, s .below)))
+            (rw (← q) at (counts .small));
         good = ap goodTail (tail-at t n p q) ∙ fine .tail;
-      })
-    where
-      tail-at : (t n : ℕ) → t ≡ wordAt Little m (4 + 3292 * i + 1236) → n ≡ wordAt Little m (4 + 3292 * i + 1240)
-          → tailOf (take 2048 (drop (4 + 3292 * i + 1244) m)) t n ≡ peerAt m i .stream
-      tail-at t n p q =
-          let k : n ≤ 2048 = rw (← q) at (counts .small) in
-          let e : min (wordAt Little m (4 + 3292 * i + 1240)) 2048 ≡ n = omega arith in
-          rw (e, ← p) (ap (λ (h : List ℕ). record { taken = t; head = h }) (take-take n 2048 (drop (4 + 3292 * i + 1244) m) k))
+      }
 
   pub closed-is : (t n : ℕ) (r : Bool) → t ≡ wordAt Little m (4 + 3292 * i + 1236) → n ≡ wordAt Little m (4 + 3292 * i + 1240)
       → r ≡ closed (tailOf (take (4 + 3292 * i + 1244 + 2048 - (4 + 3292 * i + 1244)) (drop (4 + 3292 * i + 1244) m)) t n)
       → r ≡ closed (peerAt m i .stream)
-  closed-is t n r p q z =
-      let k : n ≤ 2048 = rw (← q) at (counts .small) in
-      let e : min (wordAt Little m (4 + 3292 * i + 1240)) 2048 ≡ n = omega arith in
-      z ∙ rw (cut-at (4 + 3292 * i + 1244) 2048 m, e, ← p, take-take n 2048 (drop (4 + 3292 * i + 1244) m) k)
+  closed-is t n r p q z = z ∙ ap closed (tail-at t n p q)
 
   -- zeros over its stream
   pub cleared-is : cleared m i ≡ memoryOf (putSlot (stateOf m) i (peer (withStream (peerAt m i) fresh)))
@@ -129,24 +124,26 @@ module _ (m : List ℕ) (f : (j : ℕ) → Fits w8 (getD m j 0)) (i : ℕ) (s : 
       ap (λ (z : List ℕ). take (4 + 3292 * i + 1236) m ++ (z ++ drop (4 + 3292 * i + 1236 + 2056) m)) (sym fresh-bytes)
       ∙ sym (stream-put m (λ j. f j .fits) (s .held) i (s .below) (s .some) fresh)
 
--- zeros written over a stream
-pub settled-at : (m z : List ℕ) (i : ℕ) → length m ≡ 52676 → i < 16
-    → z ≡ replicate (length (take (4 + 3292 * i + 1236 + 2056 - (4 + 3292 * i + 1236)) (drop (4 + 3292 * i + 1236) m))) 0
-    → take (4 + 3292 * i + 1236) m ++ (z ++ drop (4 + 3292 * i + 1236 + 2056 - (4 + 3292 * i + 1236)) (drop (4 + 3292 * i + 1236) m)) ≡ cleared m i
-settled-at m z i h k q =
-    let l : length (take (4 + 3292 * i + 1236 + 2056 - (4 + 3292 * i + 1236)) (drop (4 + 3292 * i + 1236) m)) ≡ 2056
-    = ap length (cut-at (4 + 3292 * i + 1236) 2056 m)
-    ∙ length-take-le 2056 (drop (4 + 3292 * i + 1236) m) (omega (arith, length-drop (4 + 3292 * i + 1236) m)) in
-    put-at (4 + 3292 * i + 1236) 2056 m z ∙ rw (q, l)
+-- k zeros at b, and w more behind them
+zeros-more : (m : List ℕ) (b k w : ℕ) → take w (drop (b + k) m) ≡ replicate w 0 → replicate k 0 ++ drop (b + k) m ≡ replicate (k + w) 0 ++ drop (b + k + w) m
+zeros-more m b k w e =
+    ap (λ (y : List ℕ). replicate k 0 ++ y) (zeros-front m (b + k) w e)
+    ∙ sym (append-assoc (replicate k 0) (replicate w 0) (drop (b + k + w) m))
+    ∙ ap (λ (y : List ℕ). y ++ drop (b + k + w) m) (replicate-append-replicate k w 0)
 
-module _ (m : List ℕ) (f : (j : ℕ) → Fits w8 (getD m j 0)) (i : ℕ) (s : Running m i) where
-  pub runs-open : Opens (take (4 + 3292 * i + 1236 + 2056 - (4 + 3292 * i + 1236)) (drop (4 + 3292 * i + 1236) m))
-  runs-open = opens-at m f i (s .seat) (s .runs)
+-- zeros written over the counts of a stream and its head, where zeros stand behind it
+pub settled-at : (m z : List ℕ) (i n : ℕ) → length m ≡ 52676 → i < 16 → n ≤ 2048 → behindIn m i n ≡ replicate (2048 - n) 0
+    → z ≡ replicate (length (take (4 + 3292 * i + 1236 + (8 + n) - (4 + 3292 * i + 1236)) (drop (4 + 3292 * i + 1236) m))) 0
+    → take (4 + 3292 * i + 1236) m ++ (z ++ drop (4 + 3292 * i + 1236 + (8 + n) - (4 + 3292 * i + 1236)) (drop (4 + 3292 * i + 1236) m)) ≡ cleared m i
+settled-at m z i n h k s o q =
+    let b = 4 + 3292 * i + 1236 in
+    let l : length (take (b + (8 + n) - b) (drop b m)) ≡ 8 + n
+    = ap length (cut-at b (8 + n) m) ∙ length-take-le (8 + n) (drop b m) (omega (arith, length-drop b m)) in
+    let d : 4 + 3292 * i + 1244 + n ≡ b + (8 + n) = omega arith in
+    let u : 8 + n + (2048 - n) ≡ 2056 = omega arith in
+    let v : b + (8 + n) + (2048 - n) ≡ b + 2056 = omega arith in
+    let x : replicate (8 + n) 0 ++ drop (b + (8 + n)) m ≡ replicate 2056 0 ++ drop (b + 2056) m
+    = rw (u, v) at (zeros-more m b (8 + n) (2048 - n) (rw d at o)) in
+    put-at b (8 + n) m z ∙ rw (q, l, x)
 
-  pub runs-fed : (piece x after : List ℕ) (r : Advance)
-      → Fed (offer tails (streamIn (take (4 + 3292 * i + 1236 + 2056 - (4 + 3292 * i + 1236)) (drop (4 + 3292 * i + 1236) m))) piece) (length piece) r x
-      → after ≡ take (4 + 3292 * i + 1236) m ++ (x ++ drop (4 + 3292 * i + 1236 + 2056 - (4 + 3292 * i + 1236)) (drop (4 + 3292 * i + 1236) m))
-      → FedAt m i (offer tails (peerAt m i .stream) piece) (length piece) r after
-  runs-fed = fed-at m f i (s .seat)
-
-pub ruleset seats = (runs-open, runs-fed, closed-at, closed-is, settled-at, needs)
+pub ruleset seats = (opens-at, fed-at, closed-at, closed-is, settled-at, needs)

@@ -2,30 +2,25 @@
 use mathlib.Core.Path.{_≡_}
 use mathlib.Core.Bool.{true, false}
 use mathlib.Core.List.{List, _++_}
-use Prim.Native.Nat.{ℕ, _+_, _*_, _≤_, _<_, min}
+use Prim.Native.Nat.{ℕ, _+_, _-_, _≤_, _<_, min}
 use lib.ListN.{length, take, drop, replicate}
 use Rattle.wire.specs.Bytes.{pad}
-use Rattle.wire.specs.Words.{wordAt, wordBytes}
+use Rattle.wire.specs.Words.{wordAt}
 use Rattle.wire.specs.declared.Order.the-variants.{Little}
 use Rattle.header.specs.Header.{readHeader}
 use Rattle.header.specs.declared.Header.{Header}
 use Rattle.header.specs.declared.Reading.the-variants.{Whole}
 use Rattle.image.specs.Contracts.{GoodImage}
-use Rattle.stream.specs.Stream.{Offer, offer}
-use Rattle.stream.specs.Tail.{Tail, tails, closed, goodTail}
+use Rattle.stream.specs.Stream.{Offer}
+use Rattle.stream.specs.Tail.{Tail, closed, goodTail}
 use Rattle.stream.specs.Contracts.{verdictOf}
 use Rattle.stream.specs.declared.Advance.{Advance}
-use Rattle.rules.specs.State.{Peer, peer, putSlot, withStream}
-use Rattle.memory.specs.Encoding.{headBytes, memoryOf, stateOf}
-use Rattle.memory.specs.Sound.{Held}
-use Rattle.memory.proofs.Reading.{numberAt}
-use Rattle.slots.specs.Slots.{peerAt}
+use Rattle.rules.specs.State.{peer, putSlot, withStream}
+use Rattle.memory.specs.Layout.{slotStart, memoryLength, takenAt, firstByte}
+use Rattle.memory.specs.Encoding.{streamBytes, memoryOf, stateOf}
+use Rattle.slots.specs.Slots.{peerAt, Seated}
 
--- the bytes of a stream in its slot
-abbrev pub streamBytes : Tail → List ℕ
-streamBytes t = wordBytes (t .taken) ++ headBytes (t .head)
-
--- the stream that they say
+-- the stream that its bytes in a slot say
 abbrev pub streamIn : List ℕ → Tail
 streamIn x = record { taken = wordAt Little x 0; head = take (min (wordAt Little x 4) 2048) (drop 8 x) }
 
@@ -37,49 +32,38 @@ pub record Opens (x : List ℕ) : Type 0 where
   pub runs : closed (streamIn x) ≡ false
 
 -- what an offer comes to: r reports it, and x is the bytes of the stream that it leaves
-pub record Fed (o : Offer Tail) (n : ℕ) (r : Advance) (x : List ℕ) : Type 0 where
+pub record Fed (o : Offer Tail) (r : Advance) (x : List ℕ) : Type 0 where
   pub taken : r .taken ≡ o .taken
   pub verdict : verdictOf (pad 2048 (o .stream .head)) (r .event) ≡ o .verdict
   pub bytes : x ≡ streamBytes (o .stream)
-  pub within : r .taken ≤ n
-
--- slot i of good memory has a peer
-pub record Seat (m : List ℕ) (i : ℕ) : Type 0 where
-  pub held : Held m
-  pub sized : length m ≡ 52676
-  pub below : i < 16
-  pub some : numberAt m i ≡ 0 → ⊥
-
--- the same, and its stream is open
-pub record Running (m : List ℕ) (i : ℕ) : Type 0 where
-  pub seat : Seat m i
-  pub sized : length m ≡ 52676
-  pub below : i < 16
-  pub runs : closed (peerAt m i .stream) ≡ false
 
 -- what an offer to slot i comes to, in memory
-pub record FedAt (m : List ℕ) (i : ℕ) (o : Offer Tail) (n : ℕ) (r : Advance) (after : List ℕ) : Type 0 where
+pub record FedAt (m : List ℕ) (i : ℕ) (o : Offer Tail) (r : Advance) (after : List ℕ) : Type 0 where
   pub taken : r .taken ≡ o .taken
   pub verdict : verdictOf (pad 2048 (o .stream .head)) (r .event) ≡ o .verdict
-  pub bytes : after ≡ take (4 + 3292 * i + 1236) m ++ (streamBytes (o .stream) ++ drop (4 + 3292 * i + 1236 + 2056) m)
+  pub bytes : after ≡ take (slotStart i + takenAt) m ++ (streamBytes (o .stream) ++ drop (slotStart i + takenAt + 2056) m)
   pub memory : after ≡ memoryOf (putSlot (stateOf m) i (peer (withStream (peerAt m i) (o .stream))))
-  pub within : r .taken ≤ n
 
 -- ---- a whole message
 
 -- memory with zeros over the stream of slot i
 abbrev pub cleared : List ℕ → ℕ → List ℕ
-cleared m i = take (4 + 3292 * i + 1236) m ++ (replicate 2056 0 ++ drop (4 + 3292 * i + 1236 + 2056) m)
+cleared m i = take (slotStart i + takenAt) m ++ (replicate 2056 0 ++ drop (slotStart i + takenAt + 2056) m)
 
 -- the first n bytes of the head that slot i keeps
 abbrev pub headIn : List ℕ → ℕ → ℕ → List ℕ
-headIn m i n = take n (drop (4 + 3292 * i + 1244) m)
+headIn m i n = take n (drop (slotStart i + firstByte) m)
 
--- slot i keeps a whole head x, and is a peer's of good memory once its stream is cleared
+-- what stands behind them in the head's room
+abbrev pub behindIn : List ℕ → ℕ → ℕ → List ℕ
+behindIn m i n = take (2048 - n) (drop (slotStart i + firstByte + n) m)
+
+-- slot i keeps a whole head x and nothing behind it, and is a peer's of good memory once its stream is cleared
 pub record Completed (image m : List ℕ) (i : ℕ) (x : Header) : Type 0 where
   pub good : GoodImage image
-  pub sized : length m ≡ 52676
+  pub sized : length m ≡ memoryLength
   pub below : i < 16
-  pub seat : Seat (cleared m i) i
+  pub seat : Seated (cleared m i) i
   pub read : readHeader (headIn m i (x .head)) ≡ Whole x
   pub small : x .head ≤ 2048
+  pub behind : behindIn m i (x .head) ≡ replicate (2048 - x .head) 0

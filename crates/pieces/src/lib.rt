@@ -1,23 +1,29 @@
 // A piece offered to a peer's stream, on good memory and under a good image.
 use header::Header;
+use memory::FIRST_BYTE;
+use memory::HEAD_AT;
+use memory::SLOT_LENGTH;
+use memory::SLOTS_AT;
+use memory::TAKEN_AT;
 use rules::Judgement;
 use rules::Receiver;
 use rules::Taken;
+use rules::no_piece;
 use stream::Advance;
 use stream::Event;
 use stream::Stream;
 use wire::Order;
 ghost use mathlib.Core.Path.{_≡_};
-ghost use mathlib.Core.Bool.{true};
-ghost use mathlib.Core.List.{List};
-ghost use Prim.Native.Nat.{ℕ, _+_, _≤_, _<_};
-ghost use lib.ListN.{length, take};
+ghost use mathlib.Core.Bool.{false};
+ghost use Prim.Native.Nat.{_+_, _-_, _≤_, _<_};
+ghost use lib.ListN.{length, take, replicate};
 ghost use Rattle.stream.specs.Stream.{offer};
 ghost use Rattle.stream.specs.Tail.{tails, closed};
-ghost use Rattle.slots.specs.Slots.{peerAt};
-ghost use Rattle.pieces.specs.Fed.{streamIn, Opens, Fed, Seat, Running, FedAt, cleared, headIn, Completed};
+ghost use Rattle.slots.specs.Slots.{peerAt, Seated};
+ghost use Rattle.pieces.specs.Fed.{streamIn, Opens, Fed, FedAt, cleared, headIn, behindIn, Completed};
 ghost use Rattle.image.specs.Contracts.{GoodImage};
-ghost use Rattle.rules.specs.Calls.{noPiece, offeredTo, piece};
+ghost use Rattle.rules.specs.Calls.{offeredTo, piece};
+ghost use Rattle.memory.specs.Layout.{memoryLength};
 ghost use Rattle.memory.specs.Encoding.{stateOf};
 ghost use Rattle.memory.specs.Sound.{Held};
 ghost use Rattle.memory.specs.Calls.{stored, Did};
@@ -26,7 +32,7 @@ ghost use Rattle.judge.specs.Judging.{Judges};
 // The piece is offered to the stream whose bytes are lent: the counts, and the head behind them.
 fn feed(bytes: &mut [u8], piece: &[u8]) -> Advance
     requires { ⌜ Opens (now bytes) ⌝ }
-    ensures { λ r. ⌜ Fed (offer tails (streamIn (now (bytes .entry))) (now (piece .entry))) (length (now (piece .entry))) r (now (bytes .exit)) ⌝ }
+    ensures { λ r. ⌜ Fed (offer tails (streamIn (now (bytes .entry))) (now (piece .entry))) r (now (bytes .exit)) ⌝ }
 {
     let s = Stream {
         taken: wire::u32_at(Order::Little, bytes, 0) as usize,
@@ -41,48 +47,45 @@ fn feed(bytes: &mut [u8], piece: &[u8]) -> Advance
 
 // The piece is offered to the stream of slot i.
 fn feed_at(memory: &mut [u8], i: usize, piece: &[u8]) -> Advance
-    requires { ⌜ Running (now memory) i ⌝ }
-    ensures { λ r. ⌜ FedAt (now (memory .entry)) i (offer tails (peerAt (now (memory .entry)) i .stream) (now (piece .entry))) (length (now (piece .entry))) r (now (memory .exit)) ⌝ }
+    requires { ⌜ (Seated (now memory) i) × (closed (peerAt (now memory) i .stream) ≡ false) ⌝ }
+    ensures { λ r. ⌜ FedAt (now (memory .entry)) i (offer tails (peerAt (now (memory .entry)) i .stream) (now (piece .entry))) r (now (memory .exit)) ⌝ }
 {
-    let from = 4 + 3292 * i + 1236;
+    let from = SLOTS_AT + SLOT_LENGTH * i + TAKEN_AT;
     let to = from + 2056;
     feed(&mut memory[from..to], piece)
 }
 
 // The stream of slot i is closed.
 fn is_closed_at(memory: &[u8], i: usize) -> bool
-    requires { ⌜ Seat (now memory) i ⌝ }
+    requires { ⌜ Seated (now memory) i ⌝ }
     ensures { λ r. ⌜ r ≡ closed (peerAt (now (memory .entry)) i .stream) ⌝ }
 {
-    let taken = slots::word_at(memory, i, 1236) as usize;
-    let stored = slots::word_at(memory, i, 1240) as usize;
-    let from = 4 + 3292 * i + 1244;
+    let taken = slots::word_at(memory, i, TAKEN_AT) as usize;
+    let stored = slots::word_at(memory, i, HEAD_AT) as usize;
+    let from = SLOTS_AT + SLOT_LENGTH * i + FIRST_BYTE;
     let to = from + 2048;
     stream::is_closed(taken, &memory[from..to], stored)
 }
 
-// The message of slot i is consumed: no byte of it is kept.
-fn settle_at(memory: &mut [u8], i: usize)
-    requires { ⌜ (length (now memory) ≡ 52676) × (i < 16) ⌝ }
+// The message of slot i is consumed: no byte of it is kept. Its head has n bytes, and what is behind them is zero.
+fn settle_at(memory: &mut [u8], i: usize, n: usize)
+    requires { ⌜ (length (now memory) ≡ memoryLength) × (i < 16) × (n ≤ 2048) × (behindIn (now memory) i n ≡ replicate (2048 - n) 0) ⌝ }
     ensures { λ r. ⌜ now (memory .exit) ≡ cleared (now (memory .entry)) i ⌝ }
 {
-    let from = 4 + 3292 * i + 1236;
-    let to = from + 2056;
-    wire::wipe(&mut memory[from..to]);
+    let from = SLOTS_AT + SLOT_LENGTH * i + TAKEN_AT;
+    let end = from + (8 + n);
+    wire::wipe(&mut memory[from..end]);
 }
 
 // A copy of the first n bytes of the head that slot i keeps.
 fn head_of(memory: &[u8], i: usize, n: usize) -> [u8; 2048]
-    requires { ⌜ (length (now memory) ≡ 52676) × (i < 16) × (n ≤ 2048) ⌝ }
+    requires { ⌜ (length (now memory) ≡ memoryLength) × (i < 16) × (n ≤ 2048) ⌝ }
     ensures { λ r. ⌜ take n r ≡ headIn (now (memory .entry)) i n ⌝ }
 {
     let mut head = [0u8; 2048];
-    let from = 4 + 3292 * i + 1244;
-    let mut k = 0;
-    while k < n {
-        head[k] = memory[from + k];
-        k += 1;
-    }
+    let from = SLOTS_AT + SLOT_LENGTH * i + FIRST_BYTE;
+    let to = from + n;
+    wire::copy(&mut head[0..n], &memory[from..to]);
     head
 }
 
@@ -93,25 +96,13 @@ fn judge_at(image: &[u8], memory: &mut [u8], i: usize, header: Header) -> Judgem
 {
     let n = header.head;
     let head = head_of(memory, i, n);
-    settle_at(memory, i);
+    settle_at(memory, i, n);
     judge::judge(image, memory, i, &head[0..n], header)
-}
-
-fn refused(answer: u8) -> Taken
-    ensures { λ r. ⌜ r ≡ noPiece answer ⌝ }
-{
-    Taken {
-        judgement: Judgement {
-            answer,
-            receiver: Receiver::Nobody,
-        },
-        taken: 0,
-    }
 }
 
 // The piece is offered to the open stream of slot i, and a whole message is judged.
 fn piece_at(image: &[u8], memory: &mut [u8], i: usize, bytes: &[u8]) -> Taken
-    requires { ⌜ (GoodImage (now image)) × (Running (now memory) i) ⌝ }
+    requires { ⌜ (GoodImage (now image)) × (Seated (now memory) i) × (closed (peerAt (now memory) i .stream) ≡ false) ⌝ }
     ensures { λ r. ⌜ Did (stored (offeredTo tails (now (image .entry)) (stateOf (now (memory .entry))) i (peerAt (now (memory .entry)) i) (offer tails (peerAt (now (memory .entry)) i .stream) (now (bytes .entry))))) r (now (memory .exit)) ⌝ }
 {
     let a = feed_at(memory, i, bytes);
@@ -146,10 +137,10 @@ pub fn piece(image: &[u8], memory: &mut [u8], peer: u32, bytes: &[u8]) -> Taken
 {
     let i = slots::find(memory, peer, 0);
     if i == 16 {
-        return refused(30);
+        return no_piece(30);
     }
     if is_closed_at(memory, i) {
-        return refused(40);
+        return no_piece(40);
     }
     piece_at(image, memory, i, bytes)
 }

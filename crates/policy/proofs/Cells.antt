@@ -1,16 +1,14 @@
--- Names in cells: a law for each way through the search of them, and what a cell written down says. Assumes nothing.
+-- Names in cells: a law for each way through the search of them, and what the bus's cell says. Assumes nothing.
 use mathlib.Core.Path.{_≡_, refl, _∙_}
 use mathlib.Core.Bool.{Bool, true, false}
-use mathlib.Core.List.{List, [], _∷_, _++_}
+use mathlib.Core.List.{List, [], _∷_}
 use Prim.Native.Nat.{ℕ, suc, _+_, _-_, _*_, _/_, _≤_, _<_}
 use native.Mathlib.Omega.{arith}
-use lib.ListN.{length, take, drop, getD, replicate, length-append}
-use lib.Seq.{take-append-le, take-take, take-at, drop-at}
+use lib.ListN.{length, take, drop, getD}
 use Rattle.wire.specs.Bytes.{same, pad}
 use Rattle.wire.proofs.From.{first, skip}
-use Rattle.wire.proofs.Texts.{pad-length}
 use Rattle.wire.proofs.Words.{cut-at}
-use Rattle.policy.specs.Names.{nameOf, cells, namesIn, cellOf, busName, owns}
+use Rattle.policy.specs.Names.{nameOf, cellNames, namesIn, cellOf, busName, owns}
 
 -- the part that the code cuts out of a cell at `at` is the cell's name
 pub cell-name : (s : List ℕ) (at n : ℕ) → n ≡ getD s at 0 → take (at + 1 + n - (at + 1)) (drop (at + 1) s) ≡ nameOf (drop at s)
@@ -18,7 +16,7 @@ cell-name s at n g = cut-at (at + 1) n s ∙ rw (g, first s at, skip s at 1 (at 
 
 -- the name is one of those if it is one of those from cell j on
 pub record Among (names name : List ℕ) (j : ℕ) : Type 0 where
-  pub left : owns (namesIn names) name ≡ owns (cells (length names / 256 - j) (drop (256 * j) names)) name
+  pub left : owns (namesIn names) name ≡ owns (cellNames (length names / 256 - j) (drop (256 * j) names)) name
 
 pub among-begins : {names name : List ℕ} → Among names name 0
 unfolding namesIn
@@ -28,8 +26,8 @@ module _ {names name : List ℕ} {j : ℕ} (v : Among names name j) where
   -- cell j, and those behind it
   split : j < length names / 256
       → owns (namesIn names) name
-      ≡ owns (nameOf (drop (256 * j) names) ∷ cells (length names / 256 - (j + 1)) (drop (256 * (j + 1)) names)) name
-  unfolding cells
+      ≡ owns (nameOf (drop (256 * j) names) ∷ cellNames (length names / 256 - (j + 1)) (drop (256 * (j + 1)) names)) name
+  unfolding cellNames
   split h =
       let e : length names / 256 - j ≡ suc (length names / 256 - (j + 1)) = omega arith in
       v .left ∙ rw (e, skip names (256 * j) 256 (256 * (j + 1)) (omega arith))
@@ -43,34 +41,10 @@ module _ {names name : List ℕ} {j : ℕ} (v : Among names name j) where
   among-more h e t = record { left = split h ∙ rw (← e, t) }
 
   pub among-ends : length names / 256 ≤ j → owns (namesIn names) name ≡ false
-  unfolding owns cells
+  unfolding owns cellNames
   among-ends h = let e : length names / 256 - j ≡ 0 = omega arith in v .left ∙ rw e
-
--- ---- cells written down
-
-pub names-none : namesIn [] ≡ []
-unfolding namesIn cells
-names-none = refl
-
-module _ (x s : List ℕ) (h : length x ≤ 255) where
-  cell-taken : take (length x) (pad 255 x ++ s) ≡ x
-  unfolding pad
-  cell-taken =
-      take-append-le (length x) (pad 255 x) s (rw pad-length h)
-      ∙ take-take (length x) 255 (x ++ replicate 255 0) h
-      ∙ take-at x (replicate 255 0) (length x) refl
-
-  cell-dropped : drop 255 (pad 255 x ++ s) ≡ s
-  cell-dropped = drop-at (pad 255 x) s 255 (pad-length 255 x)
-
-  -- a region that begins with the cell of a name
-  pub names-cell : namesIn (cellOf x ++ s) ≡ x ∷ namesIn s
-  unfolding namesIn cells cellOf
-  names-cell =
-      let e : length (cellOf x ++ s) / 256 ≡ suc (length s / 256) = simp (length-append, pad-length) (omega arith) in
-      rw (e, cell-taken, cell-dropped)
 
 -- the bus owns just its own name
 pub bus-names : namesIn (cellOf busName) ≡ busName ∷ []
-unfolding namesIn cells cellOf pad
+unfolding namesIn cellNames cellOf pad
 bus-names = refl

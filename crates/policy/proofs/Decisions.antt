@@ -10,7 +10,7 @@ use borrow.Author.Needs.{needs}
 use Rattle.image.specs.Image.{connectCount, connectOffset, ownCount, ownOffset}
 use Rattle.image.specs.Rules.{connectAt, ownAt}
 use Rattle.image.specs.Contracts.{GoodImage}
-use Rattle.image.proofs.RuleHolds.{connect-holds, own-holds}
+use Rattle.image.proofs.RuleHolds.{connect-context, own-holds}
 use Rattle.policy.specs.Matching.{connectFits, ownFits}
 use Rattle.policy.specs.Contracts.{OwnAt}
 use Rattle.policy.specs.Decisions.{connectDecides, mayConnect, ownDecides, mayOwn}
@@ -26,7 +26,7 @@ Connecting image uid gids base end context at =
 module _ {image : List ℕ} (uid : Uid) (gids : List ℕ) {base : ℕ} where
   pub connect-begins : GoodImage image → base ≡ connectOffset image → {n : ℕ} → n ≡ connectCount image
       → Connecting image uid gids base (base + 8 * n) 3 (base + 8 * n)
-  connect-begins g s e = section-begins g s (omega arith) (omega (arith, g .header .connects)) (λ j l. connect-holds g j l .context) (rw e)
+  connect-begins g s e = section-begins g s (omega arith) (omega (arith, g .header .connects)) (connect-context g) (rw e)
 
   module _ {end context at : ℕ} (u : Connecting image uid gids base end context at) where
     pub connect-over : at ≡ base → context ≡ 0 → false ≡ mayConnect image uid gids
@@ -54,7 +54,7 @@ own-at g k l =
 module _ {image : List ℕ} (uid : Uid) (gids name : List ℕ) {base : ℕ} where
   pub own-begins : GoodImage image → base ≡ ownOffset image → {n : ℕ} → n ≡ ownCount image
       → Owning image uid gids name base (base + 16 * n) 3 (base + 16 * n)
-  own-begins g s e = section-begins g s (omega arith) (omega (arith, g .header .owns)) (λ j l. own-holds g j l .subject .bounded) (rw e)
+  own-begins g s e = section-begins g s (omega arith) (omega (arith, g .header .owns)) (λ j l. own-holds g j l .context) (rw e)
 
   module _ {end context at : ℕ} (u : Owning image uid gids name base end context at) where
     pub own-over : at ≡ base → context ≡ 0 → false ≡ mayOwn image uid gids name

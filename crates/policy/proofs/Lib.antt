@@ -1,5 +1,4 @@
 pub mod Precedence
-pub mod Asking
 pub mod Cells
 mod Subjects
 mod Fits

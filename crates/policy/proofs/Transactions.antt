@@ -29,10 +29,10 @@ transaction-at {image} g k l =
     let h = transaction-holds g k l in
     record {
       room = h .place;
-      name = record { header = g .header .low; room = omega (arith, h .place); inside = h .name .inside };
-      path = record { header = g .header .low; room = omega (arith, h .place); inside = h .path .inside };
-      interface = record { header = g .header .low; room = omega (arith, h .place); inside = h .interface .inside };
-      member = record { header = g .header .low; room = omega (arith, h .place); inside = h .member .inside };
+      name = record { header = g .header .low; room = omega (arith, h .place); inside = h .name };
+      path = record { header = g .header .low; room = omega (arith, h .place); inside = h .path };
+      interface = record { header = g .header .low; room = omega (arith, h .place); inside = h .interface };
+      member = record { header = g .header .low; room = omega (arith, h .place); inside = h .member };
     }
 
 -- the decision is left to the rules below a context and a place
@@ -60,7 +60,7 @@ module _ {image : List ℕ} (direction : ℕ) (uid : Uid) (gids names : List ℕ
         small = f;
         section =
             section-begins (a .good) s (omega arith) (omega (arith, a .good .header .transactions))
-            (λ j l. transaction-holds (a .good) j l .subject .bounded) (rw e);
+            (λ j l. transaction-holds (a .good) j l .context) (rw e);
       }
 
 module _ {image : List ℕ} {direction : ℕ} {uid : Uid} {gids names head : List ℕ} {m : Header} {base end context at : ℕ}

@@ -1,21 +1,22 @@
 -- Owned names as a region of bytes: cells of 256 bytes in a row, each a length byte, the name, and zeros. Assumes nothing: these are definitions.
-use mathlib.Core.Bool.{Bool, false, _||_}
+use mathlib.Core.Bool.{Bool}
 use mathlib.Core.List.{List, [], _∷_}
 use Prim.Native.Nat.{ℕ, zero, suc, _/_}
 use lib.ListN.{length, take, drop}
 use Rattle.wire.specs.Bytes.{bytes, front, same, pad}
+use Rattle.wire.specs.Lists.{any}
 
 -- the name of the cell in front
 abbrev pub nameOf : List ℕ → List ℕ
 nameOf s = take (front s) (drop 1 s)
 
 -- the names of the first n cells
-unfoldable pub cells : ℕ → List ℕ → List (List ℕ)
-cells zero s = []
-cells (suc n) s = nameOf s ∷ cells n (drop 256 s)
+unfoldable pub cellNames : ℕ → List ℕ → List (List ℕ)
+cellNames zero s = []
+cellNames (suc n) s = nameOf s ∷ cellNames n (drop 256 s)
 
 unfoldable pub namesIn : List ℕ → List (List ℕ)
-namesIn s = cells (length s / 256) s
+namesIn s = cellNames (length s / 256) s
 
 -- the cell of a name, which has at most 255 bytes
 unfoldable pub cellOf : List ℕ → List ℕ
@@ -27,5 +28,4 @@ busName = bytes "org.freedesktop.DBus"
 
 -- the name is one of those
 unfoldable pub owns : List (List ℕ) → List ℕ → Bool
-owns [] name = false
-owns (x ∷ xs) name = same x name || owns xs name
+owns names name = any (λ x. same x name) names

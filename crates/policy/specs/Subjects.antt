@@ -1,8 +1,9 @@
 -- Users and groups: "User ids and group ids are both 32-bit and must never be taken for each other." Assumes nothing: these are definitions.
-use mathlib.Core.Bool.{Bool, true, false, cond, _||_}
-use mathlib.Core.List.{List, [], _∷_}
+use mathlib.Core.Bool.{Bool, true, cond}
+use mathlib.Core.List.{List}
 use Prim.Native.Nat.{ℕ}
 use lib.Dec.{eqb}
+use Rattle.wire.specs.Lists.{any}
 use Rattle.policy.specs.declared.Uid.{Uid}
 use Rattle.policy.specs.declared.Gid.{Gid}
 
@@ -11,8 +12,7 @@ sameUser a b = eqb (a .0) (b .0)
 
 -- the group is one of a peer's gids
 unfoldable pub inGroups : List ℕ → Gid → Bool
-inGroups [] g = false
-inGroups (x ∷ gids) g = eqb x (g .0) || inGroups gids g
+inGroups gids g = any (λ x. eqb x (g .0)) gids
 
 -- "The subject is a gid for 1, a uid for 2, else 0": contexts 0 and 3 are everybody's
 unfoldable pub subjectFits : ℕ → ℕ → Uid → List ℕ → Bool

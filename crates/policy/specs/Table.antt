@@ -1,80 +1,50 @@
 -- Worked examples of the decisions, as a table: T8, T9 and T12 of 01's bench table, and each matcher. Assumes nothing: these are definitions.
-use mathlib.Core.Bool.{Bool, true, false, _&&_, Bool·beq}
+use mathlib.Core.Bool.{Bool, true, false}
 use mathlib.Core.List.{List, [], _∷_, _++_}
 use mathlib.Core.Option.{none, some}
-use Prim.Native.Nat.{ℕ, _+_, _*_}
-use lib.ListN.{length}
+use Prim.Native.Nat.{ℕ}
 use Rattle.wire.specs.Bytes.{bytes}
-use Rattle.wire.specs.Words.{wordBytes}
+use Rattle.image.specs.Table.{imageOf, head, cites}
 use Rattle.policy.specs.Matching.{Message}
 use Rattle.policy.specs.Decisions.{mayConnect, mayOwn, mayTransact, send, receive}
 
 -- ---- images
 
--- a string's offset and length
-abbrev pub Cite : Type 0
-Cite = ℕ × ℕ
-
-abbrev pub any : Cite
-any = (0, 0)
-
 abbrev pub strings : List ℕ
 strings = bytes "org.fooorg.a.xorg.b.y/pi.fM"
 
--- "org.foo", "org.a.x", "org.b.y", "/p", "i.f", "M"
-abbrev pub foo : Cite
-foo = (0, 7)
+abbrev pub any : List ℕ
+any = cites 0 0
 
-abbrev pub ax : Cite
-ax = (7, 7)
+-- "org.foo", "org.a.x", "org.b.y"; "/p" stands at 21, "i.f" at 23 and "M" at 26
+abbrev pub foo : List ℕ
+foo = cites 0 7
 
-abbrev pub by : Cite
-by = (14, 7)
+abbrev pub ax : List ℕ
+ax = cites 7 7
 
-abbrev pub cited : Cite → List ℕ
-cited c = wordBytes (c .0) ++ wordBytes (c .1)
-
-abbrev pub joined : List (List ℕ) → List ℕ
-joined [] = []
-joined (r ∷ rs) = r ++ joined rs
-
-abbrev pub imageOf : List (List ℕ) → List (List ℕ) → List (List ℕ) → List ℕ
-imageOf connects owns transactions =
-    let c = length connects in
-    let o = length owns in
-    let t = length transactions in
-    wordBytes (32 + 8 * c + 16 * o + 40 * t + length strings)
-    ++ wordBytes c
-    ++ wordBytes 32
-    ++ wordBytes o
-    ++ wordBytes (32 + 8 * c)
-    ++ wordBytes t
-    ++ wordBytes (32 + 8 * c + 16 * o)
-    ++ wordBytes (32 + 8 * c + 16 * o + 40 * t)
-    ++ joined connects
-    ++ joined owns
-    ++ joined transactions
-    ++ strings
+abbrev pub by : List ℕ
+by = cites 14 7
 
 -- a context, a verdict, a matcher and an id
 abbrev pub connect : ℕ → ℕ → ℕ → ℕ → List ℕ
-connect context verdict matcher id = context ∷ verdict ∷ matcher ∷ 0 ∷ wordBytes id
+connect context verdict matcher id = head context verdict matcher 0 id
 
 -- a context, a verdict, a matcher, a subject and a name
-abbrev pub own : ℕ → ℕ → ℕ → ℕ → Cite → List ℕ
-own context verdict matcher subject name = context ∷ verdict ∷ matcher ∷ 0 ∷ wordBytes subject ++ cited name
+abbrev pub own : ℕ → ℕ → ℕ → ℕ → List ℕ → List ℕ
+own context verdict matcher subject name = head context verdict matcher 0 subject ++ name
 
 -- a context, a verdict, a direction, a type, a subject and a name; then path, interface and member
-abbrev pub rule : ℕ → ℕ → ℕ → ℕ → ℕ → Cite → Cite → Cite → Cite → List ℕ
+abbrev pub rule : ℕ → ℕ → ℕ → ℕ → ℕ → List ℕ → List ℕ → List ℕ → List ℕ → List ℕ
 rule context verdict direction type subject name path interface member =
-    context ∷ verdict ∷ direction ∷ type ∷ wordBytes subject ++ cited name ++ cited path ++ cited interface ++ cited member
+    head context verdict direction type subject ++ name ++ path ++ interface ++ member
 
 -- a rule for sending anything to a name
-abbrev pub to : ℕ → ℕ → ℕ → Cite → List ℕ
+abbrev pub to : ℕ → ℕ → ℕ → List ℕ → List ℕ
 to context verdict subject name = rule context verdict send 0 subject name any any any
 
 -- a default send allow of the parts
-abbrev pub of : ℕ → Cite → Cite → Cite → List ℕ
+abbrev pub of : ℕ → List ℕ → List ℕ → List ℕ → List ℕ
 of type path interface member = rule 0 1 send type 0 any path interface member
 
 -- ---- questions, asked for uid 7 with the gids 5 and 6
@@ -88,14 +58,14 @@ bare = record { kind = 1; path = some (bytes "/p"); interface = none; member = s
 abbrev pub gids : List ℕ
 gids = 5 ∷ 6 ∷ []
 
-abbrev pub connects : List (List ℕ) → Bool
-connects rules = mayConnect (imageOf rules [] []) (record { 0 = 7 }) gids
+abbrev pub connects : List ℕ → Bool
+connects rules = mayConnect (imageOf rules [] [] strings) (record { 0 = 7 }) gids
 
-abbrev pub owns : List (List ℕ) → List ℕ → Bool
-owns rules name = mayOwn (imageOf [] rules []) (record { 0 = 7 }) gids name
+abbrev pub owns : List ℕ → List ℕ → Bool
+owns rules name = mayOwn (imageOf [] rules [] strings) (record { 0 = 7 }) gids name
 
-abbrev pub passes : List (List ℕ) → ℕ → List (List ℕ) → Message → Bool
-passes rules direction names m = mayTransact (imageOf [] [] rules) direction (record { 0 = 7 }) gids names m
+abbrev pub passes : List ℕ → ℕ → List (List ℕ) → Message → Bool
+passes rules direction names m = mayTransact (imageOf [] [] rules strings) direction (record { 0 = 7 }) gids names m
 
 -- a decision, and what it is to be
 abbrev pub Line : Type 0
@@ -104,45 +74,40 @@ Line = Bool × Bool
 abbrev pub table : List Line
 table =
     -- T8: mandatory deny before user allow
-    (passes (to 3 0 0 any ∷ to 2 1 7 any ∷ []) send [] call, false)
-    ∷ (passes (to 2 1 7 any ∷ to 3 0 0 any ∷ []) send [] call, false)
+    (passes (to 3 0 0 any ++ to 2 1 7 any) send [] call, false)
+    ∷ (passes (to 2 1 7 any ++ to 3 0 0 any) send [] call, false)
     -- T9: a prefix, through an own rule
-    ∷ (owns (own 0 1 2 0 foo ∷ []) (bytes "org.foo"), true)
-    ∷ (owns (own 0 1 2 0 foo ∷ []) (bytes "org.foo.bar"), true)
-    ∷ (owns (own 0 1 2 0 foo ∷ []) (bytes "org.foobar"), false)
+    ∷ (owns (own 0 1 2 0 foo) (bytes "org.foo"), true)
+    ∷ (owns (own 0 1 2 0 foo) (bytes "org.foo.bar"), true)
+    ∷ (owns (own 0 1 2 0 foo) (bytes "org.foobar"), false)
     -- T12: default allow to one owned name, then deny to the other
-    ∷ (passes (to 0 1 0 ax ∷ to 0 0 0 by ∷ []) send (bytes "org.a.x" ∷ bytes "org.b.y" ∷ []) call, false)
-    ∷ (passes (to 0 0 0 by ∷ to 0 1 0 ax ∷ []) send (bytes "org.a.x" ∷ bytes "org.b.y" ∷ []) call, true)
-    ∷ (passes (to 0 1 0 ax ∷ to 0 0 0 by ∷ []) send (bytes "org.a.x" ∷ []) call, true)
+    ∷ (passes (to 0 1 0 ax ++ to 0 0 0 by) send (bytes "org.a.x" ∷ bytes "org.b.y" ∷ []) call, false)
+    ∷ (passes (to 0 0 0 by ++ to 0 1 0 ax) send (bytes "org.a.x" ∷ bytes "org.b.y" ∷ []) call, true)
+    ∷ (passes (to 0 1 0 ax ++ to 0 0 0 by) send (bytes "org.a.x" ∷ []) call, true)
     -- none means deny; of one context the later rule
     ∷ (connects [], false)
     ∷ (owns [] (bytes "org.foo"), false)
     ∷ (passes [] send [] call, false)
-    ∷ (connects (connect 0 1 0 0 ∷ connect 0 0 0 0 ∷ []), false)
-    ∷ (connects (connect 3 1 0 0 ∷ connect 0 0 0 0 ∷ []), true)
+    ∷ (connects (connect 0 1 0 0 ++ connect 0 0 0 0), false)
+    ∷ (connects (connect 3 1 0 0 ++ connect 0 0 0 0), true)
     -- any, a uid, a gid
-    ∷ (connects (connect 0 1 1 7 ∷ []), true)
-    ∷ (connects (connect 0 1 1 5 ∷ []), false)
-    ∷ (connects (connect 0 1 2 6 ∷ []), true)
-    ∷ (connects (connect 0 1 2 7 ∷ []), false)
+    ∷ (connects (connect 0 1 1 7), true)
+    ∷ (connects (connect 0 1 1 5), false)
+    ∷ (connects (connect 0 1 2 6), true)
+    ∷ (connects (connect 0 1 2 7), false)
     -- a name that is equal, and subjects
-    ∷ (owns (own 0 1 1 0 foo ∷ []) (bytes "org.foo"), true)
-    ∷ (owns (own 0 1 1 0 foo ∷ []) (bytes "org.foo.bar"), false)
-    ∷ (owns (own 1 1 0 5 any ∷ []) (bytes "org.foo"), true)
-    ∷ (owns (own 1 1 0 7 any ∷ []) (bytes "org.foo"), false)
-    ∷ (owns (own 2 1 0 7 any ∷ []) (bytes "org.foo"), true)
-    ∷ (owns (own 2 1 0 5 any ∷ []) (bytes "org.foo"), false)
+    ∷ (owns (own 0 1 1 0 foo) (bytes "org.foo"), true)
+    ∷ (owns (own 0 1 1 0 foo) (bytes "org.foo.bar"), false)
+    ∷ (owns (own 1 1 0 5 any) (bytes "org.foo"), true)
+    ∷ (owns (own 1 1 0 7 any) (bytes "org.foo"), false)
+    ∷ (owns (own 2 1 0 7 any) (bytes "org.foo"), true)
+    ∷ (owns (own 2 1 0 5 any) (bytes "org.foo"), false)
     -- direction, type, path, interface, member; a literal against an absent field
-    ∷ (passes (to 0 1 0 any ∷ []) receive [] call, false)
-    ∷ (passes (of 4 any any any ∷ []) send [] call, false)
-    ∷ (passes (of 1 (21, 2) (23, 3) (26, 1) ∷ []) send [] call, true)
-    ∷ (passes (of 1 (21, 1) any any ∷ []) send [] call, false)
-    ∷ (passes (of 1 any any (26, 1) ∷ []) send [] bare, true)
-    ∷ (passes (of 1 any (23, 3) any ∷ []) send [] bare, false)
-    ∷ (passes (to 0 1 0 foo ∷ []) send [] call, false)
+    ∷ (passes (to 0 1 0 any) receive [] call, false)
+    ∷ (passes (of 4 any any any) send [] call, false)
+    ∷ (passes (of 1 (cites 21 2) (cites 23 3) (cites 26 1)) send [] call, true)
+    ∷ (passes (of 1 (cites 21 1) any any) send [] call, false)
+    ∷ (passes (of 1 any any (cites 26 1)) send [] bare, true)
+    ∷ (passes (of 1 any (cites 23 3) any) send [] bare, false)
+    ∷ (passes (to 0 1 0 foo) send [] call, false)
     ∷ []
-
--- each decision of a table is what it is to be
-abbrev pub agrees : List Line → Bool
-agrees [] = true
-agrees (l ∷ ls) = Bool·beq (l .0) (l .1) && agrees ls

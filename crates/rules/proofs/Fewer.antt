@@ -1,14 +1,13 @@
 -- A list with some of its things gone and the later ones moved down. Assumes nothing.
+use mathlib.Core.Path.{_≡_, refl}
 use mathlib.Core.Bool.{Bool, true, false, cond}
 use mathlib.Core.List.{List, [], _∷_}
 use Prim.Native.Nat.{ℕ, _≤_}
 use native.Mathlib.Omega.{arith}
 use lib.Dec.{eqb}
 use lib.ListN.{length}
-use Rattle.wire.specs.Bytes.{same}
-use Rattle.rules.specs.State.{Pending}
-use Rattle.rules.specs.Pending.{isCall, ended, endedAll}
-use Rattle.rules.specs.Calls.{released}
+use Rattle.rules.specs.State.{Pending, dropFirst}
+use Rattle.rules.specs.Pending.{endedAll}
 
 pub data Fewer {A : Type 0} : List A → List A → Type 0 where
   none : Fewer [] []
@@ -24,30 +23,22 @@ fewer-length none = omega arith
 fewer-length (skip f) = let h = fewer-length f in omega arith
 fewer-length (keep f) = let h = fewer-length f in omega arith
 
--- a name released, a wait ended, and all the waits for a callee
-pub released-fewer : (name : List ℕ) (xs : List (List ℕ)) → Fewer xs (released name xs)
-unfolding released
-released-fewer name [] = none
-released-fewer name (x ∷ xs) = go (same x name) (released-fewer name xs)
+-- what drops the things that pass a test, where `rest` is what it makes of those after one
+dropped-fewer : {A : Type 0} (t : A → Bool) (out rest : List A → List A) → out [] ≡ []
+    → ((x : A) (xs : List A) → out (x ∷ xs) ≡ cond (t x) (rest xs) (x ∷ out xs)) → ((xs : List A) → Fewer xs (out xs) → Fewer xs (rest xs))
+    → (xs : List A) → Fewer xs (out xs)
+dropped-fewer t out rest e s k [] = rw e none
+dropped-fewer t out rest e s k (x ∷ xs) = rw (s x xs) (go (t x) (dropped-fewer t out rest e s k xs))
   where
-    go : (b : Bool) → Fewer xs (released name xs) → Fewer (x ∷ xs) (cond b xs (x ∷ released name xs))
-    go true f = skip (all-kept xs)
+    go : (b : Bool) → Fewer xs (out xs) → Fewer (x ∷ xs) (cond b (rest xs) (x ∷ out xs))
+    go true f = skip (k xs f)
     go false f = keep f
 
-pub ended-fewer : (callee serial : ℕ) (ws : List Pending) → Fewer ws (ended callee serial ws)
-unfolding ended
-ended-fewer callee serial [] = none
-ended-fewer callee serial (w ∷ ws) = go (isCall callee serial w) (ended-fewer callee serial ws)
-  where
-    go : (b : Bool) → Fewer ws (ended callee serial ws) → Fewer (w ∷ ws) (cond b ws (w ∷ ended callee serial ws))
-    go true f = skip (all-kept ws)
-    go false f = keep f
+-- the first that passes a test taken out, and all the waits for a callee
+pub drop-fewer : {A : Type 0} (t : A → Bool) (xs : List A) → Fewer xs (dropFirst t xs)
+unfolding dropFirst
+drop-fewer t xs = dropped-fewer t (dropFirst t) (λ l. l) refl (λ x l. refl) (λ l f. all-kept l) xs
 
 pub ended-all-fewer : (callee : ℕ) (ws : List Pending) → Fewer ws (endedAll callee ws)
 unfolding endedAll
-ended-all-fewer callee [] = none
-ended-all-fewer callee (w ∷ ws) = go (eqb (w .callee) callee) (ended-all-fewer callee ws)
-  where
-    go : (b : Bool) → Fewer ws (endedAll callee ws) → Fewer (w ∷ ws) (cond b (endedAll callee ws) (w ∷ endedAll callee ws))
-    go true f = skip f
-    go false f = keep f
+ended-all-fewer callee ws = dropped-fewer (λ w. eqb (w .callee) callee) (endedAll callee) (endedAll callee) refl (λ w l. refl) (λ l f. f) ws

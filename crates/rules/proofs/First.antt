@@ -1,11 +1,14 @@
 -- The first slot that passes a test. Assumes nothing.
 use mathlib.Core.Path.{_≡_, refl, sym, ap, _∙_}
-use mathlib.Core.Bool.{Bool, true, false, cond}
+use mathlib.Core.Bool.{Bool, true, false, cond, _||_}
 use mathlib.Core.List.{List, [], _∷_}
 use Prim.Native.Nat.{ℕ, zero, suc, _<_}
 use native.Mathlib.Omega.{arith}
 use native.Mathlib.Decide.{decLt}
+use lib.Dec.{ltb, leb·suc-suc}
 use lib.ListN.{length, getD, set, List·getD-eq-default}
+use borrow.Author.Tests.{lt-ltb}
+use Rattle.wire.specs.Lists.{any}
 use Rattle.rules.specs.State.{Slot, free, peer, Peer, isFree, firstBy}
 use Rattle.rules.proofs.Tests.{clash}
 
@@ -19,6 +22,16 @@ first-passes t (x ∷ l) d h = go (t x) refl h (first-passes t l d)
         → t (getD (x ∷ l) (cond b 0 (suc (firstBy t l))) d) ≡ true
     go true e k f = e
     go false e k f = f (omega arith)
+
+-- one does exactly where it is one of the list
+pub first-any : {A : Type 0} (t : A → Bool) (l : List A) → any t l ≡ ltb (firstBy t l) (length l)
+unfolding firstBy
+first-any t [] = refl
+first-any t (x ∷ l) = go (t x) (first-any t l)
+  where
+    go : (b : Bool) → any t l ≡ ltb (firstBy t l) (length l) → b || any t l ≡ ltb (cond b 0 (suc (firstBy t l))) (suc (length l))
+    go true e = sym (lt-ltb 0 (suc (length l)) (omega arith))
+    go false e = e ∙ sym (leb·suc-suc (suc (firstBy t l)) (length l))
 
 -- it stays where one is put that passes as the one before it did
 pub first-set : {A : Type 0} (t : A → Bool) (l : List A) (i : ℕ) (x d : A) → t x ≡ t (getD l i d) → firstBy t (set l i x) ≡ firstBy t l

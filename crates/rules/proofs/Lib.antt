@@ -2,6 +2,7 @@ pub mod Mask
 pub mod Tests
 pub mod First
 pub mod Fewer
+pub mod Any
 pub mod Waits
 pub mod Replies
 pub mod View

@@ -1,14 +1,14 @@
 -- The mask of a broadcast's receivers: the language's count of ones is the count of the slots reached, and the mask has a bit for each slot.
 -- Assumes nothing.
-use mathlib.Core.Path.{_≡_, refl, sym, ap, ap₂, _∙_}
+use mathlib.Core.Path.{_≡_, refl, ap, ap₂, _∙_}
 use mathlib.Core.Bool.{Bool, true, false}
 use mathlib.Core.List.{List, [], _∷_}
-use Prim.Native.Nat.{ℕ, zero, suc, _+_, _-_, _*_, _/_, _%_, _^_, _≤_, _<_}
-use native.Mathlib.Nat.{pow-suc, mul-comm}
+use Prim.Native.Nat.{ℕ, _+_, _-_, _*_, _/_, _%_, _^_, _≤_, _<_}
+use native.Mathlib.Nat.{pow-suc}
 use native.Mathlib.Numerals.{add-one}
 use native.Mathlib.Omega.{arith}
 use lib.Count.{ones, ones-step}
-use lib.ListN.{length, take, drop, getD, length-drop, drop-of-length-le}
+use lib.ListN.{length, drop, getD, length-drop, drop-of-length-le}
 use lib.Seq.{drop-cons}
 use Rattle.rules.specs.Judge.{bit, maskOf, countOf}
 
@@ -39,15 +39,8 @@ mask-small (b ∷ bits) =
     let h = bit-room b (maskOf bits) (2 ^ length bits) (mask-small bits) in
     omega (arith, pow-suc 2 (length bits))
 
-pub count-room : (bits : List Bool) → countOf bits ≤ length bits
-unfolding countOf
-count-room [] = omega arith
-count-room (true ∷ bits) = let h = count-room bits in omega arith
-count-room (false ∷ bits) = let h = count-room bits in omega arith
+-- ---- as a loop makes it, from the last slot down: the slots from i on
 
--- ---- as a loop makes it
-
--- from the last slot down: the slots from i on
 pub mask-from : (bits : List Bool) (i : ℕ) → i < length bits → maskOf (drop i bits) ≡ bit (getD bits i false) + 2 * maskOf (drop (i + 1) bits)
 unfolding maskOf
 mask-from bits i h = rw (add-one, drop-cons bits i false h)
@@ -58,19 +51,3 @@ mask-past bits i h = rw (drop-of-length-le bits h)
 
 pub mask-room : (bits : List Bool) (i : ℕ) → maskOf (drop i bits) < 2 ^ (length bits - i)
 mask-room bits i = rw (← length-drop i bits) (mask-small (drop i bits))
-
--- from the first slot up: the slots below i
-bit-up : (b c : Bool) (m k : ℕ) → bit c + 2 * (m + bit b * k) ≡ bit c + 2 * m + bit b * (2 * k)
-bit-up true c m k = omega arith
-bit-up false c m k = omega arith
-
-mask-suc : (bits : List Bool) (i : ℕ) → i < length bits → maskOf (take (suc i) bits) ≡ maskOf (take i bits) + bit (getD bits i false) * 2 ^ i
-unfolding maskOf
-mask-suc [] i h = absurd (omega arith)
-mask-suc (b ∷ bits) zero h = omega arith
-mask-suc (b ∷ bits) (suc i) h =
-    ap (λ (m : ℕ). bit b + 2 * m) (mask-suc bits i (omega arith)) ∙ bit-up (getD bits i false) b (maskOf (take i bits)) (2 ^ i)
-    ∙ ap (λ (k : ℕ). bit b + 2 * maskOf (take i bits) + bit (getD bits i false) * k) (mul-comm 2 (2 ^ i) ∙ sym (pow-suc 2 i))
-
-pub mask-upto : (bits : List Bool) (i : ℕ) → i < length bits → maskOf (take (i + 1) bits) ≡ maskOf (take i bits) + bit (getD bits i false) * 2 ^ i
-mask-upto bits i h = rw add-one (mask-suc bits i h)

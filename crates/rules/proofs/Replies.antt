@@ -2,7 +2,7 @@
 -- Assumes nothing.
 use mathlib.Core.Path.{_≡_, refl, sym, ap, ap₂, _∙_}
 use mathlib.Core.Logic.{_⊎_, inl, inr}
-use mathlib.Core.Bool.{Bool, true, false, cond, _||_, false≢true}
+use mathlib.Core.Bool.{Bool, true, false, cond, false≢true}
 use mathlib.Core.List.{List}
 use mathlib.Core.Option.{Option, none, some}
 use Prim.Native.Nat.{ℕ}
@@ -12,6 +12,8 @@ use lib.ListN.{getD, set, length-set, List·getD-map}
 use lib.Seq.{getD-set-same}
 use borrow.Author.Tests.{eqb-true, le-ltb}
 use Rattle.wire.specs.Bytes.{same}
+use Rattle.header.specs.Codes.{return, error}
+use Rattle.wire.proofs.Texts.{either}
 use Rattle.header.specs.declared.Header.{Header}
 use Rattle.policy.specs.Names.{busName}
 use Rattle.policy.specs.Matching.{fieldOf}
@@ -19,10 +21,9 @@ use Rattle.stream.specs.Stream.{Streams}
 use Rattle.rules.specs.State.{Slot, free, peer, Peer, Pending, State, isPeer, firstBy, withPending}
 use Rattle.rules.specs.Addresses.{Address, absent, bus, slot, unknown, answersTo, found, resolve}
 use Rattle.rules.specs.Pending.{awaits, ended, bereft}
-use Rattle.rules.specs.Judge.{Judged, replyTo, reply, judged}
+use Rattle.rules.specs.Judge.{Judged, replyTo, reply, isReply, judged}
 use Rattle.rules.specs.Calls.{slotAt, disconnectAt, disconnect}
 use Rattle.rules.specs.declared.Receiver.the-variants as to
-use Rattle.rules.proofs.Tests.{either}
 use Rattle.rules.proofs.First.{first-passes, first-set, taken-below}
 use Rattle.rules.proofs.Waits.{okPending, ended-ends, ended-all-ends}
 
@@ -38,16 +39,12 @@ awaited slots callee serial bus = false
 awaited slots callee serial unknown = false
 awaited slots callee serial (slot j) = isWaiting callee serial (getD slots j free)
 
--- "A return or error": 2 or 3
-abbrev pub isReply : Header → Bool
-isReply x = eqb (x .kind) 2 || eqb (x .kind) 3
-
 reply-low : (x : Header) → isReply x ≡ true → ltb 4 (x .kind) ≡ false
-reply-low x r = go (either (eqb (x .kind) 2) (eqb (x .kind) 3) r)
+reply-low x r = go (either (eqb (x .kind) return) (eqb (x .kind) error) r)
   where
-    go : (eqb (x .kind) 2 ≡ true) ⊎ (eqb (x .kind) 3 ≡ true) → ltb 4 (x .kind) ≡ false
-    go (inl e) = le-ltb 4 (x .kind) (omega (arith, eqb-true (x .kind) 2 e))
-    go (inr e) = le-ltb 4 (x .kind) (omega (arith, eqb-true (x .kind) 3 e))
+    go : (eqb (x .kind) return ≡ true) ⊎ (eqb (x .kind) error ≡ true) → ltb 4 (x .kind) ≡ false
+    go (inl e) = le-ltb 4 (x .kind) (omega (arith, eqb-true (x .kind) return e))
+    go (inr e) = le-ltb 4 (x .kind) (omega (arith, eqb-true (x .kind) error e))
 
 module _ {S : Type 0} (image : List ℕ) (s : State S) (i : ℕ) (sender : Peer S) (h : List ℕ) (x : Header) (r : isReply x ≡ true) where
   abbrev pub address : Address

@@ -10,6 +10,8 @@ use Rattle.header.specs.declared.Header.{Header}
 use Rattle.policy.specs.Names.{owns}
 use Rattle.policy.specs.Decisions.{mayConnect, mayOwn}
 use Rattle.stream.specs.Stream.{Verdict, more, broken, whole, Streams, Offer, bump, offer, settled}
+use Rattle.stream.specs.Steps.{follows}
+use Rattle.stream.proofs.Offers.{offer-step}
 use Rattle.rules.specs.State.{Slot, free, peer, Peer, State, isFree, isPeer, firstBy, putSlot, withNames, withStream}
 use Rattle.rules.specs.Addresses.{ownable}
 use Rattle.rules.specs.Pending.{bereft}
@@ -41,33 +43,17 @@ told O o = record { verdict = o .verdict; taken = o .taken; stream = settled O (
 abbrev pub seenOffer : {A B : Type 0} → (A → B) → Offer A → Offer B
 seenOffer f o = record { verdict = o .verdict; taken = o .taken; stream = f (o .stream) }
 
--- an offer by its first byte: t is the stream with that byte, and o the offer of the rest
-abbrev pub ruled : {S : Type 0} → Verdict → S → Offer S → Offer S
-ruled more t o = bump o
-ruled (broken a) t o = record { verdict = broken a; taken = 1; stream = t }
-ruled (whole h x) t o = record { verdict = whole h x; taken = 1; stream = t }
-
-pub offer-cons : {S : Type 0} (O : Streams S) (s : S) (b : ℕ) (p : List ℕ)
-    → offer O s (b ∷ p) ≡ ruled (O .judge (O .push s b)) (O .push s b) (offer O (O .push s b) p)
-unfolding offer
-offer-cons O s b p = go (O .judge (O .push s b)) refl
-  where
-    go : (v : Verdict) → O .judge (O .push s b) ≡ v → offer O s (b ∷ p) ≡ ruled v (O .push s b) (offer O (O .push s b) p)
-    go more e = rw (e, offer)
-    go (broken a) e = rw (e, offer)
-    go (whole h x) e = rw (e, offer)
-
 module _ {A B : Type 0} (OA : Streams A) (OB : Streams B) (f : A → B) (h : Sees OA OB f) where
   pub offer-seen : (s : A) (p : List ℕ) → told OB (offer OB (f s) p) ≡ seenOffer f (told OA (offer OA s p))
   unfolding offer
   offer-seen s [] = refl
   offer-seen s (b ∷ p) =
-      ap (told OB) (offer-cons OB (f s) b p ∙ ap (λ (v : Verdict). ruled v (OB .push (f s) b) (offer OB (OB .push (f s) b) p)) (h .judge s b))
+      ap (told OB) (offer-step OB (f s) b p ∙ ap (λ (v : Verdict). bump (follows v (OB .push (f s) b) (offer OB (OB .push (f s) b) p))) (h .judge s b))
       ∙ go (OA .judge (OA .push s b)) refl (offer-seen (OA .push s b) p)
-      ∙ ap (λ (o : Offer A). seenOffer f (told OA o)) (sym (offer-cons OA s b p))
+      ∙ ap (λ (o : Offer A). seenOffer f (told OA o)) (sym (offer-step OA s b p))
     where
       go : (v : Verdict) → OA .judge (OA .push s b) ≡ v → told OB (offer OB (f (OA .push s b)) p) ≡ seenOffer f (told OA (offer OA (OA .push s b) p))
-          → told OB (ruled v (OB .push (f s) b) (offer OB (OB .push (f s) b) p)) ≡ seenOffer f (told OA (ruled v (OA .push s b) (offer OA (OA .push s b) p)))
+          → told OB (bump (follows v (OB .push (f s) b) (offer OB (OB .push (f s) b) p))) ≡ seenOffer f (told OA (bump (follows v (OA .push s b) (offer OA (OA .push s b) p))))
       go more e ih = ap (λ (t : B). told OB (bump (offer OB t p))) (h .more s b e) ∙ ap bump ih
       go (broken a) e ih = ap (λ (t : B). record { verdict = broken a; taken = 1; stream = t }) (h .broken s b a e)
       go (whole k x) e ih = ap (λ (t : B). record { verdict = whole k x; taken = 1; stream = t }) (h .whole s b k x e)

@@ -1,10 +1,11 @@
 -- The judgement of a whole message never looks at streams: over a state seen through them it is what is seen of the judgement. Assumes nothing.
 use mathlib.Core.Path.{_≡_, refl, _∙_, ap}
-use mathlib.Core.Bool.{Bool, cond, _||_}
+use mathlib.Core.Bool.{Bool, cond}
 use mathlib.Core.List.{List, [], _∷_, _++_}
 use Prim.Native.Nat.{ℕ}
 use lib.Dec.{eqb, ltb, leb}
 use lib.ListN.{length, getD}
+use Rattle.header.specs.Codes.{call}
 use Rattle.header.specs.declared.Header.{Header}
 use Rattle.policy.specs.Names.{busName}
 use Rattle.policy.specs.Matching.{Message, fieldOf, messageOf}
@@ -12,7 +13,7 @@ use Rattle.rules.specs.State.{Slot, free, peer, Peer, State, putSlot, wi
 use Rattle.rules.specs.Addresses.{Address, absent, bus, slot, unknown, resolve}
 use Rattle.rules.specs.Pending.{awaits, ended}
 use Rattle.rules.specs.Judge.{Judged, refused, passed, maySend, mayReceive, toBus, waits, expectsReply, toPeer, reaches, maskOf, countOf, toAll}
-use Rattle.rules.specs.Judge.{replyTo, reply, toSlot, directed, judged}
+use Rattle.rules.specs.Judge.{replyTo, reply, toSlot, directed, isReply, judged}
 use Rattle.rules.specs.declared.Receiver.{Receiver}
 use Rattle.rules.specs.declared.Receiver.the-variants as to
 use Rattle.rules.proofs.View.{chosen, map-over, seenPeer, seenSlot, seen, seenJudged, slot-seen, resolve-seen, put-seen}
@@ -84,7 +85,7 @@ module _ {A B : Type 0} (f : A → B) (image : List ℕ) (s : State A) (sender :
 
   directed-seen : (i : ℕ) (m : Message) (a : Address) → directed image z i sender′ a m x ≡ seenJudged f (directed image s i sender a m x)
   directed-seen i m absent =
-      chosen (seenJudged f) (eqb (x .kind) 1) (toBus image s sender m) (toAll image s sender m) (toBus image z sender′ m) (toAll image z sender′ m)
+      chosen (seenJudged f) (eqb (x .kind) call) (toBus image s sender m) (toAll image s sender m) (toBus image z sender′ m) (toAll image z sender′ m)
       (bus-seen m) (all-seen m)
   directed-seen i m bus = bus-seen m
   directed-seen i m unknown = refl
@@ -96,14 +97,13 @@ module _ {A B : Type 0} (f : A → B) (image : List ℕ) (s : State A) (sender :
     where
       at : Address → Judged B
       at a =
-          cond (ltb 4 (x .kind)) (refused z 20) (cond (eqb (x .kind) 2 || eqb (x .kind) 3) (reply z sender′ a x)
+          cond (ltb 4 (x .kind)) (refused z 20) (cond (isReply x) (reply z sender′ a x)
           (directed image z i sender′ a (messageOf h x) x))
 
-      same-address : (a : Address) → at a ≡ seenJudged f (cond (ltb 4 (x .kind)) (refused s 20) (cond (eqb (x .kind) 2 || eqb (x .kind) 3) (reply s sender a x) (directed image s i sender a (messageOf h x) x)))
+      same-address : (a : Address) → at a ≡ seenJudged f (cond (ltb 4 (x .kind)) (refused s 20) (cond (isReply x) (reply s sender a x) (directed image s i sender a (messageOf h x) x)))
       same-address a =
-          let k = eqb (x .kind) 2 || eqb (x .kind) 3 in
           let m = messageOf h x in
-          chosen (seenJudged f) (ltb 4 (x .kind)) (refused s 20) (cond k (reply s sender a x) (directed image s i sender a m x)) (refused z 20)
-          (cond k (reply z sender′ a x) (directed image z i sender′ a m x)) refl
-          (chosen (seenJudged f) k (reply s sender a x) (directed image s i sender a m x) (reply z sender′ a x) (directed image z i sender′ a m x)
+          chosen (seenJudged f) (ltb 4 (x .kind)) (refused s 20) (cond (isReply x) (reply s sender a x) (directed image s i sender a m x)) (refused z 20)
+          (cond (isReply x) (reply z sender′ a x) (directed image z i sender′ a m x)) refl
+          (chosen (seenJudged f) (isReply x) (reply s sender a x) (directed image s i sender a m x) (reply z sender′ a x) (directed image z i sender′ a m x)
           (reply-seen a) (directed-seen i m a))

@@ -1,14 +1,9 @@
 -- Tests joined, refuted and chosen by. Assumes nothing.
 use mathlib.Core.Path.{_≡_, refl, sym, _∙_}
-use mathlib.Core.Logic.{_⊎_, inl, inr}
 use mathlib.Core.Bool.{Bool, true, false, cond, _||_, false≢true}
 
 pub clash : {b : Bool} → b ≡ true → b ≡ false → ⊥
 clash p q = false≢true (sym q ∙ p)
-
-pub either : (a b : Bool) → a || b ≡ true → (a ≡ true) ⊎ (b ≡ true)
-either true b h = inl refl
-either false b h = inr h
 
 pub or-left : (a b : Bool) → a ≡ true → a || b ≡ true
 or-left a b h = rw h

@@ -1,5 +1,5 @@
 -- States seen as others, their streams through a function: what is found in them and set in them. Assumes nothing.
-use mathlib.Core.Path.{_≡_, refl, ap, ap₂}
+use mathlib.Core.Path.{_≡_, refl, sym, ap, ap₂, _∙_}
 use mathlib.Core.Bool.{Bool, true, false, cond}
 use mathlib.Core.List.{List, [], _∷_, map}
 use mathlib.Core.Option.{Option, none, some}
@@ -11,7 +11,7 @@ use Rattle.rules.specs.State.{Slot, free, peer, Peer, State, isFree, isP
 use Rattle.rules.specs.Addresses.{Address, answersTo, found, resolve}
 use Rattle.rules.specs.Pending.{bereft}
 use Rattle.rules.specs.Judge.{Judged}
-use Rattle.rules.specs.Calls.{Step, isOwner, empty}
+use Rattle.rules.specs.Calls.{Step, isOwner}
 
 -- ---- choices and maps
 
@@ -25,8 +25,7 @@ map-over f t u e [] = refl
 map-over f t u e (x ∷ l) = ap₂ _∷_ (e x) (map-over f t u e l)
 
 pub map-swap : {A B : Type 0} (f : A → B) (g : A → A) (h : B → B) → ((x : A) → h (f x) ≡ f (g x)) → (l : List A) → map h (map f l) ≡ map f (map g l)
-map-swap f g h e [] = refl
-map-swap f g h e (x ∷ l) = ap₂ _∷_ (e x) (map-swap f g h e l)
+map-swap f g h e l = map-over f (λ x. f (g x)) h e l ∙ sym (map-over g (λ x. f (g x)) f (λ x. refl) l)
 
 pub set-over : {A B : Type 0} (f : A → B) (l : List A) (i : ℕ) (x : A) → set (map f l) i (f x) ≡ map f (set l i x)
 set-over f [] i x = refl
@@ -56,9 +55,6 @@ module _ {A B : Type 0} (f : A → B) where
 
   abbrev pub seenStep : {R : Type 0} → Step A R → Step B R
   seenStep s = record { state = seen (s .state); result = s .result }
-
-  pub empty-seen : empty ≡ seen empty
-  empty-seen = refl
 
   -- ---- tests of a slot
 

@@ -1,16 +1,20 @@
 -- A peer's pending calls, as a list: what is good in it by itself, and what one more and some fewer leave. Assumes nothing.
 use mathlib.Core.Path.{_≡_, refl, sym, subst}
 use mathlib.Core.Logic.{_⊎_, inl, inr}
-use mathlib.Core.Bool.{Bool, true, false, cond, not, _&&_, _||_}
+use mathlib.Core.Bool.{Bool, true, false, cond, _&&_}
 use mathlib.Core.List.{List, [], _∷_, _++_}
 use Prim.Native.Nat.{ℕ, _≤_}
-use lib.Dec.{leb, eqb}
-use borrow.Author.Tests.{eq-eqb, eqb-true, le-leb, not-true}
-use Rattle.wire.proofs.Texts.{both-first, both-second}
-use Rattle.rules.specs.State.{Pending}
-use Rattle.rules.specs.Pending.{isCall, awaits, ended, endedAll}
-use Rattle.rules.proofs.Tests.{clash, either, or-left, or-right, or-grow, refute}
-use Rattle.rules.proofs.Fewer.{Fewer, none, skip, keep}
+use lib.Dec.{ltb, leb, eqb}
+use lib.ListN.{length}
+use borrow.Author.Tests.{eq-eqb, eqb-true, le-leb}
+use Rattle.wire.specs.Lists.{distinct}
+use Rattle.wire.proofs.Texts.{both-first, both-second, either}
+use Rattle.rules.specs.State.{Pending, firstBy, dropFirst}
+use Rattle.rules.specs.Pending.{isCall, sameCall, awaits, ended, endedAll}
+use Rattle.rules.proofs.Tests.{clash, or-left, or-right}
+use Rattle.rules.proofs.First.{first-any}
+use Rattle.rules.proofs.Fewer.{Fewer}
+use Rattle.rules.proofs.Any.{any-fewer, first-once, rest-distinct, distinct-snoc}
 
 abbrev pub call : ℕ → ℕ → Pending
 call callee serial = record { callee = callee; serial = serial }
@@ -26,104 +30,51 @@ call-serial c s w h = eqb-true (w .serial) s (both-second (eqb (w .callee) c) (e
 pub call-own : (w : Pending) → isCall (w .callee) (w .serial) w ≡ true
 call-own w = rw (eq-eqb (w .callee) (w .callee) refl, eq-eqb (w .serial) (w .serial) refl)
 
+-- it waits exactly where the search for it ends at one
+pub awaits-first : (c s : ℕ) (ws : List Pending) → awaits c s ws ≡ ltb (firstBy (isCall c s) ws) (length ws)
+unfolding awaits
+awaits-first c s ws = first-any (isCall c s) ws
+
 -- ---- good by themselves
 
 -- serials are not 0, and no call stands twice
-unfoldable pub okPending : List Pending → Bool
-okPending [] = true
-okPending (w ∷ ws) = leb 1 (w .serial) && not (awaits (w .callee) (w .serial) ws) && okPending ws
+abbrev pub hasSerial : Pending → Bool
+hasSerial w = leb 1 (w .serial)
 
-module _ (w : Pending) (ws : List Pending) (e : okPending (w ∷ ws) ≡ true) where
-  first-ok : leb 1 (w .serial) && not (awaits (w .callee) (w .serial) ws) ≡ true
-  unfolding okPending
-  first-ok = both-first (leb 1 (w .serial) && not (awaits (w .callee) (w .serial) ws)) (okPending ws) e
-
-  pub first-serial : leb 1 (w .serial) ≡ true
-  first-serial = both-first (leb 1 (w .serial)) (not (awaits (w .callee) (w .serial) ws)) first-ok
-
-  pub first-once : awaits (w .callee) (w .serial) ws ≡ false
-  first-once = not-true (awaits (w .callee) (w .serial) ws) (both-second (leb 1 (w .serial)) (not (awaits (w .callee) (w .serial) ws)) first-ok)
-
-  pub rest-ok : okPending ws ≡ true
-  unfolding okPending
-  rest-ok = both-second (leb 1 (w .serial) && not (awaits (w .callee) (w .serial) ws)) (okPending ws) e
-
-ok-cons : (w : Pending) (ws : List Pending) → leb 1 (w .serial) ≡ true → awaits (w .callee) (w .serial) ws ≡ false → okPending ws ≡ true
-    → okPending (w ∷ ws) ≡ true
-unfolding okPending
-ok-cons w ws a b c = rw (a, b) c
-
--- ---- one more
-
-pub awaits-snoc : (ws : List Pending) (v : Pending) (c s : ℕ) → awaits c s (ws ++ (v ∷ [])) ≡ true → (awaits c s ws ≡ true) ⊎ (isCall c s v ≡ true)
-unfolding awaits
-awaits-snoc [] v c s h = go (either (isCall c s v) false h)
-  where
-    go : (isCall c s v ≡ true) ⊎ (false ≡ true) → (false ≡ true) ⊎ (isCall c s v ≡ true)
-    go (inl e) = inr e
-    go (inr e) = inl e
-awaits-snoc (w ∷ ws) v c s h = go (either (isCall c s w) (awaits c s (ws ++ (v ∷ []))) h) (awaits-snoc ws v c s)
-  where
-    last : (awaits c s ws ≡ true) ⊎ (isCall c s v ≡ true) → (isCall c s w || awaits c s ws ≡ true) ⊎ (isCall c s v ≡ true)
-    last (inl p) = inl (or-right (isCall c s w) (awaits c s ws) p)
-    last (inr p) = inr p
-
-    go : (isCall c s w ≡ true) ⊎ (awaits c s (ws ++ (v ∷ [])) ≡ true) → (awaits c s (ws ++ (v ∷ [])) ≡ true → (awaits c s ws ≡ true) ⊎ (isCall c s v ≡ true))
-        → (isCall c s w || awaits c s ws ≡ true) ⊎ (isCall c s v ≡ true)
-    go (inl e) ih = inl (or-left (isCall c s w) (awaits c s ws) e)
-    go (inr e) ih = last (ih e)
+abbrev pub okPending : List Pending → Bool
+okPending ws = distinct hasSerial sameCall ws
 
 -- a call waits by its own numbers alone
 turned : (w : Pending) (c s : ℕ) → isCall (w .callee) (w .serial) (call c s) ≡ true → isCall c s w ≡ true
 turned w c s h =
     rw (
       eq-eqb (w .callee) c (sym (call-callee (w .callee) (w .serial) (call c s) h)),
-      eq-eqb (w .serial) s
-          (sym (call-serial (w .callee) (w .serial) (call c s) h)),
+      eq-eqb (w .serial) s (sym (call-serial (w .callee) (w .serial) (call c s) h)),
     )
 
 pub ok-snoc : (ws : List Pending) (c s : ℕ) → okPending ws ≡ true → 1 ≤ s → awaits c s ws ≡ false → okPending (ws ++ (call c s ∷ [])) ≡ true
 unfolding awaits
-ok-snoc [] c s e p n = ok-cons (call c s) [] (le-leb 1 s p) refl e
-ok-snoc (w ∷ ws) c s e p n =
-    ok-cons w (ws ++ (call c s ∷ [])) (first-serial w ws e)
-    (refute (awaits (w .callee) (w .serial) (ws ++ (call c s ∷ []))) (λ h. go (awaits-snoc ws (call c s) (w .callee) (w .serial) h)))
-    (ok-snoc ws c s (rest-ok w ws e) p (refute (awaits c s ws) (λ h. clash (or-right (isCall c s w) (awaits c s ws) h) n)))
-  where
-    go : (awaits (w .callee) (w .serial) ws ≡ true) ⊎ (isCall (w .callee) (w .serial) (call c s) ≡ true) → ⊥
-    go (inl q) = clash q (first-once w ws e)
-    go (inr q) = clash (or-left (isCall c s w) (awaits c s ws) (turned w c s q)) n
-
--- ---- some fewer
+ok-snoc ws c s e p n = distinct-snoc hasSerial sameCall (call c s) (le-leb 1 s p) (λ w h. turned w c s h) ws e n
 
 pub awaits-fewer : {ws vs : List Pending} → Fewer ws vs → (c s : ℕ) → awaits c s vs ≡ true → awaits c s ws ≡ true
 unfolding awaits
-awaits-fewer none c s h = h
-awaits-fewer (skip {x = w} {xs = ws} f) c s h = or-right (isCall c s w) (awaits c s ws) (awaits-fewer f c s h)
-awaits-fewer (keep {x = w} {xs = ws} {ys = vs} f) c s h = or-grow (isCall c s w) (awaits c s vs) (awaits c s ws) (awaits-fewer f c s) h
-
-pub ok-fewer : {ws vs : List Pending} → Fewer ws vs → okPending ws ≡ true → okPending vs ≡ true
-ok-fewer none e = e
-ok-fewer (skip {x = w} {xs = ws} f) e = ok-fewer f (rest-ok w ws e)
-ok-fewer (keep {x = w} {xs = ws} {ys = vs} f) e =
-    ok-cons w vs (first-serial w ws e) (refute (awaits (w .callee) (w .serial) vs) (λ h. clash (awaits-fewer f (w .callee) (w .serial) h) (first-once w ws e)))
-    (ok-fewer f (rest-ok w ws e))
+awaits-fewer f c s h = any-fewer (isCall c s) f h
 
 -- "and ends that wait": it stands once, so that it waits no longer
 pub ended-ends : (c s : ℕ) (ws : List Pending) → okPending ws ≡ true → awaits c s (ended c s ws) ≡ false
-unfolding awaits ended
+unfolding awaits ended dropFirst
 ended-ends c s [] e = refl
-ended-ends c s (w ∷ ws) e = go (isCall c s w) refl (ended-ends c s ws (rest-ok w ws e))
+ended-ends c s (w ∷ ws) e = go (isCall c s w) refl (ended-ends c s ws (rest-distinct hasSerial sameCall w ws e))
   where
     go : (b : Bool) → isCall c s w ≡ b → awaits c s (ended c s ws) ≡ false → awaits c s (cond b ws (w ∷ ended c s ws)) ≡ false
     go true p ih =
         subst (λ (x : ℕ). awaits x s ws ≡ false) (call-callee c s w p)
-        (subst (λ (x : ℕ). awaits (w .callee) x ws ≡ false) (call-serial c s w p) (first-once w ws e))
+        (subst (λ (x : ℕ). awaits (w .callee) x ws ≡ false) (call-serial c s w p) (first-once hasSerial sameCall w ws e))
     go false p ih = rw p ih
 
 -- the other calls still wait
 pub ended-keeps : (c s d r : ℕ) (ws : List Pending) → (isCall c s (call d r) ≡ false) → awaits d r ws ≡ true → awaits d r (ended c s ws) ≡ true
-unfolding awaits ended
+unfolding awaits ended dropFirst
 ended-keeps c s d r [] n h = h
 ended-keeps c s d r (w ∷ ws) n h = go (isCall c s w) refl (either (isCall d r w) (awaits d r ws) h) (ended-keeps c s d r ws n)
   where

@@ -8,7 +8,7 @@ use lib.ListN.{length}
 use Rattle.wire.specs.Bytes.{bytes, same}
 use Rattle.names.specs.Names.{wellKnown}
 use Rattle.policy.specs.Names.{busName, owns}
-use Rattle.rules.specs.State.{Slot, free, peer, Peer, firstBy}
+use Rattle.rules.specs.State.{Slot, free, peer, firstBy}
 
 -- a name that a peer may own: well-known, and not the bus's
 abbrev pub ownable : List ℕ → Bool

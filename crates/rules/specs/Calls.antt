@@ -1,20 +1,18 @@
 -- The guard's calls, as 01 words them, once, over any streams. Each is asked with a good image and good memory: 50 and 51 come before.
 -- Assumes nothing: these are definitions.
-use mathlib.Core.Bool.{Bool, true, false, cond}
+use mathlib.Core.Bool.{Bool, false, cond}
 use mathlib.Core.List.{List, [], _∷_, _++_, map}
 use Prim.Native.Nat.{ℕ, _+_}
 use lib.Dec.{ltb, leb}
 use lib.ListN.{length, getD, set, replicate}
-use Rattle.header.specs.declared.Header.{Header}
 use Rattle.wire.specs.Bytes.{same}
 use Rattle.policy.specs.Names.{owns}
 use Rattle.policy.specs.Decisions.{mayConnect, mayOwn}
 use Rattle.stream.specs.Stream.{Verdict, more, broken, whole, Streams, Offer, offer, settled}
-use Rattle.rules.specs.State.{Slot, free, peer, Peer, State, isFree, isPeer, firstBy, putSlot, withNames, withStream}
+use Rattle.rules.specs.State.{Slot, free, peer, Peer, State, isFree, isPeer, firstBy, dropFirst, putSlot, withNames, withStream}
 use Rattle.rules.specs.Addresses.{ownable}
 use Rattle.rules.specs.Pending.{bereft}
-use Rattle.rules.specs.Judge.{Judged, refusal, judged}
-use Rattle.rules.specs.declared.Judgement.{Judgement}
+use Rattle.rules.specs.Judge.{refusal, judged}
 use Rattle.rules.specs.declared.Connected.{Connected}
 use Rattle.rules.specs.declared.Taken.{Taken}
 use Rattle.rules.specs.declared.Gone.{Gone}
@@ -88,10 +86,9 @@ own image s n name = let i = firstBy (isPeer n) (s .slots) in ownAt image s i (s
 
 -- ---- release: 30, 31, 35
 
--- the names without that one: the later ones move down
+-- the names without that one
 unfoldable pub released : List ℕ → List (List ℕ) → List (List ℕ)
-released name [] = []
-released name (x ∷ xs) = cond (same x name) xs (x ∷ released name xs)
+released name names = dropFirst (λ x. same x name) names
 
 abbrev pub releaseAt : {S : Type 0} → State S → ℕ → Slot S → List ℕ → Step S ℕ
 releaseAt s i free name = stays s 30

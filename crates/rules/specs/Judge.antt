@@ -5,11 +5,12 @@ use mathlib.Core.List.{List, [], _∷_, _++_, map}
 use Prim.Native.Nat.{ℕ, _+_, _*_, _%_}
 use lib.Dec.{eqb, ltb, leb}
 use lib.ListN.{length, getD}
+use Rattle.header.specs.Codes.{call, return, error}
 use Rattle.header.specs.declared.Header.{Header}
 use Rattle.policy.specs.Names.{busName}
 use Rattle.policy.specs.Matching.{Message, fieldOf, messageOf}
-use Rattle.policy.specs.Decisions.{mayTransact}
-use Rattle.rules.specs.State.{Slot, free, peer, Peer, Pending, State, putSlot, withPending}
+use Rattle.policy.specs.Decisions.{send, receive, mayTransact}
+use Rattle.rules.specs.State.{Slot, free, peer, Peer, State, putSlot, withPending}
 use Rattle.rules.specs.Addresses.{Address, absent, bus, slot, unknown, resolve}
 use Rattle.rules.specs.Pending.{awaits, ended}
 use Rattle.rules.specs.declared.Receiver.{Receiver}
@@ -33,10 +34,10 @@ passed s r = record { judgement = record { answer = 0; receiver = r }; state = s
 -- "Send: the subject fits the sender; the name is any or one the receiver owns" and "Receive: the subject fits the receiver; the name is any or one the
 -- sender owns"
 abbrev pub maySend : {S : Type 0} → List ℕ → Peer S → List (List ℕ) → Message → Bool
-maySend image sender names m = mayTransact image 0 (record { 0 = sender .uid }) (sender .gids) names m
+maySend image sender names m = mayTransact image send (record { 0 = sender .uid }) (sender .gids) names m
 
 abbrev pub mayReceive : {S : Type 0} → List ℕ → Peer S → List (List ℕ) → Message → Bool
-mayReceive image receiver names m = mayTransact image 1 (record { 0 = receiver .uid }) (receiver .gids) names m
+mayReceive image receiver names m = mayTransact image receive (record { 0 = receiver .uid }) (receiver .gids) names m
 
 -- ---- to the bus
 
@@ -56,9 +57,9 @@ waits s i sender receiver x =
     (peer (withPending sender (sender .pending ++ (record { callee = receiver .number; serial = x .serial } ∷ [])))))
     (to.Peer (receiver .number))))
 
--- a call that expects a reply: type 1, flag bit 0 clear
+-- a call that expects a reply: flag bit 0 clear
 abbrev pub expectsReply : Header → Bool
-expectsReply x = eqb (x .kind) 1 && eqb (x .flags % 2) 0
+expectsReply x = eqb (x .kind) call && eqb (x .flags % 2) 0
 
 -- a call or a signal to a peer
 abbrev pub toPeer : {S : Type 0} → List ℕ → State S → ℕ → Peer S → Peer S → Message → Header → Judged S
@@ -120,14 +121,18 @@ toSlot image s i sender free m x = refused s 21
 toSlot image s i sender (peer receiver) m x = toPeer image s i sender receiver m x
 
 abbrev pub directed : {S : Type 0} → List ℕ → State S → ℕ → Peer S → Address → Message → Header → Judged S
-directed image s i sender absent m x = cond (eqb (x .kind) 1) (toBus image s sender m) (toAll image s sender m)
+directed image s i sender absent m x = cond (eqb (x .kind) call) (toBus image s sender m) (toAll image s sender m)
 directed image s i sender bus m x = toBus image s sender m
 directed image s i sender unknown m x = refused s 21
 directed image s i sender (slot j) m x = toSlot image s i sender (getD (s .slots) j free) m x
+
+-- "A return or error"
+abbrev pub isReply : Header → Bool
+isReply x = eqb (x .kind) return || eqb (x .kind) error
 
 -- a whole message of the peer in slot i, whose head is h
 unfoldable pub judged : {S : Type 0} → List ℕ → State S → ℕ → Peer S → List ℕ → Header → Judged S
 judged image s i sender h x =
     let a = resolve (s .slots) (fieldOf h (x .destination)) in
     cond (ltb 4 (x .kind)) (refused s 20)
-    (cond (eqb (x .kind) 2 || eqb (x .kind) 3) (reply s sender a x) (directed image s i sender a (messageOf h x) x))
+    (cond (isReply x) (reply s sender a x) (directed image s i sender a (messageOf h x) x))

@@ -40,6 +40,11 @@ unfoldable pub firstBy : {A : Type 0} → (A → Bool) → List A → ℕ
 firstBy t [] = 0
 firstBy t (x ∷ xs) = cond (t x) 0 (suc (firstBy t xs))
 
+-- the first that passes taken out: the later ones move down
+unfoldable pub dropFirst : {A : Type 0} → (A → Bool) → List A → List A
+dropFirst t [] = []
+dropFirst t (x ∷ xs) = cond (t x) xs (x ∷ dropFirst t xs)
+
 -- slot i put
 abbrev pub putSlot : {S : Type 0} → State S → ℕ → Slot S → State S
 putSlot s i x = record { last = s .last; slots = set (s .slots) i x }

@@ -1,4 +1,7 @@
-// What the guard's calls report.
+// What the guard's calls report, and each report of a refusal.
+ghost use mathlib.Core.Path.{_≡_};
+ghost use Rattle.rules.specs.Judge.{refusal};
+ghost use Rattle.rules.specs.Calls.{noConnect, noPiece, noGone};
 
 // Who receives a message: nobody, the bus itself, the peer of a number, or the slots of a mask, with their count.
 pub enum Receiver {
@@ -31,4 +34,41 @@ pub struct Taken {
 pub struct Gone {
     pub answer: u8,
     pub bytes: u32,
+}
+
+pub fn refused(answer: u8) -> Judgement
+    ensures { λ r. ⌜ r ≡ refusal answer ⌝ }
+{
+    Judgement {
+        answer,
+        receiver: Receiver::Nobody,
+    }
+}
+
+pub fn no_connect(answer: u8) -> Connected
+    ensures { λ r. ⌜ r ≡ noConnect answer ⌝ }
+{
+    Connected {
+        answer,
+        number: 0,
+        slot: 0,
+    }
+}
+
+pub fn no_piece(answer: u8) -> Taken
+    ensures { λ r. ⌜ r ≡ noPiece answer ⌝ }
+{
+    Taken {
+        judgement: Judgement {
+            answer,
+            receiver: Receiver::Nobody,
+        },
+        taken: 0,
+    }
+}
+
+pub fn no_gone(answer: u8) -> Gone
+    ensures { λ r. ⌜ r ≡ noGone answer ⌝ }
+{
+    Gone { answer, bytes: 0 }
 }

@@ -3,8 +3,8 @@
 -- Assumes nothing.
 use mathlib.Core.Path.{_≡_, refl, subst}
 use mathlib.Core.Bool.{Bool, true, false, _&&_, _||_, false≢true}
-use mathlib.Core.List.{List, [], _∷_}
-use mathlib.Core.Option.{Option, none, some}
+use mathlib.Core.List.{List, _∷_}
+use mathlib.Core.Option.{none}
 use Prim.Native.Nat.{ℕ, zero, suc, _+_, _-_, _*_, _≤_, _<_}
 use native.Mathlib.Omega.{arith}
 use native.Mathlib.Nat.{add-zero, zero-add}
@@ -52,22 +52,34 @@ module _ {s : List ℕ} {at arrays parens : ℕ} where
 
 -- ---- one type
 
+-- no fuel is never enough: what each way through the code shows is one step of the rule
+module _ {s : List ℕ} {at arrays parens : ℕ} where
+  one-is : {r : Step} → at < length s → StepFits s at r
+      → ((fuel : ℕ) → 2 * (length s - at) ≤ suc fuel → leftOf s r ≡ one (suc fuel) arrays parens (drop at s)) → OneAt s at arrays parens r
+  one-is {r} h f step = record { is = go; fits = f }
+    where
+      go : (fuel : ℕ) → 2 * (length s - at) ≤ fuel → leftOf s r ≡ one fuel arrays parens (drop at s)
+      go zero l = absurd (omega arith)
+      go (suc fuel) l = step fuel l
+
+  row-is : {r : Run} → RunFits s at r
+      → ((fuel : ℕ) → 2 * (length s - at) ≤ fuel → rowOf s r ≡ row (suc fuel) arrays parens (drop at s)) → RowAt s at arrays parens r
+  row-is {r} f step = record { is = go; fits = f }
+    where
+      go : (fuel : ℕ) → 2 * (length s - at) + 1 ≤ fuel → rowOf s r ≡ row fuel arrays parens (drop at s)
+      go zero l = absurd (omega arith)
+      go (suc fuel) l = step fuel (omega arith)
+
 module _ {s : List ℕ} {at arrays parens : ℕ} {x : Head} (h : HeadAt s at arrays parens x) where
   pub plain : x ≡ head.Plain → OneAt s at arrays parens (step.Rest (at + 1))
   unfolding one
-  plain e = record { is = go; fits = omega (arith, plain-in h e) }
-    where
-      go : (fuel : ℕ) → 2 * (length s - at) ≤ fuel → some (drop (at + 1) s) ≡ one fuel arrays parens (drop at s)
-      go zero l = absurd (omega (arith, plain-in h e))
-      go (suc fuel) l = rw (one, ← h .is, e, skip s at 1 (at + 1) refl)
+  plain e = one-is (plain-in h e) (omega (arith, plain-in h e)) (λ fuel l. rw (one, ← h .is, e, skip s at 1 (at + 1) refl))
 
   pub array : x ≡ head.Array → {r : Step} → OneAt s (at + 1) (arrays + 1) parens r → OneAt s at arrays parens r
   unfolding one
-  array e {r} o = record { is = go; fits = further s at (at + 1) (omega arith) r (o .fits) }
-    where
-      go : (fuel : ℕ) → 2 * (length s - at) ≤ fuel → leftOf s r ≡ one fuel arrays parens (drop at s)
-      go zero l = absurd (omega (arith, array-in h e))
-      go (suc fuel) l = rw (one, ← h .is, e, skip s at 1 (at + 1) refl) (o .is fuel (omega (arith, array-in h e)))
+  array e {r} o =
+      one-is (array-in h e .0) (further s at (at + 1) (omega arith) r (o .fits))
+      (λ fuel l. rw (one, ← h .is, e, skip s at 1 (at + 1) refl) (o .is fuel (omega (arith, array-in h e))))
 
   pub other : x ≡ head.None → OneAt s at arrays parens step.Bad
   unfolding one
@@ -81,56 +93,36 @@ module _ {s : List ℕ} {at arrays parens : ℕ} {x : Head} (h : HeadAt s at arr
     pub dict : {n end : ℕ} → m ≡ run.Types n end → {r : Step} → leftOf s r ≡ closed (byte "}") (key && eqb n 2) (drop end s)
         → StepFits s end r → OneAt s at arrays parens r
     unfolding one
-    dict {n} {end} q {r} d f = record { is = go; fits = further s at end (omega (arith, row-in w q)) r f }
-      where
-        go : (fuel : ℕ) → 2 * (length s - at) ≤ fuel → leftOf s r ≡ one fuel arrays parens (drop at s)
-        go zero l = absurd (omega (arith, dict-in h e))
-        go (suc fuel) l = rw (one, ← h .is, e, skip s at 2 (at + 2) refl, ← w .is fuel (omega (arith, dict-in h e)), q) d
+    dict {n} {end} q {r} d f =
+        one-is (dict-in h e .0) (further s at end (omega (arith, row-in w q)) r f)
+        (λ fuel l. rw (one, ← h .is, e, skip s at 2 (at + 2) refl, ← w .is fuel (omega (arith, dict-in h e)), q) d)
 
     pub dict-bad : m ≡ run.Bad → OneAt s at arrays parens step.Bad
     unfolding one
-    dict-bad q = record { is = go; fits = tt }
-      where
-        go : (fuel : ℕ) → 2 * (length s - at) ≤ fuel → none ≡ one fuel arrays parens (drop at s)
-        go zero l = refl
-        go (suc fuel) l = rw (one, ← h .is, e, skip s at 2 (at + 2) refl, ← w .is fuel (omega (arith, dict-in h e)), q)
+    dict-bad q = one-is (dict-in h e .0) tt (λ fuel l. rw (one, ← h .is, e, skip s at 2 (at + 2) refl, ← w .is fuel (omega (arith, dict-in h e)), q))
 
   module _ (e : x ≡ head.Paren) {m : Run} (w : RowAt s (at + 1) arrays (parens + 1) m) where
     pub paren : {n end : ℕ} → m ≡ run.Types n end → {r : Step} → leftOf s r ≡ closed (byte ")") (leb 1 n) (drop end s)
         → StepFits s end r → OneAt s at arrays parens r
     unfolding one
-    paren {n} {end} q {r} d f = record { is = go; fits = further s at end (omega (arith, row-in w q)) r f }
-      where
-        go : (fuel : ℕ) → 2 * (length s - at) ≤ fuel → leftOf s r ≡ one fuel arrays parens (drop at s)
-        go zero l = absurd (omega (arith, paren-in h e))
-        go (suc fuel) l = rw (one, ← h .is, e, skip s at 1 (at + 1) refl, ← w .is fuel (omega (arith, paren-in h e)), q) d
+    paren {n} {end} q {r} d f =
+        one-is (paren-in h e .0) (further s at end (omega (arith, row-in w q)) r f)
+        (λ fuel l. rw (one, ← h .is, e, skip s at 1 (at + 1) refl, ← w .is fuel (omega (arith, paren-in h e)), q) d)
 
     pub paren-bad : m ≡ run.Bad → OneAt s at arrays parens step.Bad
     unfolding one
-    paren-bad q = record { is = go; fits = tt }
-      where
-        go : (fuel : ℕ) → 2 * (length s - at) ≤ fuel → none ≡ one fuel arrays parens (drop at s)
-        go zero l = refl
-        go (suc fuel) l = rw (one, ← h .is, e, skip s at 1 (at + 1) refl, ← w .is fuel (omega (arith, paren-in h e)), q)
+    paren-bad q = one-is (paren-in h e .0) tt (λ fuel l. rw (one, ← h .is, e, skip s at 1 (at + 1) refl, ← w .is fuel (omega (arith, paren-in h e)), q))
 
 -- ---- a row
 
 module _ {s : List ℕ} {at arrays parens : ℕ} where
   pub at-end : length s ≤ at → RowAt s at arrays parens (run.Types 0 at)
   unfolding row
-  at-end h = record { is = go; fits = omega arith }
-    where
-      go : (fuel : ℕ) → 2 * (length s - at) + 1 ≤ fuel → some (0, drop at s) ≡ row fuel arrays parens (drop at s)
-      go zero l = absurd (omega arith)
-      go (suc fuel) l = rw (past s at h)
+  at-end h = row-is (omega arith) (λ fuel l. rw (past s at h))
 
   pub at-close : at < length s → eqb (getD s at 0) (byte ")") || eqb (getD s at 0) (byte "}") ≡ true → RowAt s at arrays parens (run.Types 0 at)
   unfolding row
-  at-close h t = record { is = go; fits = omega arith }
-    where
-      go : (fuel : ℕ) → 2 * (length s - at) + 1 ≤ fuel → some (0, drop at s) ≡ row fuel arrays parens (drop at s)
-      go zero l = absurd (omega arith)
-      go (suc fuel) l = rw (row, next s at h, t)
+  at-close h t = row-is (omega arith) (λ fuel l. rw (row, next s at h, t))
 
   module _ (h : at < length s) (t : eqb (getD s at 0) (byte ")") || eqb (getD s at 0) (byte "}") ≡ false)
       {x : Step} (o : OneAt s at arrays parens x) where
@@ -140,30 +132,18 @@ module _ {s : List ℕ} {at arrays parens : ℕ} where
 
     pub at-bad : x ≡ step.Bad → RowAt s at arrays parens run.Bad
     unfolding row
-    at-bad e = record { is = go; fits = tt }
-      where
-        go : (fuel : ℕ) → 2 * (length s - at) + 1 ≤ fuel → none ≡ row fuel arrays parens (drop at s)
-        go zero l = refl
-        go (suc fuel) l = rw (row, next s at h, t, ← front-is fuel (omega arith), e)
+    at-bad e = row-is tt (λ fuel l. rw (row, next s at h, t, ← front-is fuel l, e))
 
     module _ {k : ℕ} (e : x ≡ step.Rest k) {m : Run} (w : RowAt s k arrays parens m) where
       pub more : {n end : ℕ} → m ≡ run.Types n end → RowAt s at arrays parens (run.Types (n + 1) end)
       unfolding row
-      more {n} {end} q = record { is = go; fits = omega (arith, type-in o e, row-in w q) }
-        where
-          go : (fuel : ℕ) → 2 * (length s - at) + 1 ≤ fuel → some (n + 1, drop end s) ≡ row fuel arrays parens (drop at s)
-          go zero l = absurd (omega arith)
-          go (suc fuel) l =
-              rw (row, next s at h, t, ← front-is fuel (omega arith), e, ← w .is fuel (omega (arith, type-in o e)), q)
+      more q =
+          row-is (omega (arith, type-in o e, row-in w q))
+          (λ fuel l. rw (row, next s at h, t, ← front-is fuel l, e, ← w .is fuel (omega (arith, type-in o e)), q))
 
       pub more-bad : m ≡ run.Bad → RowAt s at arrays parens run.Bad
       unfolding row
-      more-bad q = record { is = go; fits = tt }
-        where
-          go : (fuel : ℕ) → 2 * (length s - at) + 1 ≤ fuel → none ≡ row fuel arrays parens (drop at s)
-          go zero l = refl
-          go (suc fuel) l =
-              rw (row, next s at h, t, ← front-is fuel (omega arith), e, ← w .is fuel (omega (arith, type-in o e)), q)
+      more-bad q = row-is tt (λ fuel l. rw (row, next s at h, t, ← front-is fuel l, e, ← w .is fuel (omega (arith, type-in o e)), q))
 
 -- ---- a row that is being read: n types from `at` on have been passed, and what is left starts at i
 

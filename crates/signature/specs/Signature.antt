@@ -1,4 +1,4 @@
--- The signature rule. Assumes nothing: these are definitions.
+-- The signature rule (01, "Message head"). Assumes nothing: these are definitions.
 use mathlib.Core.Bool.{Bool, true, false, cond, _&&_, _||_}
 use mathlib.Core.List.{List, [], _∷_}
 use mathlib.Core.Option.{Option, none, some}
@@ -9,11 +9,12 @@ use Rattle.wire.specs.Bytes.{byte, oneOf, front}
 use Rattle.signature.specs.declared.Head.{Head}
 use Rattle.signature.specs.declared.Head.the-variants.{Plain, Array, Dict, Paren, None}
 
+-- "a basic type (any letter listed but `v`)"
 abbrev pub basic : ℕ → Bool
 basic b = oneOf false "ybnqiuxtdsogh" b
 
--- how a type begins, with so many arrays and parentheses open: a basic letter or `v`; a `(`; an `a`, which may start a dict entry with or
--- without a basic key
+-- how a type begins, with so many arrays and parentheses open, "at most 32" of each: a basic letter or `v`; a `(`; an `a`, which may start a dict
+-- entry with or without a basic key
 unfoldable pub headOf : ℕ → ℕ → List ℕ → Head
 headOf arrays parens [] = None
 headOf arrays parens (b ∷ s) =
@@ -71,5 +72,6 @@ unfoldable mutual
         | false ↦ elim (one fuel arrays parens (b ∷ s)) [ none ↦ none | some r ↦ oneMore (row fuel arrays parens r) ]
       ]
 
+-- "Signature, at most 255 bytes, possibly empty: complete types in a row."
 unfoldable pub validSignature : List ℕ → Bool
 validSignature s = leb (length s) 255 && whole (row (2 * length s + 1) 0 0 s)

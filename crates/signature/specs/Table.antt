@@ -1,10 +1,9 @@
--- The worked examples T10 and T11 of the paper, as a table. Assumes nothing: these are definitions.
-use mathlib.Core.Bool.{Bool, true, false, _&&_, Bool·beq}
+-- T10 and T11 of 01's bench table, as a table. Assumes nothing: these are definitions.
+use mathlib.Core.Bool.{Bool, true, false}
 use mathlib.Core.List.{List, [], _∷_, _++_}
 use Prim.Native.Nat.{ℕ}
 use lib.ListN.{replicate}
 use Rattle.wire.specs.Bytes.{byte, bytes}
-use Rattle.signature.specs.Signature.{validSignature}
 
 -- a signature, and whether it is good
 abbrev pub Line : Type 0
@@ -21,8 +20,3 @@ table =
     ∷ (replicate 32 (byte "a") ++ bytes "y", true)
     ∷ (replicate 33 (byte "a") ++ bytes "y", false)
     ∷ []
-
--- each line of a table says what the rule says
-abbrev pub agrees : List Line → Bool
-agrees [] = true
-agrees (l ∷ ls) = Bool·beq (validSignature (l .0)) (l .1) && agrees ls

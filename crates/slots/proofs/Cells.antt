@@ -1,30 +1,69 @@
--- The names of a slot, from name j on, as the code cuts them. Assumes nothing.
-use mathlib.Core.Path.{_≡_, refl, sym, ap, _∙_}
-use mathlib.Core.List.{List, [], _∷_}
-use Prim.Native.Nat.{ℕ, _+_, _-_, _*_, _≤_, _<_, min}
+-- The names and the pending calls of a slot, as the code reads them; and whether a name is one of them, by the place at which a search ended. Assumes
+-- nothing.
+use mathlib.Core.Path.{_≡_, sym, _∙_}
+use mathlib.Core.List.{List, _∷_}
+use Prim.Native.Nat.{ℕ, _+_, _-_, _*_, _<_, min}
 use native.Mathlib.Omega.{arith}
 use native.Mathlib.Nat.{add-zero}
+use native.Mathlib.Decide.{decLt}
+use lib.Dec.{ltb}
 use lib.ListN.{length, take, drop, getD}
 use lib.Seq.{getD-take, getD-drop, drop-drop, take-take}
-use Rattle.wire.specs.Bytes.{front}
+use borrow.Author.Needs.{needs}
+use borrow.Author.Tests.{lt-ltb, le-ltb}
+use Rattle.wire.specs.Bytes.{front, same}
 use Rattle.wire.specs.Words.{wordAt}
 use Rattle.wire.specs.declared.Order.the-variants.{Little}
-use Rattle.tables.proofs.Parts.{drop-take}
-use Rattle.tables.proofs.Table.{table-past}
-use Rattle.policy.specs.Names.{nameOf}
-use Rattle.memory.proofs.Reading.{name-next, names-many}
+use Rattle.wire.proofs.Parts.{drop-take}
+use Rattle.policy.specs.Names.{nameOf, owns}
+use Rattle.rules.specs.State.{firstBy}
+use Rattle.rules.proofs.First.{first-any}
+use Rattle.memory.proofs.Reading.{name-next, pending-next, names-many, pending-many}
 use Rattle.slots.specs.Slots.{peerAt, nameAt}
 
--- the name of a cell: its length is a byte, so that it ends inside
+-- the length of a name is the byte in front of its cell
+pub cell-front : (m : List ℕ) (a : ℕ) → front (take 256 (drop a m)) ≡ getD m a 0
+cell-front m a = getD-take 256 (drop a m) 0 0 (omega arith) ∙ getD-drop a m 0 0 ∙ rw add-zero
+
+-- the name ends inside the cell
 cell-name : (m : List ℕ) (a : ℕ) → getD m a 0 < 256 → nameOf (take 256 (drop a m)) ≡ take (getD m a 0) (drop (a + 1) m)
 cell-name m a h =
-    let e : front (take 256 (drop a m)) ≡ getD m a 0 = getD-take 256 (drop a m) 0 0 (omega arith) ∙ getD-drop a m 0 0 ∙ rw add-zero in
-    rw (e, drop-take 1 255 (drop a m), drop-drop 1 a m) (take-take (getD m a 0) 255 (drop (a + 1) m) (omega arith))
+    rw (cell-front m a, drop-take 1 255 (drop a m), drop-drop 1 a m) (take-take (getD m a 0) 255 (drop (a + 1) m) (omega arith))
 
-pub names-next : (m : List ℕ) (i j n : ℕ) → n ≡ min (wordAt Little m (4 + 3292 * i + 208)) 4 → j < n → getD m (4 + 3292 * i + 212 + 256 * j) 0 < 256
+pub names-next : (m : List ℕ) (i j : ℕ) → j < length (peerAt m i .names) → getD m (4 + 3292 * i + 212 + 256 * j) 0 < 256
     → drop j (peerAt m i .names) ≡ nameAt m i j ∷ drop (j + 1) (peerAt m i .names)
-names-next m i j n e h b =
-    name-next m (4 + 3292 * i) j (omega (arith, names-many m (4 + 3292 * i))) ∙ rw (cell-name m (4 + 3292 * i + 212 + 256 * j) b)
+names-next m i j h b = name-next m (4 + 3292 * i) j h ∙ rw (cell-name m (4 + 3292 * i + 212 + 256 * j) b)
 
-pub names-past : (m : List ℕ) (i j n : ℕ) → n ≡ min (wordAt Little m (4 + 3292 * i + 208)) 4 → n ≤ j → drop j (peerAt m i .names) ≡ []
-names-past m i j n e h = table-past 256 4 nameOf (drop (4 + 3292 * i + 208) m) j (omega (arith, names-many m (4 + 3292 * i)))
+-- a pending call, as the code reads it
+pub calls-next : (m : List ℕ) (i j : ℕ) → j < length (peerAt m i .pending)
+    → drop j (peerAt m i .pending)
+    ≡ record { callee = wordAt Little m (4 + 3292 * i + (80 + 8 * j)); serial = wordAt Little m (4 + 3292 * i + (84 + 8 * j)) } ∷ drop (j + 1) (peerAt m i .pending)
+calls-next m i j h =
+    let k : 4 + 3292 * i + 80 + 8 * j ≡ 4 + 3292 * i + (80 + 8 * j) = omega arith in
+    let o : 4 + 3292 * i + 84 + 8 * j ≡ 4 + 3292 * i + (84 + 8 * j) = omega arith in
+    pending-next m (4 + 3292 * i) j h ∙ rw (k, o)
+
+-- how many they are
+pub names-counted : (m : List ℕ) (i n r : ℕ) → n ≡ wordAt Little m (4 + 3292 * i + 208) → r ≡ min n 4 → r ≡ length (peerAt m i .names)
+names-counted m i n r e c = c ∙ rw e (sym (names-many m (4 + 3292 * i)))
+
+pub pending-counted : (m : List ℕ) (i n r : ℕ) → n ≡ wordAt Little m (4 + 3292 * i + 76) → r ≡ min n 16 → r ≡ length (peerAt m i .pending)
+pending-counted m i n r e c = c ∙ rw e (sym (pending-many m (4 + 3292 * i)))
+
+pub ruleset counting = (names-counted, pending-counted, needs)
+
+-- the length of a name is the byte that the code read
+pub name-byte : (m : List ℕ) (at b : ℕ) → b ≡ getD m at 0 → b < 256 → getD m at 0 < 256
+name-byte m at b e h = omega arith
+
+-- ---- where a search from c on ended
+
+pub before : (a b c : ℕ) → ltb a (b - c) ≡ ltb (c + a) b
+before a b c = elim (decLt (c + a) b) [
+  | yes h ↦ lt-ltb a (b - c) (omega arith) ∙ sym (lt-ltb (c + a) b h)
+  | no h ↦ le-ltb a (b - c) (omega arith) ∙ sym (le-ltb (c + a) b (omega arith))
+]
+
+pub owns-first : (name : List ℕ) (xs : List (List ℕ)) → owns xs name ≡ ltb (firstBy (λ x. same x name) xs) (length xs)
+unfolding owns
+owns-first name xs = first-any (λ x. same x name) xs

@@ -1,47 +1,39 @@
 -- A search among the pending calls of a slot. Assumes nothing.
-use mathlib.Core.Path.{_≡_, refl, sym, ap, _∙_}
-use mathlib.Core.Bool.{Bool, true, false, cond, not, _&&_}
-use mathlib.Core.List.{List, [], _∷_}
-use Prim.Native.Nat.{ℕ, suc, _+_, _*_, _≤_, _<_, min}
+use mathlib.Core.Path.{_≡_, refl, sym, _∙_}
+use mathlib.Core.Bool.{true, false, _&&_}
+use mathlib.Core.List.{List, _∷_}
+use Prim.Native.Nat.{ℕ, suc, _+_, _*_, _≤_, _<_}
 use native.Mathlib.Omega.{arith}
 use native.Mathlib.Nat.{add-zero}
 use lib.Dec.{eqb}
-use lib.ListN.{length, take, drop, getD}
+use lib.ListN.{length, drop, drop-of-length-le}
 use borrow.Author.Needs.{needs}
 use Rattle.wire.specs.Words.{wordAt}
 use Rattle.wire.specs.declared.Order.the-variants.{Little}
 use Rattle.rules.specs.State.{firstBy}
 use Rattle.rules.specs.Pending.{isCall}
 use Rattle.slots.specs.Slots.{peerAt, CallAt}
-use Rattle.tables.proofs.Table.{table-past}
-use Rattle.memory.specs.Encoding.{pendingOf}
-use Rattle.memory.proofs.Reading.{pending-next, pending-many}
+use Rattle.slots.proofs.Cells.{calls-next}
 
 -- the call is looked for from `from` on, and the search has come to call j of `count`
 pub record Seeking (m : List ℕ) (i callee serial from count j : ℕ) : Type 0 where
   pub few : count ≤ 16
   pub long : length (peerAt m i .pending) ≡ count
-  pub counted : count ≡ min (wordAt Little m (4 + 3292 * i + 76)) 16
   pub inside : j ≤ count
   pub left : from + firstBy (isCall callee serial) (drop from (peerAt m i .pending))
       ≡ j + firstBy (isCall callee serial) (drop j (peerAt m i .pending))
 
-pub seeking-begins : {m : List ℕ} {i callee serial from count n : ℕ} → n ≡ wordAt Little m (4 + 3292 * i + 76) → count ≡ min n 16
+pub seeking-begins : {m : List ℕ} {i callee serial from count : ℕ} → count ≡ length (peerAt m i .pending) → count ≤ 16
     → from ≤ length (peerAt m i .pending)
     → Seeking m i callee serial from count from
-seeking-begins {m} {i} {n = n} e c h =
-    let l : length (peerAt m i .pending) ≡ min n 16 = pending-many m (4 + 3292 * i) ∙ rw e in
-    record { few = omega arith; long = l ∙ sym c; counted = rw (← e) c; inside = omega (arith, l); left = refl }
+seeking-begins e f h = record { few = f; long = sym e; inside = rw e h; left = refl }
 
 module _ {m : List ℕ} {i callee serial from count j : ℕ} (s : Seeking m i callee serial from count j) where
   module _ (h : j < count) {p q : ℕ} (e : p ≡ wordAt Little m (4 + 3292 * i + (80 + 8 * j)))
       (f : q ≡ wordAt Little m (4 + 3292 * i + (84 + 8 * j))) where
     -- call j, and those after it
     here : drop j (peerAt m i .pending) ≡ record { callee = p; serial = q } ∷ drop (j + 1) (peerAt m i .pending)
-    here =
-        let k : 4 + 3292 * i + 80 + 8 * j ≡ 4 + 3292 * i + (80 + 8 * j) = omega arith in
-        let o : 4 + 3292 * i + 84 + 8 * j ≡ 4 + 3292 * i + (84 + 8 * j) = omega arith in
-        pending-next m (4 + 3292 * i) j (omega (arith, s .long)) ∙ rw (k, o, e, f)
+    here = calls-next m i j (omega (arith, s .long)) ∙ rw (← e, ← f)
 
     pub seeking-hit : eqb p callee && eqb q serial ≡ true → CallAt m i callee serial from j
     unfolding firstBy
@@ -55,13 +47,12 @@ module _ {m : List ℕ} {i callee serial from count j : ℕ} (s : Seeking m i ca
         record {
           few = s .few;
           long = s .long;
-          counted = s .counted;
           inside = omega arith;
           left = s .left ∙ rw (here, t, k);
         }
 
   pub seeking-ends : count ≤ j → CallAt m i callee serial from j
   unfolding firstBy
-  seeking-ends h = record { inside = omega (arith, s .long, s .inside); is = sym (s .left ∙ rw (table-past 8 16 pendingOf (drop (4 + 3292 * i + 76) m) j (omega (arith, s .long)), add-zero)) }
+  seeking-ends h = record { inside = omega (arith, s .long, s .inside); is = sym (s .left ∙ rw (drop-of-length-le (peerAt m i .pending) {i = j} (omega (arith, s .long)), add-zero)) }
 
 pub ruleset seeking = (seeking-begins, seeking-hit, seeking-miss, seeking-ends, needs)

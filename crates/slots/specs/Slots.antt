@@ -3,24 +3,38 @@ use mathlib.Core.Path.{_≡_}
 use mathlib.Core.List.{List}
 use Prim.Native.Nat.{ℕ, _+_, _*_, _≤_, _<_}
 use lib.ListN.{length, take, drop, getD}
+use Rattle.wire.specs.Bytes.{same}
 use Rattle.stream.specs.Tail.{Tail}
 use Rattle.rules.specs.State.{Peer, firstBy}
 use Rattle.rules.specs.Pending.{isCall}
-use Rattle.memory.proofs.Reading.{peerFrom}
+use Rattle.memory.specs.Layout.{slotStart, memoryLength, firstName}
+use Rattle.memory.specs.Sound.{Held}
+use Rattle.memory.proofs.Reading.{numberAt, peerFrom}
 use Rattle.slots.specs.declared.Gids.{Gids}
 
 -- the peer that the bytes of slot i say
 abbrev pub peerAt : List ℕ → ℕ → Peer Tail
-peerAt m i = peerFrom m (4 + 3292 * i)
+peerAt m i = peerFrom m (slotStart i)
 
 -- name j of slot i, whose length is a byte
 abbrev pub nameAt : List ℕ → ℕ → ℕ → List ℕ
-nameAt m i j = take (getD m (4 + 3292 * i + 212 + 256 * j) 0) (drop (4 + 3292 * i + 212 + 256 * j + 1) m)
+nameAt m i j = take (getD m (slotStart i + firstName + 256 * j) 0) (drop (slotStart i + firstName + 256 * j + 1) m)
+
+-- the first of the names of slot i from `from` on that is this one, or how many there are
+abbrev pub namePlace : List ℕ → ℕ → List ℕ → ℕ → ℕ
+namePlace m i name from = from + firstBy (λ x. same x name) (drop from (peerAt m i .names))
 
 -- slot i of a memory of the right length
 pub record At (m : List ℕ) (i : ℕ) : Type 0 where
-  pub sized : length m ≡ 52676
+  pub sized : length m ≡ memoryLength
   pub below : i < 16
+
+-- slot i of good memory is a peer's
+pub record Seated (m : List ℕ) (i : ℕ) : Type 0 where
+  pub held : Held m
+  pub sized : length m ≡ memoryLength
+  pub below : i < 16
+  pub some : numberAt m i ≡ 0 → ⊥
 
 -- the gids of slot i stand in front of the list
 pub record GidsOf (m : List ℕ) (i : ℕ) (r : Gids) : Type 0 where

@@ -1,4 +1,13 @@
 // Readings of the guard's memory: the words of a slot, and which slot a peer has.
+use memory::FIRST_CALLEE;
+use memory::FIRST_GID;
+use memory::FIRST_NAME;
+use memory::FIRST_SERIAL;
+use memory::GIDS_AT;
+use memory::NAMES_AT;
+use memory::PENDING_AT;
+use memory::SLOT_LENGTH;
+use memory::SLOTS_AT;
 use wire::Order;
 ghost use mathlib.Core.Path.{_≡_};
 ghost use Prim.Native.Nat.{_+_, _*_, _≤_, _<_};
@@ -9,10 +18,11 @@ ghost use Rattle.rules.specs.State.{isFree, isPeer};
 ghost use Rattle.rules.specs.Calls.{slotAt, isOwner};
 ghost use Rattle.wire.specs.Bytes.{same};
 ghost use Rattle.policy.specs.Names.{owns};
+ghost use Rattle.memory.specs.Layout.{slotStart, memoryLength, slotLength, firstName};
 ghost use Rattle.memory.specs.Encoding.{stateOf};
 ghost use Rattle.memory.proofs.Reading.{numberAt};
 ghost use Rattle.memory.proofs.Search.{Found};
-ghost use Rattle.slots.specs.Slots.{peerAt, nameAt, At, GidsOf, CallAt};
+ghost use Rattle.slots.specs.Slots.{peerAt, nameAt, namePlace, At, GidsOf, CallAt};
 
 // A peer's gids: the first `count` of the list.
 pub struct Gids {
@@ -22,23 +32,23 @@ pub struct Gids {
 
 // The word at a place of slot i.
 pub fn word_at(memory: &[u8], i: usize, place: usize) -> u32
-    requires { ⌜ (length (now memory) ≡ 52676) × (i < 16) × (place + 4 ≤ 3292) ⌝ }
-    ensures { λ r. ⌜ (r ≡ wordAt Little (now (memory .entry)) (4 + 3292 * i + place)) × (r < 4294967296) ⌝ }
+    requires { ⌜ (length (now memory) ≡ memoryLength) × (i < 16) × (place + 4 ≤ slotLength) ⌝ }
+    ensures { λ r. ⌜ (r ≡ wordAt Little (now (memory .entry)) (slotStart i + place)) × (r < 4294967296) ⌝ }
 {
-    wire::u32_at(Order::Little, memory, 4 + 3292 * i + place)
+    wire::u32_at(Order::Little, memory, SLOTS_AT + SLOT_LENGTH * i + place)
 }
 
 // The number in slot i, 0 where it is free.
 pub fn number_at(memory: &[u8], i: usize) -> u32
-    requires { ⌜ (length (now memory) ≡ 52676) × (i < 16) ⌝ }
+    requires { ⌜ (length (now memory) ≡ memoryLength) × (i < 16) ⌝ }
     ensures { λ r. ⌜ (r ≡ numberAt (now (memory .entry)) i) × (r < 4294967296) ⌝ }
 {
-    wire::u32_at(Order::Little, memory, 4 + 3292 * i)
+    wire::u32_at(Order::Little, memory, SLOTS_AT + SLOT_LENGTH * i)
 }
 
 // The last number given.
 pub fn last_of(memory: &[u8]) -> u32
-    requires { ⌜ length (now memory) ≡ 52676 ⌝ }
+    requires { ⌜ length (now memory) ≡ memoryLength ⌝ }
     ensures { λ r. ⌜ (r ≡ stateOf (now (memory .entry)) .last) × (r < 4294967296) ⌝ }
 {
     wire::u32_at(Order::Little, memory, 0)
@@ -46,7 +56,7 @@ pub fn last_of(memory: &[u8]) -> u32
 
 // The first slot from `from` on whose peer has this number, or 16.
 pub fn find(memory: &[u8], number: u32, from: usize) -> usize
-    requires { ⌜ (length (now memory) ≡ 52676) × (from ≤ 16) ⌝ }
+    requires { ⌜ (length (now memory) ≡ memoryLength) × (from ≤ 16) ⌝ }
     ensures { λ r. ⌜ Found (isPeer number) (now (memory .entry)) from r ⌝ }
 {
     if number == 0 {
@@ -64,7 +74,7 @@ pub fn find(memory: &[u8], number: u32, from: usize) -> usize
 
 // The lowest free slot, or 16.
 pub fn find_free(memory: &[u8]) -> usize
-    requires { ⌜ length (now memory) ≡ 52676 ⌝ }
+    requires { ⌜ length (now memory) ≡ memoryLength ⌝ }
     ensures { λ r. ⌜ Found isFree (now (memory .entry)) 0 r ⌝ }
 {
     let mut i = 0;
@@ -83,24 +93,56 @@ pub fn gids_at(memory: &[u8], i: usize) -> Gids
     ensures { λ r. ⌜ GidsOf (now (memory .entry)) i r ⌝ }
 {
     let mut list = [0u32; 16];
-    let count = wire::least(word_at(memory, i, 8) as usize, 16);
+    let count = wire::least(word_at(memory, i, GIDS_AT) as usize, 16);
     let mut k = 0;
     while k < count {
-        list[k] = word_at(memory, i, 12 + 4 * k);
+        list[k] = word_at(memory, i, FIRST_GID + 4 * k);
         k += 1;
     }
     Gids { list, count }
 }
 
+// How many names slot i has.
+pub fn count_names(memory: &[u8], i: usize) -> usize
+    requires { ⌜ At (now memory) i ⌝ }
+    ensures { λ r. ⌜ (r ≡ length (peerAt (now (memory .entry)) i .names)) × (r ≤ 4) ⌝ }
+{
+    wire::least(word_at(memory, i, NAMES_AT) as usize, 4)
+}
+
+// How many pending calls slot i has.
+pub fn count_pending(memory: &[u8], i: usize) -> usize
+    requires { ⌜ At (now memory) i ⌝ }
+    ensures { λ r. ⌜ (r ≡ length (peerAt (now (memory .entry)) i .pending)) × (r ≤ 16) ⌝ }
+{
+    wire::least(word_at(memory, i, PENDING_AT) as usize, 16)
+}
+
 // Name j of slot i is this one.
 fn is_name(memory: &[u8], i: usize, j: usize, name: &[u8]) -> bool
-    requires { ⌜ (length (now memory) ≡ 52676) × (i < 16) × (j < 4) ⌝ }
-    ensures { λ r. ⌜ (r ≡ same (nameAt (now (memory .entry)) i j) (now (name .entry))) × (getD (now (memory .entry)) (4 + 3292 * i + 212 + 256 * j) 0 < 256) ⌝ }
+    requires { ⌜ (length (now memory) ≡ memoryLength) × (i < 16) × (j < 4) ⌝ }
+    ensures { λ r. ⌜ (r ≡ same (nameAt (now (memory .entry)) i j) (now (name .entry))) × (getD (now (memory .entry)) (slotStart i + firstName + 256 * j) 0 < 256) ⌝ }
 {
-    let at = 4 + 3292 * i + 212 + 256 * j;
+    let at = SLOTS_AT + SLOT_LENGTH * i + FIRST_NAME + 256 * j;
     let from = at + 1;
     let to = from + wire::wide(memory[at]) as usize;
     wire::equal(&memory[from..to], name)
+}
+
+// The first of the names of slot i from `from` on that is this one, or how many there are.
+pub fn find_name(memory: &[u8], i: usize, name: &[u8], from: usize) -> usize
+    requires { ⌜ At (now memory) i ⌝ }
+    ensures { λ r. ⌜ r ≡ namePlace (now (memory .entry)) i (now (name .entry)) from ⌝ }
+{
+    let count = count_names(memory, i);
+    let mut j = from;
+    while j < count {
+        if is_name(memory, i, j, name) {
+            return j;
+        }
+        j += 1;
+    }
+    j
 }
 
 // The peer of slot i has the name among those from `from` on.
@@ -108,15 +150,8 @@ pub fn owns_name(memory: &[u8], i: usize, name: &[u8], from: usize) -> bool
     requires { ⌜ At (now memory) i ⌝ }
     ensures { λ r. ⌜ r ≡ owns (drop from (peerAt (now (memory .entry)) i .names)) (now (name .entry)) ⌝ }
 {
-    let count = wire::least(word_at(memory, i, 208) as usize, 4);
-    let mut j = from;
-    while j < count {
-        if is_name(memory, i, j, name) {
-            return true;
-        }
-        j += 1;
-    }
-    false
+    let count = count_names(memory, i);
+    find_name(memory, i, name, from) < count
 }
 
 // Slot i is a peer's that owns the name.
@@ -132,7 +167,7 @@ fn is_owner(memory: &[u8], i: usize, name: &[u8]) -> bool
 
 // The first slot from `from` on whose peer owns the name, or 16.
 pub fn find_owner(memory: &[u8], name: &[u8], from: usize) -> usize
-    requires { ⌜ (length (now memory) ≡ 52676) × (from ≤ 16) ⌝ }
+    requires { ⌜ (length (now memory) ≡ memoryLength) × (from ≤ 16) ⌝ }
     ensures { λ r. ⌜ Found (isOwner (now (name .entry))) (now (memory .entry)) from r ⌝ }
 {
     let mut i = from;
@@ -147,13 +182,15 @@ pub fn find_owner(memory: &[u8], name: &[u8], from: usize) -> usize
 
 // The first pending call from `from` on of slot i that is for this callee and serial, or how many there are.
 pub fn find_pending(memory: &[u8], i: usize, callee: u32, serial: u32, from: usize) -> usize
-    requires { ⌜ (length (now memory) ≡ 52676) × (i < 16) × (from ≤ length (peerAt (now memory) i .pending)) ⌝ }
+    requires { ⌜ (length (now memory) ≡ memoryLength) × (i < 16) × (from ≤ length (peerAt (now memory) i .pending)) ⌝ }
     ensures { λ r. ⌜ CallAt (now (memory .entry)) i callee serial from r ⌝ }
 {
-    let count = wire::least(word_at(memory, i, 76) as usize, 16);
+    let count = count_pending(memory, i);
     let mut j = from;
     while j < count {
-        if (word_at(memory, i, 80 + 8 * j) == callee) & (word_at(memory, i, 84 + 8 * j) == serial) {
+        if (word_at(memory, i, FIRST_CALLEE + 8 * j) == callee)
+            & (word_at(memory, i, FIRST_SERIAL + 8 * j) == serial)
+        {
             return j;
         }
         j += 1;

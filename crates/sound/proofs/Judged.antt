@@ -1,11 +1,12 @@
 -- The judgement of a whole message keeps a sound state sound. Assumes nothing.
 use mathlib.Core.Path.{_≡_, refl}
-use mathlib.Core.Bool.{false, cond, _||_}
+use mathlib.Core.Bool.{true, cond, _||_}
 use mathlib.Core.List.{List, [], _∷_, _++_}
 use Prim.Native.Nat.{ℕ, _≤_, _<_}
 use lib.Dec.{ltb, leb, eqb}
 use lib.ListN.{length, getD}
 use borrow.Author.Tests.{leb-false, eq-eqb}
+use Rattle.wire.specs.Lists.{any}
 use Rattle.header.specs.declared.Header.{Header}
 use Rattle.policy.specs.Names.{busName}
 use Rattle.policy.specs.Matching.{Message, fieldOf, messageOf}
@@ -15,7 +16,6 @@ use Rattle.rules.specs.Addresses.{Address, absent, bus, slot, unknown, resolve}
 use Rattle.rules.specs.Pending.{awaits, ended}
 use Rattle.rules.specs.Judge.{Judged, refused, passed, maySend, mayReceive, expectsReply, toBus, toAll, waits, toPeer, toSlot, directed, replyTo, reply, judged}
 use Rattle.rules.specs.declared.Receiver.the-variants as to
-use Rattle.memory.specs.Good.{nobody}
 use Rattle.memory.specs.Sound.{Sound}
 use Rattle.rules.proofs.Tests.{choice}
 use Rattle.sound.proofs.Slots.{somebody-of}
@@ -55,7 +55,7 @@ module _ (image : List ℕ) (s : State Tail) (i : ℕ) (sender : Peer Tail) (x :
       (λ n. choice Leaves (leb 16 (length (sender .pending))) (refused s 26) put (λ h. g)
       (λ l. waits-sound s i sender g e (receiver .number) (x .serial) known n (leb-false 16 (length (sender .pending)) l) low high))
     where
-      known : nobody (isPeer (receiver .number)) (s .slots) ≡ false
+      known : any (isPeer (receiver .number)) (s .slots) ≡ true
       known = somebody-of (isPeer (receiver .number)) refl (s .slots) j (rw r (eq-eqb (receiver .number) (receiver .number) refl))
 
   to-peer : (m : Message) (j : ℕ) (receiver : Peer Tail) → getD (s .slots) j free ≡ peer receiver → Leaves (toPeer image s i sender receiver m x)

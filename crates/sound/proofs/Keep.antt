@@ -1,20 +1,19 @@
 -- "an empty guard is good and every call keeps good memory good": each call keeps a sound state sound. Assumes nothing.
 use mathlib.Core.Path.{_≡_, refl, _∙_}
-use mathlib.Core.Bool.{true, false, cond}
+use mathlib.Core.Bool.{true, cond}
 use mathlib.Core.List.{List, [], _∷_, _++_}
 use Prim.Native.Nat.{ℕ, _+_, _≤_, _<_}
 use native.Mathlib.Omega.{arith}
 use lib.Dec.{leb, ltb}
 use lib.ListN.{length, getD, set, length-set, length-map}
 use borrow.Author.Tests.{lt-ltb, ltb-true, ltb-false, leb-false, eq-eqb}
-use Rattle.header.specs.Header.{readHeader}
+use Rattle.wire.specs.Lists.{distinct, every}
 use Rattle.header.specs.declared.Header.{Header}
-use Rattle.header.specs.declared.Reading.the-variants.{Whole}
 use Rattle.policy.specs.Names.{owns}
 use Rattle.policy.specs.Decisions.{mayConnect, mayOwn}
 use Rattle.stream.specs.Stream.{Verdict, more, broken, whole, offer, settled}
 use Rattle.stream.proofs.Good.{fresh-good}
-use Rattle.stream.specs.Tail.{Tail, fresh, closed, tails, goodTail}
+use Rattle.stream.specs.Tail.{Tail, closed, tails}
 use Rattle.rules.specs.State.{Peer, Slot, free, peer, State, isFree, isPeer, firstBy, putSlot, withNames, withStream}
 use Rattle.rules.specs.Addresses.{ownable}
 use Rattle.rules.specs.Pending.{awaits, bereft}
@@ -22,13 +21,11 @@ use Rattle.rules.specs.Calls.{Step, stays, empty, noConnect, newcomer, seated, 
 use Rattle.rules.specs.Calls.{releaseAt, release, noPiece, offered, offeredTo, pieceAt, piece, disconnectAt, disconnect}
 use Rattle.memory.specs.Good.{goodSlots}
 use Rattle.memory.proofs.Octets.{below-every}
-use Rattle.memory.specs.Sound.{every, word32, narrow, octet, headOctets, Sound}
+use Rattle.memory.specs.Sound.{word32, narrow, octet, headOctets, Sound}
 use Rattle.rules.proofs.Tests.{choice}
 use Rattle.sound.proofs.Serial.{header-serial, offer-keeps}
 use Rattle.sound.proofs.Slots.{first-none}
 use Rattle.rules.proofs.First.{first-passes, taken-below}
-use Rattle.sound.proofs.Names.{okNames}
-use Rattle.rules.proofs.Waits.{okPending}
 use Rattle.sound.proofs.Kept.{sound-kept, kept-sound}
 use Rattle.sound.proofs.Put.{peer-fine, put-there, New, new-kept, gone-kept}
 use Rattle.sound.proofs.Renew.{stream-sound, granted-sound, released-sound}
@@ -50,7 +47,7 @@ empty-sound = record { sixteen = refl; fits = omega arith; slots = refl; narrows
 module _ (s : State Tail) (uid : ℕ) (gids : List ℕ) (g : Sound s)
     (user : uid < 4294967296) (groups : every word32 gids ≡ true) where
   newcomer-new : length gids ≤ 16 → New (s .last) (newcomer tails (s .last + 1) uid gids)
-  unfolding okNames okPending owns awaits
+  unfolding distinct owns awaits
   newcomer-new l =
       record {
         number = refl;

@@ -1,17 +1,18 @@
 -- Good slots by place: each good by itself, a number and a name in one slot at most, and each callee in some slot. Assumes nothing.
 use mathlib.Core.Path.{_≡_, refl, subst}
-use mathlib.Core.Bool.{Bool, true, false, _&&_, false≢true}
+use mathlib.Core.Bool.{true, false, _&&_, false≢true}
 use mathlib.Core.List.{List, [], _∷_}
 use Prim.Native.Nat.{ℕ, zero, suc, _≤_, _<_}
-use lib.Dec.{leb}
 use lib.ListN.{length, getD}
-use borrow.Author.Tests.{leb-true, le-leb, eq-eqb, eqb-true}
+use borrow.Author.Tests.{eq-eqb, eqb-true}
+use Rattle.wire.specs.Lists.{every}
 use Rattle.wire.proofs.Texts.{both-first, both-second, both-true}
 use Rattle.stream.specs.Tail.{Tail, goodTail}
 use Rattle.rules.specs.State.{Peer, Slot, free, peer, State, isPeer}
 use Rattle.rules.specs.Calls.{isOwner}
-use Rattle.memory.specs.Good.{nobody, goodNames, goodPending, goodPeer, goodSlot, goodSlots}
-use Rattle.memory.specs.Sound.{every, word32, narrow, octet, headOctets, Sound}
+use Rattle.memory.specs.Good.{nobody, goodPeer, goodSlot, goodSlots}
+use Rattle.memory.specs.Sound.{word32, narrow, octet, headOctets, Sound}
+use Rattle.memory.proofs.Peers.{peer-good, good-peer}
 use Rattle.sound.proofs.Slots.{nobody-at, nobody-of, somebody-at, somebody-of, every-of, Single, single-head, single-apart, single-rest}
 use Rattle.sound.proofs.Names.{okNames, names-ok, names-apart, names-good}
 use Rattle.rules.proofs.Replies.{isWaiting}
@@ -58,78 +59,46 @@ record Beside (all : List (Slot Tail)) (last : ℕ) (x : Slot Tail) (later : Lis
   callee : (c s : ℕ) → isWaiting c s x ≡ true → (j : ℕ) × (isPeer c (getD all j free) ≡ true)
 
 module _ (all : List (Slot Tail)) (last : ℕ) (p : Peer Tail) (later : List (Slot Tail)) where
-  abbrev range : Bool
-  range = leb 1 (p .number) && leb (p .number) last
-
-  abbrev apart : Bool
-  apart = range && nobody (isPeer (p .number)) later
-
-  abbrev gidsFit : Bool
-  gidsFit = apart && leb (length (p .gids)) 16
-
-  abbrev pendingFit : Bool
-  pendingFit = gidsFit && leb (length (p .pending)) 16
-
-  abbrev namesFit : Bool
-  namesFit = pendingFit && leb (length (p .names)) 4
-
-  abbrev pendingGood : Bool
-  pendingGood = namesFit && goodPending all (p .pending)
-
-  abbrev namesGood : Bool
-  namesGood = pendingGood && goodNames (p .names) later
-
   peer-beside : goodPeer all last p later ≡ true → narrow (peer p) ≡ true → headOctets (peer p) ≡ true → Beside all last (peer p) later
-  unfolding goodPeer narrow headOctets
+  unfolding narrow headOctets
   peer-beside e w o =
-      let h7 = both-first namesGood (goodTail (p .stream)) e in
-      let h6 = both-first pendingGood (goodNames (p .names) later) h7 in
-      let h5 = both-first namesFit (goodPending all (p .pending)) h6 in
-      let h4 = both-first pendingFit (leb (length (p .names)) 4) h5 in
-      let h3 = both-first gidsFit (leb (length (p .pending)) 16) h4 in
-      let h2 = both-first apart (leb (length (p .gids)) 16) h3 in
-      let h1 = both-first range (nobody (isPeer (p .number)) later) h2 in
+      let g = peer-good all last p later e in
       let w1 = both-first (word32 (p .uid) && every word32 (p .gids)) (narrowPending (p .pending)) w in
       record {
         alone =
             record {
-              low = leb-true 1 (p .number) (both-first (leb 1 (p .number)) (leb (p .number) last) h1);
-              high = leb-true (p .number) last (both-second (leb 1 (p .number)) (leb (p .number) last) h1);
-              few-gids = leb-true (length (p .gids)) 16 (both-second apart (leb (length (p .gids)) 16) h3);
-              few-pending = leb-true (length (p .pending)) 16 (both-second gidsFit (leb (length (p .pending)) 16) h4);
-              few-names = leb-true (length (p .names)) 4 (both-second pendingFit (leb (length (p .names)) 4) h5);
-              waits = pending-ok all (p .pending) (both-second namesFit (goodPending all (p .pending)) h6);
-              owned = names-ok later (p .names) (both-second pendingGood (goodNames (p .names) later) h7);
-              tail = both-second namesGood (goodTail (p .stream)) e;
+              low = g .some;
+              high = g .within;
+              few-gids = g .gids;
+              few-pending = g .calls;
+              few-names = g .few;
+              waits = pending-ok all (p .pending) (g .pending);
+              owned = names-ok later (p .names) (g .names);
+              tail = g .tail;
               user = both-first (word32 (p .uid)) (every word32 (p .gids)) w1;
               groups = both-second (word32 (p .uid)) (every word32 (p .gids)) w1;
               serials = both-second (word32 (p .uid) && every word32 (p .gids)) (narrowPending (p .pending)) w;
               bytes = o;
             };
-        number =
-            λ n q.
-            nobody-at (isPeer n) refl later
-            (subst (λ (k : ℕ). nobody (isPeer k) later ≡ true) (eqb-true (p .number) n q) (both-second range (nobody (isPeer (p .number)) later) h2));
-        name =
-            λ y q. nobody-at (isOwner y) refl later (names-apart later (p .names) (both-second pendingGood (goodNames (p .names) later) h7) y q);
-        callee =
-            λ c s q. somebody-at (isPeer c) all (pending-known all (p .pending) (both-second namesFit (goodPending all (p .pending)) h6) c s q);
+        number = λ n q. nobody-at (isPeer n) refl later (subst (λ (k : ℕ). nobody (isPeer k) later ≡ true) (eqb-true (p .number) n q) (g .alone));
+        name = λ y q. nobody-at (isOwner y) refl later (names-apart later (p .names) (g .names) y q);
+        callee = λ c s q. somebody-at (isPeer c) all (pending-known all (p .pending) (g .pending) c s q);
       }
 
-  peer-good : Beside all last (peer p) later → goodPeer all last p later ≡ true
-  unfolding goodPeer
-  peer-good b =
-      rw (
-        le-leb 1 (p .number) (b .alone .low),
-        le-leb (p .number) last (b .alone .high),
-        nobody-of (isPeer (p .number)) later (b .number (p .number) (eq-eqb (p .number) (p .number) refl)),
-        le-leb (length (p .gids)) 16 (b .alone .few-gids),
-        le-leb (length (p .pending)) 16 (b .alone .few-pending),
-        le-leb (length (p .names)) 4 (b .alone .few-names),
-        pending-good all (p .pending) (b .alone .waits) (λ c s q. let r = b .callee c s q in somebody-of (isPeer c) refl all (r .0) (r .1)),
-        names-good later (p .names) (b .alone .owned) (λ y q. nobody-of (isOwner y) later (b .name y q)),
-      )
-      (b .alone .tail)
+  beside-good : Beside all last (peer p) later → goodPeer all last p later ≡ true
+  beside-good b =
+      good-peer all last p later
+      (record {
+        some = b .alone .low;
+        within = b .alone .high;
+        alone = nobody-of (isPeer (p .number)) later (b .number (p .number) (eq-eqb (p .number) (p .number) refl));
+        gids = b .alone .few-gids;
+        calls = b .alone .few-pending;
+        few = b .alone .few-names;
+        pending = pending-good all (p .pending) (b .alone .waits) (λ c s q. let r = b .callee c s q in somebody-of (isPeer c) refl all (r .0) (r .1));
+        names = names-good later (p .names) (b .alone .owned) (λ y q. nobody-of (isOwner y) later (b .name y q));
+        tail = b .alone .tail;
+      })
 
   peer-narrow : Fine last p → narrow (peer p) ≡ true
   unfolding narrow
@@ -144,7 +113,7 @@ slot-beside all last (peer p) later e w o = peer-beside all last p later e w o
 
 slot-good : (all : List (Slot Tail)) (last : ℕ) (x : Slot Tail) (later : List (Slot Tail)) → Beside all last x later → goodSlot all last x later ≡ true
 slot-good all last free later b = refl
-slot-good all last (peer p) later b = peer-good all last p later b
+slot-good all last (peer p) later b = beside-good all last p later b
 
 slot-narrow : (last : ℕ) (x : Slot Tail) → Alone last x → narrow x ≡ true
 unfolding narrow

@@ -2,21 +2,22 @@
 use mathlib.Core.Path.{_≡_, refl, sym, ap, _∙_}
 use mathlib.Core.Bool.{Bool, true, false, cond}
 use mathlib.Core.List.{List, [], _∷_, _++_}
-use Prim.Native.Nat.{ℕ, zero, suc, _+_, _<_}
+use Prim.Native.Nat.{ℕ, _+_}
 use native.Mathlib.Omega.{arith}
 use lib.Dec.{ltb}
-use lib.ListN.{length, getD, take}
-use borrow.Author.Tests.{lt-ltb, ltb-true}
-use Rattle.wire.proofs.Texts.{both-first, both-second, both-true}
+use lib.ListN.{length, take}
+use Rattle.wire.specs.Lists.{every}
+use Rattle.wire.proofs.Texts.{both-first, both-second}
 use Rattle.header.specs.Header.{readHeader}
 use Rattle.header.specs.declared.Header.{Header}
 use Rattle.header.specs.declared.Reading.{Reading}
 use Rattle.header.specs.declared.Reading.the-variants.{Short, Broken, Whole}
 use Rattle.stream.specs.Stream.{Verdict, more, broken, whole, Streams, Offer, offer, settled}
+use Rattle.stream.specs.Steps.{follows}
 use Rattle.stream.specs.Tail.{Tail, finished, push, judge, tails, headEnd}
-use Rattle.rules.proofs.Seen.{ruled, offer-cons}
+use Rattle.stream.proofs.Offers.{offer-step}
 use Rattle.memory.proofs.Octets.{every-snoc}
-use Rattle.memory.specs.Sound.{every, octet}
+use Rattle.memory.specs.Sound.{octet}
 
 push-octets : (t : Tail) (b : ℕ) → every octet (t .head) ≡ true → octet b ≡ true → every octet (push t b .head) ≡ true
 push-octets t b e h = go (ltb (length (t .head)) (headEnd (t .head)))
@@ -30,10 +31,10 @@ unfolding offer
 taken-octets t [] e h = e
 taken-octets t (b ∷ p) e h =
     let pushed = push-octets t b e (both-first (octet b) (every octet p) h) in
-    rw (offer-cons tails t b p) (go (judge (push t b)) pushed (taken-octets (push t b) p pushed (both-second (octet b) (every octet p) h)))
+    rw (offer-step tails t b p) (go (judge (push t b)) pushed (taken-octets (push t b) p pushed (both-second (octet b) (every octet p) h)))
   where
     go : (v : Verdict) → every octet (push t b .head) ≡ true → every octet (offer tails (push t b) p .stream .head) ≡ true
-        → every octet (ruled v (push t b) (offer tails (push t b) p) .stream .head) ≡ true
+        → every octet (follows v (push t b) (offer tails (push t b) p) .stream .head) ≡ true
     go more a ih = ih
     go (broken n) a ih = a
     go (whole k x) a ih = a
@@ -54,12 +55,12 @@ pub offer-judge : {S : Type 0} (O : Streams S) (s : S) (p h : List ℕ) (x : Hea
 unfolding offer
 offer-judge O s [] h x e = let z : _≡_ {A = ℕ} 0 1 = cc in absurd (omega arith)
 offer-judge {S} O s (b ∷ p) h x e =
-    rw (offer-cons O s b p) (go (O .judge (O .push s b)) refl (ap (λ (o : Offer S). o .verdict) (sym (offer-cons O s b p)) ∙ e)
+    rw (offer-step O s b p) (go (O .judge (O .push s b)) refl (ap (λ (o : Offer S). o .verdict) (sym (offer-step O s b p)) ∙ e)
     (offer-judge O (O .push s b) p h x))
   where
-    go : (v : Verdict) → O .judge (O .push s b) ≡ v → ruled v (O .push s b) (offer O (O .push s b) p) .verdict ≡ whole h x
+    go : (v : Verdict) → O .judge (O .push s b) ≡ v → follows v (O .push s b) (offer O (O .push s b) p) .verdict ≡ whole h x
         → (offer O (O .push s b) p .verdict ≡ whole h x → O .judge (offer O (O .push s b) p .stream) ≡ whole h x)
-        → O .judge (ruled v (O .push s b) (offer O (O .push s b) p) .stream) ≡ whole h x
+        → O .judge (follows v (O .push s b) (offer O (O .push s b) p) .stream) ≡ whole h x
     go more q a ih = ih a
     go (broken n) q a ih = let z : _≡_ {A = ℕ} 0 1 = cc in absurd (omega arith)
     go (whole k y) q a ih = q ∙ a

@@ -1,21 +1,20 @@
 -- Good pending calls are good by themselves and have connected callees; and serials of 32 bits. Assumes nothing.
-use mathlib.Core.Path.{_≡_, refl, subst}
-use mathlib.Core.Logic.{_⊎_, inl, inr}
-use mathlib.Core.Bool.{Bool, true, false, not, _&&_, false≢true}
+use mathlib.Core.Path.{_≡_, subst}
+use mathlib.Core.Bool.{Bool, true, _&&_}
 use mathlib.Core.List.{List, [], _∷_, _++_}
 use Prim.Native.Nat.{ℕ, _<_}
-use lib.Dec.{leb}
-use borrow.Author.Tests.{lt-ltb, not-true}
+use borrow.Author.Tests.{lt-ltb}
+use Rattle.wire.specs.Lists.{any, every}
 use Rattle.wire.proofs.Texts.{both-first, both-second, both-true}
 use Rattle.stream.specs.Tail.{Tail}
 use Rattle.rules.specs.State.{Pending, Slot, isPeer}
-use Rattle.rules.specs.Pending.{isCall, awaits}
-use Rattle.rules.proofs.Tests.{either, or-left, or-right}
+use Rattle.rules.specs.Pending.{isCall, sameCall, awaits}
 use Rattle.rules.proofs.Fewer.{Fewer, none, skip, keep}
-use Rattle.rules.proofs.Waits.{call, call-callee, call-own, okPending, first-serial, first-once, rest-ok}
-use Rattle.memory.specs.Good.{nobody, goodPending}
+use Rattle.rules.proofs.Any.{distinct-any, distinct-pass}
+use Rattle.rules.proofs.Waits.{call, call-callee, call-own, hasSerial, okPending}
+use Rattle.memory.specs.Good.{goodPending}
 use Rattle.memory.proofs.Octets.{every-snoc}
-use Rattle.memory.specs.Sound.{every, word32}
+use Rattle.memory.specs.Sound.{word32}
 
 -- ---- numbers of 32 bits
 
@@ -34,45 +33,21 @@ narrow-snoc ws c s e h = every-snoc (λ w. word32 (w .serial)) ws (call c s) e (
 -- ---- good pending calls are good by themselves, and their callees are connected
 
 module _ (all : List (Slot Tail)) where
-  abbrev front : Pending → List Pending → Bool
-  front w ws = not (nobody (isPeer (w .callee)) all) && leb 1 (w .serial) && not (awaits (w .callee) (w .serial) ws)
-
   abbrev known : Pending → Bool
-  known w = not (nobody (isPeer (w .callee)) all)
+  known w = any (isPeer (w .callee)) all
 
   pub pending-ok : (ws : List Pending) → goodPending all ws ≡ true → okPending ws ≡ true
-  unfolding goodPending okPending
-  pending-ok [] e = refl
-  pending-ok (w ∷ ws) e =
-      let a = both-first (front w ws) (goodPending all ws) e in
-      rw (
-        both-second (known w) (leb 1 (w .serial)) (both-first (known w && leb 1 (w .serial)) (not (awaits (w .callee) (w .serial) ws)) a),
-        both-second (known w && leb 1 (w .serial)) (not (awaits (w .callee) (w .serial) ws)) a,
-      )
-      (pending-ok ws (both-second (front w ws) (goodPending all ws) e))
+  unfolding goodPending
+  pending-ok ws e = distinct-pass (λ w. known w && hasSerial w) sameCall hasSerial call-own ws e (λ w h p. both-second (known w) (hasSerial w) h)
 
-  pub pending-known : (ws : List Pending) → goodPending all ws ≡ true → (c s : ℕ) → awaits c s ws ≡ true → nobody (isPeer c) all ≡ false
+  pub pending-known : (ws : List Pending) → goodPending all ws ≡ true → (c s : ℕ) → awaits c s ws ≡ true → any (isPeer c) all ≡ true
   unfolding goodPending awaits
-  pending-known [] e c s h = absurd (false≢true h)
-  pending-known (w ∷ ws) e c s h = go (either (isCall c s w) (awaits c s ws) h) (pending-known ws (both-second (front w ws) (goodPending all ws) e) c s)
-    where
-      here : nobody (isPeer (w .callee)) all ≡ false
-      here =
-          not-true (nobody (isPeer (w .callee)) all)
-          (both-first (known w) (leb 1 (w .serial))
-          (both-first (known w && leb 1 (w .serial)) (not (awaits (w .callee) (w .serial) ws)) (both-first (front w ws) (goodPending all ws) e)))
+  pending-known ws e c s h =
+      distinct-any (λ w. known w && hasSerial w) sameCall (any (isPeer c) all ≡ true) (isCall c s)
+      (λ w p q. subst (λ (x : ℕ). any (isPeer x) all ≡ true) (call-callee c s w q) (both-first (known w) (hasSerial w) p)) ws e h
 
-      go : (isCall c s w ≡ true) ⊎ (awaits c s ws ≡ true) → (awaits c s ws ≡ true → nobody (isPeer c) all ≡ false) → nobody (isPeer c) all ≡ false
-      go (inl p) ih = subst (λ (x : ℕ). nobody (isPeer x) all ≡ false) (call-callee c s w p) here
-      go (inr p) ih = ih p
-
-  pub pending-good : (ws : List Pending) → okPending ws ≡ true → ((c s : ℕ) → awaits c s ws ≡ true → nobody (isPeer c) all ≡ false) → goodPending all ws ≡ true
+  pub pending-good : (ws : List Pending) → okPending ws ≡ true → ((c s : ℕ) → awaits c s ws ≡ true → any (isPeer c) all ≡ true) → goodPending all ws ≡ true
   unfolding goodPending awaits
-  pending-good [] e h = refl
-  pending-good (w ∷ ws) e h =
-      rw (
-        h (w .callee) (w .serial) (or-left (isCall (w .callee) (w .serial) w) (awaits (w .callee) (w .serial) ws) (call-own w)),
-        first-serial w ws e,
-        first-once w ws e,
-      )
-      (pending-good ws (rest-ok w ws e) (λ c s p. h c s (or-right (isCall c s w) (awaits c s ws) p)))
+  pending-good ws e h =
+      distinct-pass hasSerial sameCall (λ w. known w && hasSerial w) call-own ws e
+      (λ w o p. both-true (known w) (hasSerial w) (h (w .callee) (w .serial) p) o)

@@ -9,10 +9,11 @@ use lib.Dec.{eqb}
 use lib.ListN.{length, getD, set, length-set, List·getD-map}
 use lib.Seq.{getD-set-same}
 use borrow.Author.Tests.{eqb-true}
+use Rattle.wire.specs.Lists.{any}
 use Rattle.policy.specs.Names.{owns}
 use Rattle.stream.specs.Tail.{Tail}
 use Rattle.rules.specs.State.{Peer, Slot, free, peer, State, isFree, isPeer, putSlot}
-use Rattle.rules.specs.Pending.{awaits, endedAll, bereft}
+use Rattle.rules.specs.Pending.{sameCall, awaits, endedAll, bereft}
 use Rattle.rules.specs.Calls.{isOwner}
 use Rattle.memory.specs.Good.{nobody}
 use Rattle.memory.specs.Sound.{Sound}
@@ -22,7 +23,8 @@ use Rattle.rules.proofs.First.{taken-below}
 use Rattle.rules.proofs.Replies.{isWaiting}
 use Rattle.rules.proofs.Fewer.{ended-all-fewer, fewer-length}
 use Rattle.sound.proofs.Pending.{fewer-every}
-use Rattle.rules.proofs.Waits.{ok-fewer, awaits-fewer, ended-all-ends}
+use Rattle.rules.proofs.Any.{distinct-fewer}
+use Rattle.rules.proofs.Waits.{hasSerial, awaits-fewer, ended-all-ends}
 use Rattle.sound.proofs.Kept.{Fine, Alone, Kept, sound-kept, kept-sound}
 
 -- ---- any slot put
@@ -62,7 +64,7 @@ pub record Renewed (last : ℕ) (l : List (Slot Tail)) (p q : Peer Tail) : Type 
   pub number : q .number ≡ p .number
   pub fine : Fine last q
   pub names : (y : List ℕ) → owns (q .names) y ≡ true → (owns (p .names) y ≡ true) ⊎ (nobody (isOwner y) l ≡ true)
-  pub waits : (c s : ℕ) → awaits c s (q .pending) ≡ true → (awaits c s (p .pending) ≡ true) ⊎ (nobody (isPeer c) l ≡ false)
+  pub waits : (c s : ℕ) → awaits c s (q .pending) ≡ true → (awaits c s (p .pending) ≡ true) ⊎ (any (isPeer c) l ≡ true)
 
 module _ (last : ℕ) (l : List (Slot Tail)) (i : ℕ) (p q : Peer Tail) (k : Kept last l) (e : getD l i free ≡ peer p) where
   old-name : (y : List ℕ) → owns (p .names) y ≡ true → isOwner y (getD l i free) ≡ true
@@ -85,7 +87,7 @@ module _ (last : ℕ) (l : List (Slot Tail)) (i : ℕ) (p q : Peer Tail) (k : Ke
       name y j b (inl u) = k .names y j i b (old-name y u)
       name y j b (inr u) = absurd (clash b (nobody-at (isOwner y) refl l u j))
 
-      callee : (c s : ℕ) → (awaits c s (p .pending) ≡ true) ⊎ (nobody (isPeer c) l ≡ false) → (j : ℕ) × (isPeer c (getD l j free) ≡ true)
+      callee : (c s : ℕ) → (awaits c s (p .pending) ≡ true) ⊎ (any (isPeer c) l ≡ true) → (j : ℕ) × (isPeer c (getD l j free) ≡ true)
       callee c s (inl u) = k .callees i c s (old-wait c s u)
       callee c s (inr u) = somebody-at (isPeer c) l u
 
@@ -169,7 +171,7 @@ bereft-fine last n (peer p) a =
       few-gids = a .few-gids;
       few-pending = omega (arith, fewer-length f, a .few-pending);
       few-names = a .few-names;
-      waits = ok-fewer f (a .waits);
+      waits = distinct-fewer hasSerial sameCall f (a .waits);
       owned = a .owned;
       tail = a .tail;
       user = a .user;

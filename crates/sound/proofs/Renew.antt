@@ -6,16 +6,19 @@ use mathlib.Core.List.{List, [], _∷_, _++_}
 use Prim.Native.Nat.{ℕ, _≤_, _<_}
 use native.Mathlib.Omega.{arith}
 use lib.ListN.{length, getD, length-append}
+use Rattle.wire.specs.Bytes.{same}
+use Rattle.wire.specs.Lists.{any, every}
 use Rattle.policy.specs.Names.{owns}
 use Rattle.stream.specs.Tail.{Tail, goodTail}
 use Rattle.rules.specs.State.{Pending, Peer, free, peer, State, isPeer, putSlot, withNames, withPending, withStream}
 use Rattle.rules.specs.Addresses.{ownable}
-use Rattle.rules.specs.Pending.{isCall, awaits, ended}
+use Rattle.rules.specs.Pending.{isCall, sameCall, awaits, ended}
 use Rattle.rules.specs.Calls.{isOwner, released}
 use Rattle.memory.specs.Good.{nobody}
-use Rattle.memory.specs.Sound.{every, octet, Sound}
+use Rattle.memory.specs.Sound.{octet, Sound}
 use Rattle.sound.proofs.Slots.{nobody-at}
-use Rattle.rules.proofs.Fewer.{fewer-length, released-fewer, ended-fewer}
+use Rattle.rules.proofs.Fewer.{fewer-length, drop-fewer}
+use Rattle.rules.proofs.Any.{any-snoc, distinct-fewer}
 use Rattle.sound.proofs.Names as names
 use Rattle.rules.proofs.Waits as waits
 use Rattle.sound.proofs.Pending.{fewer-every, narrowPending, narrow-snoc}
@@ -33,7 +36,7 @@ module _ (s : State Tail) (i : ℕ) (p : Peer Tail) (g : Sound s) (e : getD (s .
 
   -- pending calls whose callees are connected, names of which none is another's, and a good stream
   renewed : (ws : List Pending) (ns : List (List ℕ)) (t : Tail) → length ws ≤ 16 → waits.okPending ws ≡ true → narrowPending ws ≡ true
-      → ((c r : ℕ) → awaits c r ws ≡ true → (awaits c r (p .pending) ≡ true) ⊎ (nobody (isPeer c) (s .slots) ≡ false)) → length ns ≤ 4 → names.okNames ns ≡ true
+      → ((c r : ℕ) → awaits c r ws ≡ true → (awaits c r (p .pending) ≡ true) ⊎ (any (isPeer c) (s .slots) ≡ true)) → length ns ≤ 4 → names.okNames ns ≡ true
       → ((y : List ℕ) → owns ns y ≡ true → (owns (p .names) y ≡ true) ⊎ (nobody (isOwner y) (s .slots) ≡ true)) → goodTail t ≡ true
       → every octet (t .head) ≡ true
       → Sound (putSlot s i (peer (changed ws ns t)))
@@ -66,7 +69,7 @@ module _ (s : State Tail) (i : ℕ) (p : Peer Tail) (g : Sound s) (e : getD (s .
       renewed (p .pending) ns (p .stream) (fine .few-pending) (fine .waits) (fine .serials) (λ c r q. inl q) l o h (fine .tail) (fine .bytes)
 
   pending-renewed : (ws : List Pending) → length ws ≤ 16 → waits.okPending ws ≡ true → narrowPending ws ≡ true
-      → ((c r : ℕ) → awaits c r ws ≡ true → (awaits c r (p .pending) ≡ true) ⊎ (nobody (isPeer c) (s .slots) ≡ false))
+      → ((c r : ℕ) → awaits c r ws ≡ true → (awaits c r (p .pending) ≡ true) ⊎ (any (isPeer c) (s .slots) ≡ true))
       → Sound (putSlot s i (peer (withPending p ws)))
   pending-renewed ws l o n h = renewed ws (p .names) (p .stream) l o n h (fine .few-names) (fine .owned) (λ y q. inl q) (fine .tail) (fine .bytes)
 
@@ -89,26 +92,29 @@ module _ (s : State Tail) (i : ℕ) (p : Peer Tail) (g : Sound s) (e : getD (s .
       go y (inr q) = inr (subst (λ (z : List ℕ). nobody (isOwner z) (s .slots) ≡ true) (sym q) n)
 
   pub released-sound : (name : List ℕ) → Sound (putSlot s i (peer (withNames p (released name (p .names)))))
+  unfolding released
   released-sound name =
-      let f = released-fewer name (p .names) in
-      names-renewed (released name (p .names)) (omega (arith, fewer-length f, fine .few-names)) (names.ok-fewer f (fine .owned))
+      let f = drop-fewer (λ x. same x name) (p .names) in
+      names-renewed (released name (p .names)) (omega (arith, fewer-length f, fine .few-names)) (distinct-fewer ownable names.sameName f (fine .owned))
       (λ y q. inl (names.owns-fewer f y q))
 
-  pub waits-sound : (c r : ℕ) → nobody (isPeer c) (s .slots) ≡ false → awaits c r (p .pending) ≡ false → length (p .pending) < 16 → 1 ≤ r → r < 4294967296
+  pub waits-sound : (c r : ℕ) → any (isPeer c) (s .slots) ≡ true → awaits c r (p .pending) ≡ false → length (p .pending) < 16 → 1 ≤ r → r < 4294967296
       → Sound (putSlot s i (peer (withPending p (p .pending ++ (call c r ∷ [])))))
+  unfolding awaits
   waits-sound c r k n l a b =
       pending-renewed (p .pending ++ (call c r ∷ [])) (omega (arith, length-append (p .pending) (call c r ∷ [])))
       (waits.ok-snoc (p .pending) c r (fine .waits) a n) (narrow-snoc (p .pending) c r (fine .serials) b)
-      (λ d q h. go d q (waits.awaits-snoc (p .pending) (call c r) d q h))
+      (λ d q h. go d q (any-snoc (isCall d q) (p .pending) (call c r) h))
     where
       go : (d q : ℕ) → (awaits d q (p .pending) ≡ true) ⊎ (isCall d q (call c r) ≡ true)
-          → (awaits d q (p .pending) ≡ true) ⊎ (nobody (isPeer d) (s .slots) ≡ false)
+          → (awaits d q (p .pending) ≡ true) ⊎ (any (isPeer d) (s .slots) ≡ true)
       go d q (inl h) = inl h
-      go d q (inr h) = inr (subst (λ (z : ℕ). nobody (isPeer z) (s .slots) ≡ false) (waits.call-callee d q (call c r) h) k)
+      go d q (inr h) = inr (subst (λ (z : ℕ). any (isPeer z) (s .slots) ≡ true) (waits.call-callee d q (call c r) h) k)
 
   pub ended-sound : (c r : ℕ) → Sound (putSlot s i (peer (withPending p (ended c r (p .pending)))))
+  unfolding ended
   ended-sound c r =
-      let f = ended-fewer c r (p .pending) in
-      pending-renewed (ended c r (p .pending)) (omega (arith, fewer-length f, fine .few-pending)) (waits.ok-fewer f (fine .waits))
+      let f = drop-fewer (isCall c r) (p .pending) in
+      pending-renewed (ended c r (p .pending)) (omega (arith, fewer-length f, fine .few-pending)) (distinct-fewer waits.hasSerial sameCall f (fine .waits))
       (fewer-every _ f (fine .serials))
       (λ d q h. inl (waits.awaits-fewer f d q h))

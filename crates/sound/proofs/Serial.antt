@@ -3,13 +3,11 @@
 use mathlib.Core.Bool.{true, false}
 use mathlib.Core.List.{List}
 use mathlib.Core.Path.{_≡_}
-use Prim.Native.Nat.{ℕ, _+_, _≤_, _<_}
+use Prim.Native.Nat.{ℕ, _≤_, _<_}
 use native.Mathlib.Omega.{arith}
 use lib.ListN.{getD}
 use borrow.Author.Tests.{eqb-false}
-use Rattle.wire.specs.Words.{wordAt}
-use Rattle.wire.specs.declared.Order.{Order}
-use Rattle.wire.specs.declared.Order.the-variants.{Little, Big}
+use Rattle.wire.proofs.Words.{word-below}
 use Rattle.header.specs.declared.Header.{Header}
 use Rattle.header.specs.declared.Reading.the-variants.{Whole}
 use Rattle.header.specs.Fixed.{orderOf, serialOf}
@@ -20,11 +18,6 @@ use Rattle.stream.proofs.Good.{open-more}
 use Rattle.stream.proofs.Pushes.{offer-good}
 use Rattle.header.proofs.Front.{fixed-good}
 use Rattle.header.proofs.Readings.{whole-fits}
-
-word-below : (o : Order) (s : List ℕ) (at : ℕ) → ((i : ℕ) → getD s i 0 < 256) → wordAt o s at < 4294967296
-unfolding wordAt
-word-below Little s at b = omega (arith, b at, b (at + 1), b (at + 2), b (at + 3))
-word-below Big s at b = omega (arith, b at, b (at + 1), b (at + 2), b (at + 3))
 
 pub header-serial : (h : List ℕ) (x : Header) → ((i : ℕ) → getD h i 0 < 256) → readHeader h ≡ Whole x → (1 ≤ x .serial) × (x .serial < 4294967296)
 header-serial h x b e =

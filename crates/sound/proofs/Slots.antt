@@ -2,68 +2,49 @@
 -- Assumes nothing.
 use mathlib.Core.Path.{_≡_, refl, sym, ap, _∙_}
 use mathlib.Core.Logic.{_⊎_, inl, inr}
-use mathlib.Core.Bool.{Bool, true, false, cond, not, _&&_, false≢true}
+use mathlib.Core.Bool.{Bool, true, false, _&&_, false≢true}
 use mathlib.Core.List.{List, [], _∷_}
 use Prim.Native.Nat.{ℕ, zero, suc, _<_}
 use native.Mathlib.Omega.{arith}
 use native.Mathlib.Decide.{ℕ-discrete}
-use lib.Dec.{leb, ltb, leb·suc-suc, leb·suc-zero}
+use lib.Dec.{ltb}
 use lib.ListN.{length, getD, set}
 use lib.Seq.{getD-set-same, getD-set-other}
-use borrow.Author.Tests.{le-leb, ltb-false}
+use borrow.Author.Tests.{not-true}
+use Rattle.wire.specs.Lists.{any, every}
 use Rattle.stream.specs.Tail.{Tail}
 use Rattle.rules.specs.State.{Slot, free, firstBy}
 use Rattle.memory.specs.Good.{nobody}
-use Rattle.memory.specs.Sound.{every}
-use Rattle.rules.proofs.Tests.{clash}
+use Rattle.wire.proofs.Texts.{either}
+use Rattle.rules.proofs.Tests.{clash, or-left, or-right, refute}
+use Rattle.rules.proofs.First.{first-any}
 
--- ---- nobody passes a test
-
-nobody-cons : (t : Slot Tail → Bool) (x : Slot Tail) (l : List (Slot Tail)) → nobody t (x ∷ l) ≡ not (t x) && nobody t l
-unfolding firstBy
-nobody-cons t x l = go (t x)
-  where
-    go : (b : Bool) → leb (suc (length l)) (cond b 0 (suc (firstBy t l))) ≡ not b && nobody t l
-    go true = leb·suc-zero (length l)
-    go false = leb·suc-suc (length l) (firstBy t l)
-
--- the test of each slot, where no free one passes
-pub nobody-at : (t : Slot Tail → Bool) → t free ≡ false → (l : List (Slot Tail)) → nobody t l ≡ true → (j : ℕ) → t (getD l j free) ≡ false
-nobody-at t f [] e j = f
-nobody-at t f (x ∷ l) e j = go (t x) refl (sym (nobody-cons t x l) ∙ e) j (nobody-at t f l)
-  where
-    go : (b : Bool) → t x ≡ b → not b && nobody t l ≡ true → (j : ℕ) → (nobody t l ≡ true → (k : ℕ) → t (getD l k free) ≡ false)
-        → t (getD (x ∷ l) j free) ≡ false
-    go true p h j ih = absurd (false≢true h)
-    go false p h zero ih = p
-    go false p h (suc k) ih = ih h k
-
-pub nobody-of : (t : Slot Tail → Bool) (l : List (Slot Tail)) → ((j : ℕ) → t (getD l j free) ≡ false) → nobody t l ≡ true
-unfolding firstBy
-nobody-of t [] h = refl
-nobody-of t (x ∷ l) h = nobody-cons t x l ∙ rw (h 0) (nobody-of t l (λ j. h (suc j)))
+-- ---- somebody passes a test, or nobody
 
 -- somebody does
-pub somebody-at : (t : Slot Tail → Bool) (l : List (Slot Tail)) → nobody t l ≡ false → (j : ℕ) × (t (getD l j free) ≡ true)
-unfolding firstBy
-somebody-at t [] e = absurd (false≢true (sym e))
-somebody-at t (x ∷ l) e = go (t x) refl (sym (nobody-cons t x l) ∙ e) (somebody-at t l)
+pub somebody-at : (t : Slot Tail → Bool) (l : List (Slot Tail)) → any t l ≡ true → (j : ℕ) × (t (getD l j free) ≡ true)
+somebody-at t [] e = absurd (false≢true e)
+somebody-at t (x ∷ l) e = go (either (t x) (any t l) e) (somebody-at t l)
   where
-    go : (b : Bool) → t x ≡ b → not b && nobody t l ≡ false → (nobody t l ≡ false → (j : ℕ) × (t (getD l j free) ≡ true))
-        → (j : ℕ) × (t (getD (x ∷ l) j free) ≡ true)
-    go true p h ih = (0, p)
-    go false p h ih = let r = ih h in (suc (r .0), r .1)
+    go : (t x ≡ true) ⊎ (any t l ≡ true) → (any t l ≡ true → (j : ℕ) × (t (getD l j free) ≡ true)) → (j : ℕ) × (t (getD (x ∷ l) j free) ≡ true)
+    go (inl p) ih = (0, p)
+    go (inr p) ih = let r = ih p in (suc (r .0), r .1)
 
-pub somebody-of : (t : Slot Tail → Bool) → t free ≡ false → (l : List (Slot Tail)) (j : ℕ) → t (getD l j free) ≡ true → nobody t l ≡ false
-somebody-of t f l j h = go (nobody t l) refl
-  where
-    go : (b : Bool) → nobody t l ≡ b → b ≡ false
-    go true e = absurd (clash h (nobody-at t f l e j))
-    go false e = refl
+-- where no free slot passes
+pub somebody-of : (t : Slot Tail → Bool) → t free ≡ false → (l : List (Slot Tail)) (j : ℕ) → t (getD l j free) ≡ true → any t l ≡ true
+somebody-of t f [] j h = absurd (clash h f)
+somebody-of t f (x ∷ l) zero h = or-left (t x) (any t l) h
+somebody-of t f (x ∷ l) (suc j) h = or-right (t x) (any t l) (somebody-of t f l j h)
+
+pub nobody-at : (t : Slot Tail → Bool) → t free ≡ false → (l : List (Slot Tail)) → nobody t l ≡ true → (j : ℕ) → t (getD l j free) ≡ false
+nobody-at t f l e j = refute (t (getD l j free)) (λ h. clash (somebody-of t f l j h) (not-true (any t l) e))
+
+pub nobody-of : (t : Slot Tail → Bool) (l : List (Slot Tail)) → ((j : ℕ) → t (getD l j free) ≡ false) → nobody t l ≡ true
+nobody-of t l h = rw (refute (any t l) (λ e. let r = somebody-at t l e in clash (r .1) (h (r .0))))
 
 -- where no first one passes, nobody does
 pub first-none : (t : Slot Tail → Bool) (l : List (Slot Tail)) → ltb (firstBy t l) (length l) ≡ false → nobody t l ≡ true
-first-none t l e = le-leb (length l) (firstBy t l) (ltb-false (firstBy t l) (length l) e)
+first-none t l e = rw (first-any t l, e)
 
 -- ---- every slot passes a test
 

@@ -3,7 +3,7 @@ use mathlib.Core.Path.{_≡_, refl, sym, ap, ap₂, _∙_, subst⁻¹}
 use mathlib.Core.List.{List, _++_}
 use Prim.Native.Nat.{ℕ, _+_, _-_, _≤_, _<_}
 use native.Mathlib.Omega.{arith}
-use native.Mathlib.Nat.{add-zero, zero-add}
+use native.Mathlib.Nat.{add-zero}
 use lib.ListN.{length, take, drop, length-drop, drop-of-length-le}
 use lib.Seq.{length-take-le, drop-drop}
 use borrow.Author.Tests.{le-ltb}
@@ -22,10 +22,10 @@ use Rattle.stream.specs.declared.Advance.{Advance}
 use Rattle.stream.specs.Stream.{more, broken, whole, Offer, offer}
 use Rattle.stream.specs.Tail.{Tail, judge, tails}
 use Rattle.stream.specs.Contracts.{tailIn, verdictOf, Gives}
-use Rattle.stream.specs.Steps.{Resumed, bumpBy, continued, resumed, Room, Stored}
+use Rattle.stream.specs.Steps.{Resumed, bumpBy, continued, resumed, allTaken, Room, Stored}
 use Rattle.stream.proofs.Heads.{whole-head, not-short}
 use Rattle.stream.proofs.Good.{kept}
-use Rattle.stream.proofs.Phases.{continued-more, counted, ended, continued-broken, continued-short}
+use Rattle.stream.proofs.Phases.{bump-none, continued-more, counted, ended, continued-broken, continued-short}
 use Rattle.stream.proofs.Regions.{fits, head-after}
 
 -- ---- what an offer comes to
@@ -54,12 +54,9 @@ same-offer {o} {o′} {n} {r} {region} e g = subst⁻¹ (λ (x : Offer Tail). Gi
 pub bump-twice : (j k : ℕ) (o : Offer Tail) → bumpBy j (bumpBy k o) ≡ bumpBy (j + k) o
 bump-twice j k o = let e : j + (k + o .taken) ≡ j + k + o .taken = omega arith in λ i. record { verdict = o .verdict; taken = e i; stream = o .stream }
 
-pub bump-none : (o : Offer Tail) → bumpBy 0 o ≡ o
-bump-none o = let e = zero-add (o .taken) in λ i. record { verdict = o .verdict; taken = e i; stream = o .stream }
-
 -- an open stream resumes at the piece's first byte
 pub open-resumes : (t : Tail) (piece : List ℕ) → judge t ≡ more → offer tails t piece ≡ resumed t piece 0
-open-resumes t piece e = sym (bump-none (continued t piece) ∙ continued-more t piece e)
+open-resumes t piece e = sym (continued-more t piece e) ∙ bump-none (continued t piece)
 
 -- ---- bytes stored
 
@@ -118,7 +115,7 @@ module _ (region : List ℕ) (s : Stream) (piece : List ℕ) (used : ℕ) (x : H
   pub rest : length (drop used piece) ≡ length piece - used
   rest = length-drop used piece
 
-  pub body-more : s .taken + (length piece - used) < x .head + x .body → Resumed region s piece used (record { stream = record { taken = s .taken + (length piece - used); stored = s .stored }; taken = length piece; event = More }) region
+  pub body-more : s .taken + (length piece - used) < x .head + x .body → Resumed region s piece used (allTaken s piece used (s .stored)) region
   body-more h =
       let n : used + length (drop used piece) ≡ length piece = omega (arith, rest) in
       record {

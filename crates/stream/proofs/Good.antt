@@ -139,9 +139,6 @@ fresh-good = running-good fresh fresh-runs
 pub fresh-more : judge fresh ≡ more
 fresh-more = running-more fresh fresh-runs
 
-pub fresh-open : closed fresh ≡ false
-fresh-open = ap isBroken fresh-more
-
 pub tail-fits : (t : Tail) → goodTail t ≡ true → (t .taken < 134217728) × (length (t .head) ≤ 2048)
 tail-fits t g = go (good-kept t g)
   where

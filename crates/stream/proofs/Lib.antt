@@ -8,4 +8,3 @@ mod Gives
 mod Beginning
 mod Onward
 mod Tests
-pub mod Callers

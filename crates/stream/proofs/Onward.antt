@@ -19,7 +19,7 @@ use Rattle.stream.specs.declared.Event.the-variants.{More, Broken, Whole
 use Rattle.stream.specs.declared.Advance.{Advance}
 use Rattle.stream.specs.Stream.{whole}
 use Rattle.stream.specs.Contracts.{tailIn}
-use Rattle.stream.specs.Steps.{Resumed, resumed, Room, Stored, InHead, InBody, AtEnd}
+use Rattle.stream.specs.Steps.{Resumed, resumed, Room, Stored, InHead, InBody, AtEnd, allTaken}
 use Rattle.stream.proofs.Heads.{Sized, sized, not-short}
 use Rattle.stream.proofs.Good.{kept}
 use Rattle.stream.proofs.Phases.{stored-head}
@@ -45,11 +45,9 @@ module _ {region : List ℕ} {s : Stream} {piece : List ℕ} {used end message :
     is-lengths : (x .head ≡ end) × (x .head + x .body ≡ message)
     is-lengths = lengths (take (s .stored) region) x end message (is-read ∙ f) (a .sizes)
 
-    pub more-end : s .taken + (length piece - used) < message
-        → Resumed region s piece used (record { stream = record { taken = s .taken + (length piece - used); stored = end }; taken = length piece; event = More }) region
-    more-end h =
-        subst (λ (n : ℕ). Resumed region s piece used (record { stream = record { taken = s .taken + (length piece - used); stored = n }; taken = length piece; event = More }) region)
-        (a .kept)
+    pub more-end : s .taken + (length piece - used) < message → {q : Advance} → q ≡ allTaken s piece used end → Resumed region s piece used q region
+    more-end h g =
+        rw (g, ← a .kept)
         (body-more region s piece used x (is-read ∙ f) (a .kept ∙ sym (is-lengths .0)) (a .sized) (a .padded) (a .within) (rw (is-lengths .1) h))
 
     pub whole-end : message ≤ s .taken + (length piece - used)
@@ -143,11 +141,10 @@ module _ {region : List ℕ} {s : Stream} {piece : List ℕ} {used end message :
         within = i .within;
       }
 
-  pub more-body : s .taken + (length piece - used) < message
-      → Resumed region s piece used (record { stream = record { taken = s .taken + (length piece - used); stored = end }; taken = length piece; event = More }) region
-  more-body h =
+  pub more-body : s .taken + (length piece - used) < message → {q : Advance} → q ≡ allTaken s piece used end → Resumed region s piece used q region
+  more-body h g =
       let i = b .whole in
       let l = in-length i in
       let w = in-body-of (s .taken) (take (s .stored) region) end message (omega (arith, l, i .above)) (i .sizes) (omega (arith, l, body-kept)) (i .running (b .past)) in
       let r : reading.Whole (w .0) ≡ readHeader (take (end - 0) (drop 0 region)) = sym (w .1) ∙ ap (λ (n : ℕ). readHeader (take n region)) (body-kept ∙ sym (sub-zero end)) in
-      more-end end-body r refl h
+      more-end end-body r refl h g

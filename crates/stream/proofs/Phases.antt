@@ -35,7 +35,7 @@ continued-step t b p e = continued-more t (b ∷ p) e ∙ offer-step tails t b p
 bump-by : (k : ℕ) (o : Offer Tail) → bump (bumpBy k o) ≡ bumpBy (suc k) o
 bump-by k o = let e : suc (k + o .taken) ≡ suc k + o .taken = omega arith in λ i. record { verdict = o .verdict; taken = e i; stream = o .stream }
 
-bump-none : (o : Offer Tail) → o ≡ bumpBy 0 o
+pub bump-none : (o : Offer Tail) → o ≡ bumpBy 0 o
 bump-none o = let e = sym (zero-add (o .taken)) in λ i. record { verdict = o .verdict; taken = e i; stream = o .stream }
 
 -- k bytes are stored, none of which but the last completes the head or its fixed part

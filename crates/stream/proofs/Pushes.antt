@@ -74,7 +74,7 @@ push-body t b x e l = rw (le-ltb (length (t .head)) (headEnd (t .head)) (rw (who
 abbrev pub Outcome : Verdict → Tail → Type 0
 Outcome more t = Running t
 Outcome (broken a) t = Stopped t
-Outcome (whole h x) t = (readHeader h ≡ Whole x) × (length h ≡ x .head)
+Outcome (whole h x) t = (readHeader h ≡ Whole x) × (length (t .head) ≡ x .head)
 
 -- a stream that has just its whole head, of which n bytes have come
 body-outcome : (n : ℕ) (h : List ℕ) (x : Header) → readHeader h ≡ Whole x → length h ≡ x .head → x .head ≤ n → Outcome (finished n h (Whole x)) (record { taken = n; head = h })
@@ -84,7 +84,7 @@ body-outcome n h x e l k = go (decLt n (x .head + x .body))
     go (yes d) = rw (lt-ltb n (x .head + x .body) d) (in-body x e l k d)
     go (no d) =
         let q : take (x .head) h ≡ h = take-all (x .head) h (omega arith) in
-        rw (le-ltb n (x .head + x .body) (omega arith)) (rw q e, rw q l)
+        rw (le-ltb n (x .head + x .body) (omega arith)) (rw q e, l)
 
 pushed : (t : Tail) (b : ℕ) → Running t → Outcome (judge (push t b)) (push t b)
 pushed t b (in-head e n) = subst⁻¹ (λ (u : Tail). Outcome (judge u) u) (push-head t b e) (go (readHeader (t .head ++ (b ∷ []))) refl)
@@ -122,6 +122,6 @@ module _ (t : Tail) (p : List ℕ) (g : goodTail t ≡ true) (o : judge t ≡ mo
   pub offer-good : goodTail (settled tails (offer tails t p .verdict) (offer tails t p .stream)) ≡ true
   offer-good = settled-good (offer tails t p .verdict) (offer tails t p .stream) (offered t p (more-runs t g o))
 
-  -- the head that a whole message hands over is a whole head, and nothing behind it
-  pub offer-whole : (h : List ℕ) (x : Header) → offer tails t p .verdict ≡ whole h x → (readHeader h ≡ Whole x) × (length h ≡ x .head)
+  -- the head that a whole message hands over is a whole head, and the stream keeps nothing behind it
+  pub offer-whole : (h : List ℕ) (x : Header) → offer tails t p .verdict ≡ whole h x → (readHeader h ≡ Whole x) × (length (offer tails t p .stream .head) ≡ x .head)
   offer-whole h x e = subst (λ (v : Verdict). Outcome v (offer tails t p .stream)) e (offered t p (more-runs t g o))

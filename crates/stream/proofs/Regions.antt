@@ -1,36 +1,14 @@
 -- A head kept in a region that is zero behind it, and bytes stored behind the head. Assumes nothing.
-use mathlib.Core.Path.{_≡_, refl, sym, ap, ap₂, _∙_}
-use mathlib.Core.List.{List, _∷_, _++_, append-assoc}
-use Prim.Native.Nat.{ℕ, zero, suc, _+_, _-_, _≤_, min}
+use mathlib.Core.Path.{_≡_, sym, ap, ap₂, _∙_}
+use mathlib.Core.List.{List, _++_, append-assoc}
+use Prim.Native.Nat.{ℕ, _+_, _-_, _≤_, min}
 use native.Mathlib.Omega.{arith}
 use lib.ListN.{length, take, drop, replicate, length-append, length-take, length-drop}
-use lib.Seq.{take-append-add, take-at, drop-at, drop-drop, length-take-le}
+use lib.Seq.{take-at, drop-at, drop-drop, length-take-le}
 use Rattle.wire.specs.Bytes.{pad}
 use Rattle.wire.proofs.Words.{cut-at, put-at}
+use Rattle.wire.proofs.Parts.{drop-zeros, pad-fits}
 use Rattle.stream.specs.Steps.{Room, Stored}
-
-take-zeros : (m n : ℕ) → m ≤ n → take m (replicate n 0) ≡ replicate {A = ℕ} m 0
-take-zeros zero n h = refl
-take-zeros (suc m) zero h = absurd (omega arith)
-take-zeros (suc m) (suc n) h = ap (λ (x : List ℕ). 0 ∷ x) (take-zeros m n (omega arith))
-
-drop-zeros : (m n : ℕ) → m ≤ n → drop m (replicate n 0) ≡ replicate {A = ℕ} (n - m) 0
-drop-zeros zero n h = let e : n ≡ n - 0 = omega arith in ap (λ (k : ℕ). replicate {A = ℕ} k 0) e
-drop-zeros (suc m) zero h = absurd (omega arith)
-drop-zeros (suc m) (suc n) h =
-    let e : n - m ≡ suc n - suc m = omega arith in
-    drop-zeros m n (omega arith) ∙ ap (λ (k : ℕ). replicate {A = ℕ} k 0) e
-
--- what is padded, and the zeros
-pub pad-is : (n : ℕ) (h : List ℕ) → length h ≤ n → pad n h ≡ h ++ replicate (n - length h) 0
-unfolding pad
-pad-is n h l =
-    let e : n ≡ length h + (n - length h) = omega arith in
-    ap (λ (k : ℕ). take k (h ++ replicate n 0)) e ∙ take-append-add h (replicate n 0) (n - length h) ∙ ap (λ (x : List ℕ). h ++ x) (take-zeros (n - length h) n (omega arith))
-
--- the first of a padded list
-pub take-pad : (n : ℕ) (h : List ℕ) → length h ≤ n → take (length h) (pad n h) ≡ h
-take-pad n h l = ap (take (length h)) (pad-is n h l) ∙ take-at h (replicate (n - length h) 0) (length h) refl
 
 -- ---- bytes stored
 
@@ -63,15 +41,15 @@ module _ (region : List ℕ) (stored limit : ℕ) (piece : List ℕ) (used k : �
       let e : 2048 - length (take stored region) - k ≡ 2048 - (stored + k) = omega (arith, head-length) in
       let z : drop (stored + k) region ≡ replicate (2048 - (stored + k)) 0 =
       sym (drop-drop k stored region)
-      ∙ ap (λ (x : List ℕ). drop k (drop stored x)) (p ∙ pad-is 2048 (take stored region) (omega (arith, head-length)))
+      ∙ ap (λ (x : List ℕ). drop k (drop stored x)) (p ∙ pad-fits 2048 (take stored region) (omega (arith, head-length)))
       ∙ ap (drop k) (drop-at (take stored region) (replicate (2048 - length (take stored region)) 0) stored head-length)
-      ∙ drop-zeros k (2048 - length (take stored region)) (omega (arith, head-length))
+      ∙ drop-zeros k (2048 - length (take stored region))
       ∙ ap (λ (n : ℕ). replicate {A = ℕ} n 0) e in
       s .bytes
       ∙ sym (append-assoc (take stored region) (take k (drop used piece)) (drop (stored + k) region))
       ∙ ap (λ (x : List ℕ). (take stored region ++ take k (drop used piece)) ++ x) z
       ∙ ap (λ (n : ℕ). (take stored region ++ take k (drop used piece)) ++ replicate (2048 - n) 0) (sym l)
-      ∙ sym (pad-is 2048 (take stored region ++ take k (drop used piece)) (omega arith))
+      ∙ sym (pad-fits 2048 (take stored region ++ take k (drop used piece)) (omega arith))
       ∙ ap (pad 2048) (sym head-after)
 
 -- ---- what the code of `store` shows

@@ -9,7 +9,7 @@ use lib.Dec.{ltb, eqb}
 use lib.ListN.{length, take, drop}
 use lib.Seq.{length-take-le}
 use borrow.Author.Tests.{lt-ltb, eq-eqb, ne-eqb, le-leb, lt-leb, eqb-true}
-use Rattle.wire.proofs.Texts.{both-first, both-second, both-true}
+use Rattle.wire.proofs.Texts.{both-first, both-second, both-true, agree}
 use Rattle.header.specs.declared.Header.{Header}
 use Rattle.header.specs.declared.Fixed.{Fixed}
 use Rattle.header.specs.declared.Fixed.the-variants as fixed
@@ -27,12 +27,6 @@ use Rattle.stream.proofs.Heads.{Sized, sized, not-short, late-fault}
 use Rattle.stream.proofs.Good.{stopped, Kept, runs, stops, good-kept, running-more, end-is, sized-end}
 use Rattle.stream.proofs.Gives.{lengths}
 
--- two tests that say the same
-same-test : (a b : Bool) → (a ≡ true → b ≡ true) → (b ≡ true → a ≡ true) → a ≡ b
-same-test true b f g = sym (f refl)
-same-test false true f g = g refl
-same-test false false f g = refl
-
 module _ (region : List ℕ) (taken stored : ℕ) (i : stored ≤ length region) where
   is-length : length (take stored region) ≡ stored
   is-length = length-take-le stored region i
@@ -49,7 +43,7 @@ module _ (region : List ℕ) (taken stored : ℕ) (i : stored ≤ length region)
   -- in the head every byte is kept
   unread : (end : ℕ) → headEnd (take stored region) ≡ end → readHeader (take stored region) ≡ Short → stored < end → eqb taken stored ≡ goodTail (tailOf region taken stored)
   unread end e q l =
-      same-test (eqb taken stored) (eqb stored (min taken end) && true)
+      agree (eqb taken stored) (eqb stored (min taken end) && true)
       (λ p. let t = eqb-true taken stored p in both-true (eqb stored (min taken end)) true (eq-eqb stored (min taken end) (omega arith)) refl)
       (λ p. let t = eqb-true stored (min taken end) (both-first (eqb stored (min taken end)) true p) in eq-eqb taken stored (omega arith))
       ∙ sym (good-is end true e (rw q))
@@ -73,7 +67,7 @@ module _ (region : List ℕ) (taken stored : ℕ) (i : stored ≤ length region)
           let h : 16 ≤ headLength (take stored region) = head-low (take stored region) in
           let r : readHeader (take stored region) ≡ Broken n = read-broken (take stored region) is-above (is-fixed ∙ q) in
           let l = headLength (take stored region) in
-          same-test (eqb taken 16 && eqb stored 16) (eqb stored (min taken l) && eqb taken 16)
+          agree (eqb taken 16 && eqb stored 16) (eqb stored (min taken l) && eqb taken 16)
           (λ p.
           let t = eqb-true taken 16 (both-first (eqb taken 16) (eqb stored 16) p) in
           let u = eqb-true stored 16 (both-second (eqb taken 16) (eqb stored 16) p) in

@@ -7,6 +7,7 @@ use Rattle.wire.specs.Bytes.{pad}
 use Rattle.header.specs.declared.Fixed.the-variants.{Sizes}
 use Rattle.header.specs.Fixed.{headLength, fixedPart}
 use Rattle.stream.specs.declared.Stream.{Stream}
+use Rattle.stream.specs.declared.Event.the-variants.{More}
 use Rattle.stream.specs.declared.Advance.{Advance}
 use Rattle.stream.specs.Stream.{Verdict, more, broken, whole, Offer, offer}
 use Rattle.stream.specs.Tail.{Tail, judge, tails}
@@ -73,6 +74,11 @@ pub record AtEnd (region : List ℕ) (s : Stream) (piece : List ℕ) (used head 
   pub below : s .taken ≤ message
   pub few : message ≤ 134217728
   pub within : used ≤ length piece
+
+-- all that is left of a piece has been taken, in the body of a message whose head ends at `end`
+abbrev pub allTaken : Stream → List ℕ → ℕ → ℕ → Advance
+allTaken s piece used end =
+    record { stream = record { taken = s .taken + (length piece - used); stored = end }; taken = length piece; event = More }
 
 -- ---- bytes stored
 

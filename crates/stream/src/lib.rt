@@ -7,7 +7,7 @@ ghost use Prim.Native.Nat.{_≤_};
 ghost use lib.ListN.{length};
 ghost use Rattle.stream.specs.Tail.{goodTail, closed};
 ghost use Rattle.stream.specs.Contracts.{tailOf, GoodTail, Open, Advanced};
-ghost use Rattle.stream.specs.Steps.{WholeTail, Resumed, Room, Stored, Begun, InHead, InBody, AtEnd};
+ghost use Rattle.stream.specs.Steps.{WholeTail, Resumed, Room, Stored, Begun, InHead, InBody, AtEnd, allTaken};
 
 // Bytes taken of the unfinished message, and how many of them are its head's.
 pub struct Stream {
@@ -121,14 +121,7 @@ impl Stream {
     {
         let got = self.taken + (piece.len() - used);
         if got < message {
-            return Advance {
-                stream: Stream {
-                    taken: got,
-                    stored: end,
-                },
-                taken: piece.len(),
-                event: Event::More,
-            };
+            return self.take_all(piece, used, end);
         }
         self.after_head(head, piece, used, end, message)
     }
@@ -146,12 +139,6 @@ impl Stream {
         ensures { λ r. ⌜ Resumed (now (head .entry)) self (now (piece .entry)) used r (now (head .entry)) ⌝ }
     {
         match header::read(&head[0..end]) {
-            // Never: all of the head is there.
-            Reading::Short => Advance {
-                stream: self,
-                taken: used,
-                event: Event::More,
-            },
             Reading::Broken(answer) => Advance {
                 stream: self,
                 taken: used,
@@ -169,15 +156,25 @@ impl Stream {
                         event: Event::Whole(x),
                     };
                 }
-                Advance {
-                    stream: Stream {
-                        taken: got,
-                        stored: end,
-                    },
-                    taken: piece.len(),
-                    event: Event::More,
-                }
+                self.take_all(piece, used, end)
             }
+            // Never: all of the head is there.
+            Reading::Short => self.take_all(piece, used, end),
+        }
+    }
+
+    // All that is left of the piece is of the body, which it does not end.
+    fn take_all(self, piece: &[u8], used: usize, end: usize) -> Advance
+        requires { ⌜ (used ≤ length (now piece)) × (self .taken ≤ 134217728) ⌝ }
+        ensures { λ r. ⌜ r ≡ allTaken self (now (piece .entry)) used end ⌝ }
+    {
+        Advance {
+            stream: Stream {
+                taken: self.taken + (piece.len() - used),
+                stored: end,
+            },
+            taken: piece.len(),
+            event: Event::More,
         }
     }
 }
@@ -213,6 +210,7 @@ fn is_good_whole(taken: usize, head: &[u8], stored: usize, message: usize) -> bo
     ensures { λ r. ⌜ r ≡ goodTail (tailOf (now (head .entry)) taken stored) ⌝ }
 {
     match header::read(&head[0..stored]) {
+        // Never: all of the head is there.
         Reading::Short => false,
         Reading::Broken(_) => taken == stored,
         Reading::Whole(_) => taken < message,

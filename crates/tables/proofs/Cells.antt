@@ -1,13 +1,13 @@
 -- Things of one width, over the width and the encoding: where each stands, what putting one leaves, and that what was put is read back.
 -- Assumes nothing.
-use mathlib.Core.List.{List, [], _∷_, _++_, map, append-assoc}
+use mathlib.Core.List.{List, [], _∷_, _++_, map, append-assoc, append-nil}
 use mathlib.Core.Path.{_≡_, refl, sym, ap, ap₂, _∙_}
 use Prim.Native.Nat.{ℕ, zero, suc, _+_, _-_, _*_, _≤_, _<_}
 use native.Mathlib.Omega.{arith}
 use lib.ListN.{length, getD, take, drop, set, replicate, length-append, length-drop, take-append-drop, replicate-append-replicate}
 use lib.Seq.{take-at, drop-at, drop-drop, take-take, take-add, take-nil, drop-nil, length-take-le}
 use Rattle.tables.specs.Tables.{cells, parts}
-use Rattle.tables.proofs.Parts.{take-past, drop-past, drop-take}
+use Rattle.wire.proofs.Parts.{take-past, drop-past, drop-take}
 
 -- ---- parts
 
@@ -70,6 +70,11 @@ unfolding cells
 cells-append enc [] r = refl
 cells-append enc (x ∷ l) r =
     rw (cells-append enc l r) (sym (append-assoc (enc x) (cells enc l) (cells enc r)))
+
+-- one more
+pub cells-snoc : {A : Type 0} (enc : A → List ℕ) (l : List A) (x : A) → cells enc (l ++ (x ∷ [])) ≡ cells enc l ++ enc x
+unfolding cells
+cells-snoc enc l x = cells-append enc l (x ∷ []) ∙ ap (λ (z : List ℕ). cells enc l ++ z) (append-nil (enc x))
 
 -- of things that are all zeros
 pub cells-zeros : {A : Type 0} (w : ℕ) (enc : A → List ℕ) (x : A) → enc x ≡ replicate w 0 → (n : ℕ) → cells enc (replicate n x) ≡ replicate (w * n) 0

@@ -1,19 +1,17 @@
 -- Tables changed in their bytes: a thing put at the end; a thing taken out, the later ones moved down. Assumes nothing.
-use mathlib.Core.List.{List, [], _∷_, _++_, map, append-assoc, append-nil}
+use mathlib.Core.List.{List, [], _∷_, _++_, map, append-assoc}
 use mathlib.Core.Path.{_≡_, refl, sym, ap, ap₂, _∙_}
 use Prim.Native.Nat.{ℕ, zero, suc, _+_, _-_, _*_, _≤_, _<_}
 use native.Mathlib.Omega.{arith}
 use native.Mathlib.Nat.{mul-le-mul-left, suc-add}
-use lib.ListN.{length, take, drop, replicate, length-append, length-drop, drop-of-length-le, replicate-append-replicate}
+use lib.ListN.{length, take, drop, replicate, length-append, length-drop, replicate-append-replicate}
 use lib.Seq.{take-at, drop-at, length-take-le}
 use Rattle.wire.specs.Bytes.{pad}
 use Rattle.wire.specs.Words.{wordBytes}
-use Rattle.wire.proofs.Words.{rest-at}
 use Rattle.tables.specs.Tables.{cells, tableBytes}
-use Rattle.tables.proofs.Parts.{drop-past, drop-zeros, cut-two}
+use Rattle.wire.proofs.Parts.{drop-past, drop-zeros, cut-two}
 use Rattle.tables.specs.Cut.{cutOut}
-use Rattle.tables.proofs.Close.{cut-length}
-use Rattle.tables.proofs.Cells.{cells-length, cells-append, cells-take, cells-drop}
+use Rattle.tables.proofs.Cells.{cells-length, cells-append, cells-snoc, cells-take, cells-drop}
 use Rattle.tables.proofs.Table.{table-body, table-spread}
 
 -- ---- bytes of which the first n cells of w bytes are in use
@@ -38,47 +36,6 @@ removed-parts w n j a b c e la lb lc =
       drop-past a (b ++ c) (w * j) w la,
       drop-at b c w lb,
     )
-
--- the last cell in use: it is wiped
-pub removed-last : (w n j : ℕ) (t : List ℕ) → j + 1 ≡ n → w * n ≤ length t
-    → removed w n j t ≡ take (w * j) t ++ (replicate w 0 ++ drop (w * j + w) t)
-unfolding cutOut
-removed-last w n j t h l =
-    let e : w * n ≡ w * j + w = rw (← h) (omega arith) in
-    let k : w * j + w ≤ length t = rw e at l in
-    rw (e, drop-of-length-le (take (w * j + w) t) {i = w * j + w} (omega (arith, length-take-le (w * j + w) t k)))
-
--- another: the next one is copied over it, and is taken out in its stead
-pub removed-next : (w n j : ℕ) (t : List ℕ) → j + 1 < n → w * n ≤ length t
-    → removed w n j t ≡ removed w n (j + 1) (take (w * j) t ++ (take w (drop (w * j + w) t) ++ drop (w * j + w) t))
-removed-next w n j t h l =
-    let m : w * suc (j + 1) ≤ w * n = mul-le-mul-left w h in
-    let x = w * n - (w * j + w + w) in
-    let r = drop (w * j + w) t in
-    let a = take (w * j) t in
-    let b = take w (drop (w * j) t) in
-    let c = take w r in
-    let d = take x (drop w r) in
-    let e = drop (w + x) r in
-    let lr : length r ≡ length t - (w * j + w) = length-drop (w * j + w) t in
-    let la : length a ≡ w * j = length-take-le (w * j) t (omega arith) in
-    let lb : length b ≡ w = length-take-le w (drop (w * j) t) (omega (arith, length-drop (w * j) t)) in
-    let lc : length c ≡ w = length-take-le w r (omega arith) in
-    let ld : length d ≡ x = length-take-le x (drop w r) (omega (arith, length-drop w r)) in
-    let q : r ≡ c ++ (d ++ e) = cut-two r w x in
-    let s : w * (j + 1) ≡ w * j + w = omega arith in
-    let u : t ≡ a ++ (b ++ ((c ++ d) ++ e)) = cut-two t (w * j) w ∙ ap (λ (z : List ℕ). a ++ (b ++ z)) (q ∙ sym (append-assoc c d e)) in
-    let v : a ++ (c ++ r) ≡ (a ++ c) ++ (c ++ (d ++ e))
-    = ap (λ (z : List ℕ). a ++ (c ++ z)) q ∙ sym (append-assoc a c (c ++ (d ++ e))) in
-    let f : removed w n j t ≡ a ++ ((c ++ d) ++ (replicate w 0 ++ e))
-    = ap (removed w n j) u ∙ removed-parts w n j a b (c ++ d) e la lb (omega (arith, length-append c d)) in
-    let g : removed w n (j + 1) (a ++ (c ++ r)) ≡ (a ++ c) ++ (d ++ (replicate w 0 ++ e))
-    = ap (removed w n (j + 1)) v
-    ∙ removed-parts w n (j + 1) (a ++ c) c d e (length-append a c ∙ omega arith) lc (omega arith) in
-    f
-    ∙ ap (λ (z : List ℕ). a ++ z) (append-assoc c d (replicate w 0 ++ e))
-    ∙ sym (append-assoc a c (d ++ (replicate w 0 ++ e)))
-    ∙ sym g
 
 -- of bytes all of which are in use, with others after them
 removed-of : (w n j : ℕ) (t e : List ℕ) → length t ≡ w * n → w * suc j ≤ w * n
@@ -118,10 +75,6 @@ map-without {B = B} f (suc i) (x ∷ xs) =
     ∙ sym (without-next (f x) i (map f xs))
 
 module _ {A : Type 0} (w k : ℕ) (enc : A → List ℕ) (sized : (x : A) → length (enc x) ≡ w) where
-  one : (x : A) → cells enc (x ∷ []) ≡ enc x
-  unfolding cells
-  one x = append-nil (enc x)
-
   -- a thing put at the end: its cell, and the count
   pub table-append : (xs : List A) (x : A) (b : List ℕ) (n : ℕ) → b ≡ tableBytes w k enc xs → n ≡ length xs → n < k
       → tableBytes w k enc (xs ++ (x ∷ [])) ≡ wordBytes (n + 1) ++ (take (w * n) (drop 4 b) ++ (enc x ++ drop (w * n + w) (drop 4 b)))
@@ -136,7 +89,7 @@ module _ {A : Type 0} (w k : ℕ) (enc : A → List ℕ) (sized : (x : A) → le
       let m : w * suc len ≤ w * k = mul-le-mul-left w (rw en at h) in
       let d : drop 4 b ≡ c ++ replicate z 0 = ap (drop 4) eb ∙ table-body w k enc xs ∙ table-spread w k enc sized xs (omega arith) in
       let y : w * k - w * length ys ≡ z - w = rw ly (omega arith) in
-      let cy : cells enc ys ≡ c ++ enc x = cells-append enc xs (x ∷ []) ∙ ap (λ (t : List ℕ). c ++ t) (one x) in
+      let cy : cells enc ys ≡ c ++ enc x = cells-snoc enc xs x in
       let left : pad (w * k) (cells enc ys) ≡ c ++ (enc x ++ replicate (z - w) 0)
       = table-spread w k enc sized ys (omega arith)
       ∙ ap₂ (λ (s : List ℕ) (q : ℕ). s ++ replicate q 0) cy y
@@ -180,28 +133,3 @@ module _ {A : Type 0} (w k : ℕ) (enc : A → List ℕ) (sized : (x : A) → le
       ∙ append-assoc a c (replicate (w + z) 0) in
       let e : length ys ≡ len - 1 = omega arith in
       rw (en, d, r, e, left, replicate-append-replicate {A = ℕ} w z 0)
-
--- ---- a table's cells and count written, as lent parts come back
-
-pub count-put : (t t₁ t₂ y : List ℕ) (x : ℕ) → 4 ≤ length t → length y ≡ length t - 4 → t₁ ≡ take 4 t ++ (y ++ drop (length t - 4) (drop 4 t))
-    → t₂ ≡ take 0 t₁ ++ (wordBytes x ++ drop 4 t₁) → t₂ ≡ wordBytes x ++ y
-count-put t t₁ t₂ y x h l e₁ e₂ =
-    let d : drop (length t - 4) (drop 4 t) ≡ [] = drop-of-length-le (drop 4 t) {i = length t - 4} (omega (arith, length-drop 4 t)) in
-    let f : t₁ ≡ take 4 t ++ y = e₁ ∙ ap (λ (z : List ℕ). take 4 t ++ (y ++ z)) d ∙ ap (λ (z : List ℕ). take 4 t ++ z) (append-nil y) in
-    e₂ ∙ ap (λ (z : List ℕ). wordBytes x ++ z) (ap (drop 4) f ∙ drop-at (take 4 t) y 4 (length-take-le 4 t h))
-
--- cell j of the n in use, of w bytes each, behind the count
-pub record CellIn (w n j : ℕ) (t : List ℕ) : Type 0 where
-  pub below : j < n
-  pub room : 4 + w * n ≤ length t
-
--- it is taken out of the cells, and the count is lowered
-pub taken-out : (w n j : ℕ) (t t₂ y : List ℕ) → CellIn w n j t → y ≡ removed w n j (take (length t - 4) (drop 4 t))
-    → t₂ ≡ wordBytes (n - 1) ++ drop 4 (take 4 t ++ (y ++ drop (length t - 4) (drop 4 t))) → t₂ ≡ wordBytes (n - 1) ++ removed w n j (drop 4 t)
-taken-out w n j t t₂ y g e e₂ =
-    let l : 4 + w * n ≤ length t = g .room in
-    let m : w * suc j ≤ w * n = mul-le-mul-left w (g .below) in
-    let d : length (drop 4 t) ≡ length t - 4 = length-drop 4 t in
-    let f : y ≡ removed w n j (drop 4 t) = e ∙ ap (removed w n j) (rest-at 4 t) in
-    let k : length y ≡ length t - 4 = ap length f ∙ cut-length w (w * n) (w * j) (drop 4 t) (omega arith) (omega arith) ∙ d in
-    count-put t (take 4 t ++ (y ++ drop (length t - 4) (drop 4 t))) t₂ y (n - 1) (omega arith) k refl e₂ ∙ ap (λ (z : List ℕ). wordBytes (n - 1) ++ z) f

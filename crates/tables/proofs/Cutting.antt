@@ -9,7 +9,7 @@ use lib.Seq.{take-at, drop-at, drop-drop, getD-drop, getD-append-add, length-tak
 use borrow.Author.Needs.{needs}
 use Rattle.wire.specs.Words.{wordBytes}
 use Rattle.wire.proofs.Words.{rest-at}
-use Rattle.tables.proofs.Parts.{drop-take}
+use Rattle.wire.proofs.Parts.{drop-take}
 use Rattle.tables.specs.Cut.{cutOut, Cell}
 
 -- ---- bytes moved down by w, i of them
@@ -92,3 +92,24 @@ cut-written s s₁ z at w end c e ez =
     rw (qt, qd, w′, fz, drop-drop w (end - w) s, o, ← m) (append-assoc (take at s) (take k d) (replicate w 0 ++ drop end s))
 
 pub ruleset cutting = (cut-written, needs)
+
+-- ---- in the cells of a table, whose count is put
+
+pub remove-cell : (t : List ℕ) (at w end : ℕ) → Cell t (4 + at) w (4 + end) → Cell (take (length t - 4) (drop 4 t)) at w end
+remove-cell t at w end g =
+    let i : 4 + at + w ≤ 4 + end = g .inside in
+    let r : 4 + end ≤ length t = g .room in
+    let l : length (take (length t - 4) (drop 4 t)) ≡ length t - 4 = ap length (rest-at 4 t) ∙ length-drop 4 t in
+    record { inside = omega arith; room = omega arith }
+
+pub remove-written : (t y t₂ : List ℕ) (at w end n : ℕ) → Cell t (4 + at) w (4 + end) → y ≡ cutOut w end at (take (length t - 4) (drop 4 t))
+    → t₂ ≡ wordBytes n ++ drop 4 (take 4 t ++ (y ++ drop (length t - 4) (drop 4 t)))
+    → t₂ ≡ wordBytes n ++ cutOut w end at (drop 4 t)
+remove-written t y t₂ at w end n g ey e =
+    let r : 4 + end ≤ length t = g .room in
+    let d = drop (length t - 4) (drop 4 t) in
+    let z : d ≡ [] = drop-of-length-le (drop 4 t) {i = length t - 4} (omega (arith, length-drop 4 t)) in
+    let q : drop 4 (take 4 t ++ (y ++ d)) ≡ y = drop-at (take 4 t) (y ++ d) 4 (length-take-le 4 t (omega arith)) ∙ rw z (append-nil y) in
+    e ∙ ap (λ (x : List ℕ). wordBytes n ++ x) (q ∙ ey ∙ ap (cutOut w end at) (rest-at 4 t))
+
+pub ruleset removing = (remove-cell, remove-written, needs)

@@ -17,7 +17,7 @@ use Rattle.wire.specs.declared.Order.the-variants.{Little}
 use Rattle.wire.proofs.Texts.{same-refl, ne-same}
 use Rattle.wire.proofs.Words.{word-again}
 use Rattle.tables.specs.Tables.{cells, parts, tableBytes, tableOf}
-use Rattle.tables.proofs.Parts.{pad-past, take-zeros}
+use Rattle.wire.proofs.Parts.{pad-past, take-zeros}
 use Rattle.tables.proofs.Words.{word-cut, bytes-take, bytes-drop}
 use Rattle.tables.proofs.Cells.{parts-length}
 use Rattle.tables.proofs.Table.{table-many}

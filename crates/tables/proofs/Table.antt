@@ -5,7 +5,7 @@ use Prim.Native.Nat.{ℕ, _+_, _-_, _*_, _≤_, _<_, min}
 use native.Mathlib.Omega.{arith}
 use native.Mathlib.Nat.{mul-le-mul-left, min-eq-left, min-le-right}
 use native.Mathlib.Numerals.{add-one}
-use lib.ListN.{length, getD, take, drop, replicate, length-append, length-map, List·getD-map, drop-of-length-le}
+use lib.ListN.{length, getD, take, drop, replicate, length-append, length-map, List·getD-map}
 use lib.Seq.{drop-at, drop-cons, drop-drop}
 use Rattle.wire.specs.Bytes.{pad}
 use Rattle.wire.specs.Words.{wordAt, wordBytes}
@@ -13,7 +13,7 @@ use Rattle.wire.specs.declared.Order.the-variants.{Little}
 use Rattle.wire.proofs.Texts.{pad-length}
 use Rattle.wire.proofs.Words.{word-length, word-again}
 use Rattle.tables.specs.Tables.{cells, parts, tableBytes, tableOf}
-use Rattle.tables.proofs.Parts.{pad-fits, drop-take}
+use Rattle.wire.proofs.Parts.{pad-fits, drop-take}
 use Rattle.tables.proofs.Words.{word-take}
 use Rattle.tables.proofs.Cells.{parts-length, parts-at, parts-take, cells-length, cells-parts}
 
@@ -73,10 +73,6 @@ unfolding tableOf
 table-many w k dec b =
     length-map (parts w (min (wordAt Little b 0) k) (drop 4 b)) dec ∙ parts-length w (min (wordAt Little b 0) k) (drop 4 b)
 
--- a count that is in bounds
-pub table-full : {A : Type 0} (w k : ℕ) (dec : List ℕ → A) (b : List ℕ) (n : ℕ) → wordAt Little b 0 ≡ n → n ≤ k → length (tableOf w k dec b) ≡ n
-table-full w k dec b n e h = table-many w k dec b ∙ omega arith
-
 -- thing i, by its cell
 pub table-at : {A : Type 0} (w k : ℕ) (dec : List ℕ → A) (b : List ℕ) (i : ℕ) → i < length (tableOf w k dec b)
     → getD (tableOf w k dec b) i (dec []) ≡ dec (take w (drop (4 + w * i) b))
@@ -106,6 +102,3 @@ pub table-next : {A : Type 0} (w k : ℕ) (dec : List ℕ → A) (b : List ℕ) 
     → drop i (tableOf w k dec b) ≡ dec (take w (drop (4 + w * i) b)) ∷ drop (i + 1) (tableOf w k dec b)
 table-next w k dec b i h =
     drop-cons (tableOf w k dec b) i (dec []) h ∙ rw (add-one i, table-at w k dec b i h)
-
-pub table-past : {A : Type 0} (w k : ℕ) (dec : List ℕ → A) (b : List ℕ) (i : ℕ) → length (tableOf w k dec b) ≤ i → drop i (tableOf w k dec b) ≡ []
-table-past w k dec b i h = drop-of-length-le (tableOf w k dec b) h

@@ -5,23 +5,14 @@ use Prim.Native.Nat.{ℕ, zero, suc, _+_, _≤_, _<_}
 use native.Mathlib.Omega.{arith}
 use native.Mathlib.Nat.{add-zero}
 use lib.ListN.{length, getD, take, drop, length-take, take-append-drop}
-use lib.Seq.{getD-take, getD-drop}
-use mir.Val.{Fits}
-use mir.Syntax.{w8}
+use lib.Seq.{getD-drop}
 use Rattle.wire.specs.Words.{wordAt, wordBytes}
 use Rattle.wire.specs.declared.Order.the-variants.{Little}
-use Rattle.wire.proofs.Words.{bytes-again, word-drop}
+use Rattle.wire.proofs.Words.{bytes-again, word-drop, word-take as word-taken, word-below}
 
 -- a number is read the same in a part that it stands in
 pub word-take : (b : List ℕ) (j i : ℕ) → i + 4 ≤ j → wordAt Little (take j b) i ≡ wordAt Little b i
-unfolding wordAt
-word-take b j i h =
-    rw (
-      getD-take j b i 0 (omega arith),
-      getD-take j b (i + 1) 0 (omega arith),
-      getD-take j b (i + 2) 0 (omega arith),
-      getD-take j b (i + 3) 0 (omega arith),
-    )
+word-take b j i h = word-taken Little j b i h
 
 -- a number in the part of w bytes at a
 pub word-part : (m : List ℕ) (a w i : ℕ) → i + 4 ≤ w → wordAt Little (take w (drop a m)) i ≡ wordAt Little m (a + i)
@@ -31,10 +22,6 @@ pub word-front : (m : List ℕ) (a : ℕ) → wordAt Little (drop a m) 0 ≡ wor
 word-front m a = word-drop Little m a 0 ∙ ap (wordAt Little m) (add-zero a)
 
 -- ---- bytes below 256
-
--- as the check knows it of a slice's bytes
-pub byte-below : (x : ℕ) → Fits w8 x → x < 256
-byte-below x f = f .fits
 
 pub bytes-take : (n : ℕ) (m : List ℕ) → ((i : ℕ) → getD m i 0 < 256) → (i : ℕ) → getD (take n m) i 0 < 256
 bytes-take zero m b i = omega arith
@@ -47,8 +34,7 @@ bytes-drop n m b i = rw (getD-drop n m i 0) (b (n + i))
 
 -- a number is below 2 ^ 32
 pub word-fits : (m : List ℕ) (a : ℕ) → ((i : ℕ) → getD m i 0 < 256) → wordAt Little m a < 4294967296
-unfolding wordAt
-word-fits m a b = omega (arith, b a, b (a + 1), b (a + 2), b (a + 3))
+word-fits m a b = word-below Little m a b
 
 -- bytes that begin with a number begin with its bytes
 pub word-cut : (b : List ℕ) → 4 ≤ length b → ((i : ℕ) → getD b i 0 < 256) → b ≡ wordBytes (wordAt Little b 0) ++ drop 4 b

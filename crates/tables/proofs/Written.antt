@@ -1,16 +1,17 @@
 -- A table changed where it stands in longer bytes, write by write, as code changes it: its cell, then its count. Assumes nothing.
-use mathlib.Core.List.{List, [], _∷_, _++_, append-assoc, append-nil}
+use mathlib.Core.List.{List, [], _∷_, _++_, append-assoc}
 use mathlib.Core.Path.{_≡_, refl, sym, ap, _∙_}
 use Prim.Native.Nat.{ℕ, suc, _+_, _-_, _*_, _≤_, _<_}
 use native.Mathlib.Omega.{arith}
 use native.Mathlib.Nat.{mul-le-mul-left}
-use lib.ListN.{length, take, drop, replicate, length-append, length-drop, drop-of-length-le}
+use lib.ListN.{length, take, drop, replicate, length-append, length-drop}
 use lib.Seq.{take-at, drop-at, drop-drop, take-add, take-append-le, drop-append-le, length-take-le}
 use Rattle.wire.specs.Bytes.{pad}
 use Rattle.wire.specs.Words.{wordBytes}
-use Rattle.wire.proofs.Words.{word-length}
+use Rattle.wire.proofs.Words.{word-length, cut-at, put-at}
 use Rattle.tables.specs.Tables.{cells, tableBytes}
-use Rattle.tables.proofs.Parts.{drop-past, part-past, drop-take, cut-two}
+use Rattle.tables.specs.Cut.{Cell}
+use Rattle.wire.proofs.Parts.{drop-past, part-past, cut-two}
 use Rattle.tables.proofs.Cells.{cells-length}
 use Rattle.tables.proofs.Table.{table-length, table-body, table-spread}
 use Rattle.tables.proofs.Change.{removed, without, table-append, table-remove}
@@ -18,6 +19,12 @@ use Rattle.tables.proofs.Change.{removed, without, table-append, table-
 -- m with the bytes y for the c at a
 abbrev pub put : List ℕ → ℕ → ℕ → List ℕ → List ℕ
 put m a c y = take a m ++ (y ++ drop (a + c) m)
+
+-- as many as were there
+pub put-sized : (m y : List ℕ) (a c : ℕ) → a + c ≤ length m → length y ≡ c → length (put m a c y) ≡ length m
+put-sized m y a c h e =
+    length-append (take a m) (y ++ drop (a + c) m)
+    ∙ omega (arith, length-append y (drop (a + c) m), length-take-le a m (omega arith), length-drop (a + c) m)
 
 -- the b in m, that begins at t and has l bytes: `pre` before it and `post` after it
 pub record Inside (m b pre post : List ℕ) (t l : ℕ) : Type 0 where
@@ -40,13 +47,12 @@ inside-put m b pre post y t l a c g h e =
     let lb : length b ≡ l = g .long in
     let p = take a b in
     let r = drop (a + c) b in
-    let la : length p ≡ a = length-take-le a b (omega arith) in
     let q : put (b ++ post) a c y ≡ put b a c y ++ post
     = rw (take-append-le a b post (omega arith), drop-append-le (a + c) b post (omega arith))
     (sym (append-assoc p (y ++ r) post ∙ ap (λ (z : List ℕ). p ++ z) (append-assoc y r post))) in
     record {
       start = g .start;
-      long = length-append p (y ++ r) ∙ omega (arith, length-append y r, length-drop (a + c) b);
+      long = put-sized b y a c (omega arith) e ∙ lb;
       is = rw (g .is) (part-past pre (b ++ post) y t a c (g .start) ∙ ap (λ (z : List ℕ). pre ++ z) q);
     }
 
@@ -87,40 +93,18 @@ module _ {A : Type 0} (w k : ℕ) (enc : A → List ℕ) (sized : (x : A) → le
       ∙ (rw z at (g₂ .is))
       ∙ ap (λ (s : List ℕ). pre ++ (s ++ post)) (table-appended xs x b n refl en l)
 
-  -- ---- a thing taken out
+  -- ---- a thing taken out, by `remove` on the part of m that is the table
 
-  table-removed : (xs : List A) (i : ℕ) (b y : List ℕ) (n : ℕ) → b ≡ tableBytes w k enc xs → n ≡ length xs → n ≤ k → i < n
-      → y ≡ removed w n i (drop 4 b) → put (put b 4 (w * k) y) 0 4 (wordBytes (n - 1)) ≡ tableBytes w k enc (without i xs)
-  table-removed xs i b y n e en h l ey =
-      let lb : length b ≡ 4 + w * k = ap length e ∙ table-length w k enc xs in
-      let r = table-remove w k enc sized xs i b n e en h l in
-      let d : drop 4 (put b 4 (w * k) y) ≡ y
-      = put-past-count b y 0 (w * k) (omega arith) ∙ rw (drop-of-length-le (drop 4 b) {i = 0 + w * k} (omega (arith, length-drop 4 b))) (append-nil y) in
-      ap (λ (z : List ℕ). wordBytes (n - 1) ++ z) (d ∙ ey) ∙ sym r
-
-  pub remove-written : (xs : List A) (i : ℕ) (m m₁ m₂ y : List ℕ) (t n : ℕ) → t + (4 + w * k) ≤ length m
-      → take (4 + w * k) (drop t m) ≡ tableBytes w k enc xs → n ≡ length xs → n ≤ k → i < n
-      → y ≡ removed w n i (take (w * k) (drop (t + 4) m)) → m₁ ≡ take (t + 4) m ++ (y ++ drop (t + 4 + w * k) m)
-      → m₂ ≡ take t m₁ ++ (wordBytes (n - 1) ++ drop (t + 4) m₁)
-      → m₂ ≡ take t m ++ (tableBytes w k enc (without i xs) ++ drop (t + (4 + w * k)) m)
-  remove-written xs i m m₁ m₂ y t n h e en l o ey e₁ e₂ =
-      let b = tableBytes w k enc xs in
-      let pre = take t m in
-      let post = drop (t + (4 + w * k)) m in
-      let c : take (w * k) (drop (t + 4) m) ≡ drop 4 b = sym (ap (drop 4) (sym e) ∙ drop-take 4 (w * k) (drop t m) ∙ ap (take (w * k)) (drop-drop 4 t m)) in
-      let fy : y ≡ removed w n i (drop 4 b) = ey ∙ ap (removed w n i) c in
-      let r = table-remove w k enc sized xs i b n refl en l o in
-      let s = length-append (wordBytes (n - 1)) (removed w n i (drop 4 b)) in
-      let ly : length y ≡ w * k
-      = ap length fy ∙ omega (arith, ap length r, s, word-length (n - 1), table-length w k enc (without i xs)) in
-      let g = inside-of m b t (4 + w * k) h e in
-      let g₁ = inside-put m b pre post y t (4 + w * k) 4 (w * k) g (omega arith) ly in
-      let g₂ = inside-put (put m (t + 4) (w * k) y) (put b 4 (w * k) y) pre post (wordBytes (n - 1)) t (4 + w * k) 0 4 g₁ (omega arith) (word-length (n - 1)) in
-      let z : t + 0 ≡ t = omega arith in
-      e₂
-      ∙ ap (λ (q : List ℕ). put q t 4 (wordBytes (n - 1))) e₁
-      ∙ (rw z at (g₂ .is))
-      ∙ ap (λ (q : List ℕ). pre ++ (q ++ post)) (table-removed xs i b y n refl en l o fy)
+  pub remove-written : (xs : List A) (i : ℕ) (m t : List ℕ) (a n : ℕ) → take (4 + w * k) (drop a m) ≡ tableBytes w k enc xs → n ≡ length xs
+      → n ≤ k → i < n → t ≡ wordBytes (n - 1) ++ removed w n i (drop 4 (take (a + (4 + w * k) - a) (drop a m)))
+      → take a m ++ (t ++ drop (a + (4 + w * k) - a) (drop a m)) ≡ take a m ++ (tableBytes w k enc (without i xs) ++ drop (a + (4 + w * k)) m)
+  remove-written xs i m t a n e en h l et =
+      let c = 4 + w * k in
+      let q : t ≡ tableBytes w k enc (without i xs)
+      = et
+      ∙ ap (λ (y : List ℕ). wordBytes (n - 1) ++ removed w n i (drop 4 y)) (cut-at a c m)
+      ∙ sym (table-remove w k enc sized xs i (take c (drop a m)) n e en h l) in
+      put-at a c m t ∙ ap (λ (y : List ℕ). take a m ++ (y ++ drop (a + c) m)) q
 
   -- ---- cells that are not in use are zero
 
@@ -133,6 +117,16 @@ module _ {A : Type 0} (w k : ℕ) (enc : A → List ℕ) (sized : (x : A) → le
       sym (drop-drop (w * n) 4 b)
       ∙ ap (drop (w * n)) (ap (drop 4) e ∙ table-body w k enc xs ∙ s)
       ∙ drop-at c (replicate (w * k - w * n) 0) (w * n) lc
+
+-- thing i of the n in the part of m that is a table
+pub part-cell : (w k i n : ℕ) (m : List ℕ) (a : ℕ) → a + (4 + w * k) ≤ length m → n ≤ k → i < n
+    → Cell (take (a + (4 + w * k) - a) (drop a m)) (4 + w * i) w (4 + w * n)
+part-cell w k i n m a h b l =
+    let c = 4 + w * k in
+    let s : length (take (a + c - a) (drop a m)) ≡ c = ap length (cut-at a c m) ∙ length-take-le c (drop a m) (omega (arith, length-drop a m)) in
+    let o : w * suc i ≤ w * n = mul-le-mul-left w l in
+    let r : w * n ≤ w * k = mul-le-mul-left w b in
+    record { inside = omega arith; room = omega arith }
 
 -- ---- two writes side by side
 

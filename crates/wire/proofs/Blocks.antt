@@ -14,7 +14,7 @@ use Rattle.wire.specs.Bytes.{allZero, same}
 use Rattle.wire.proofs.From.{next}
 use Rattle.wire.proofs.Texts.{zero-append, same-append, same-length}
 use Rattle.wire.proofs.Words.{cut-at}
-use Rattle.wire.proofs.Ranges.{Divides, range-grows, range-ends, range-laps, range-breaks, range-twice}
+use Rattle.wire.proofs.Ranges.{Divides, range-grows, range-laps, range-breaks, range-twice}
 
 -- ---- the two tests of a range
 
@@ -55,43 +55,27 @@ zeros-begin {s} {from} h k =
     record { low = omega arith; high = h; inside = k; clear = rw e }
 
 module _ {s : List ℕ} {from to i : ℕ} (z : Zeros s from to i) where
-  -- k more bytes are looked at, and r says whether they are zero
-  zeros-more : (k : ℕ) {r : Bool} → r ≡ allZero (take k (drop i s)) → not r ≡ false → i + k ≤ to → Zeros s from to (i + k)
-  zeros-more k {r} e n h =
-      record {
-        low = omega arith;
-        high = h;
-        inside = z .inside;
-        clear = range-grows (zeroes s) (zeroes-divides s) from i (i + k) (z .low) (omega arith) (z .clear) (rw (cut-at i k s) (sym e ∙ not-false r n));
-      }
+  -- a block of k bytes more is looked at, and r says whether they are zero
+  module _ (k : ℕ) {r : Bool} (h : i < to - k) (e : r ≡ allZero (take k (drop i s))) where
+    pub zeros-more : not r ≡ false → Zeros s from to (i + k)
+    zeros-more n =
+        record {
+          low = omega arith;
+          high = omega arith;
+          inside = z .inside;
+          clear = range-grows (zeroes s) (zeroes-divides s) from i (i + k) (z .low) (omega arith) (z .clear) (rw (cut-at i k s) (sym e ∙ not-false r n));
+        }
 
-  zeros-stop : (k : ℕ) {r : Bool} → r ≡ allZero (take k (drop i s)) → not r ≡ true → i + k ≤ to → false ≡ zeroes s from to
-  zeros-stop k {r} e n h =
-      sym (range-breaks (zeroes s) (zeroes-divides s) from i (i + k) to (z .low) (omega arith) h (rw (cut-at i k s) (sym e ∙ not-true r n)))
+    pub zeros-stop : not r ≡ true → false ≡ zeroes s from to
+    zeros-stop n =
+        sym (range-breaks (zeroes s) (zeroes-divides s) from i (i + k) to (z .low) (omega arith) (omega arith) (rw (cut-at i k s) (sym e ∙ not-true r n)))
 
-  -- the tests as the two loops make them
-  module _ {r : Bool} (h : 256 ≤ to - i) (e : r ≡ allZero (take 256 (drop i s))) where
-    pub zeros-block : not r ≡ false → Zeros s from to (i + 256)
-    zeros-block n = zeros-more 256 e n (omega arith)
-
-    pub zeros-no-block : not r ≡ true → false ≡ zeroes s from to
-    zeros-no-block n = zeros-stop 256 e n (omega arith)
-
-  module _ {r : Bool} (h : i < to - 8) (e : r ≡ allZero (take 8 (drop i s))) where
-    pub zeros-word : not r ≡ false → Zeros s from to (i + 8)
-    zeros-word n = zeros-more 8 e n (omega arith)
-
-    pub zeros-no-word : not r ≡ true → false ≡ zeroes s from to
-    zeros-no-word n = zeros-stop 8 e n (omega arith)
-
-  pub zeros-rest : {r : Bool} → r ≡ zeroes s i to → r ≡ zeroes s from to
-  zeros-rest e = e ∙ sym (range-ends (zeroes s) (zeroes-divides s) from i to (z .low) (z .high) (z .clear))
-
-  pub zeros-lap : {r : Bool} → r ≡ allZero (take 8 (drop (to - 8) s)) → 8 ≤ to - from → to - 8 ≤ i → r ≡ zeroes s from to
-  zeros-lap e l h =
-      let f : to - (to - 8) ≡ 8 = omega arith in
-      e ∙ ap (λ (n : ℕ). allZero (take n (drop (to - 8) s))) (sym f)
-      ∙ sym (range-laps (zeroes s) (zeroes-divides s) from (to - 8) i to (omega arith) h (z .high) (z .clear))
+  -- the last block, which may overlap the one before it
+  pub zeros-lap : (k : ℕ) {r : Bool} → r ≡ allZero (take k (drop (to - k) s)) → k ≤ to - from → to - k ≤ i → r ≡ zeroes s from to
+  zeros-lap k e l h =
+      let f : to - (to - k) ≡ k = omega arith in
+      e ∙ ap (λ (n : ℕ). allZero (take n (drop (to - k) s))) (sym f)
+      ∙ sym (range-laps (zeroes s) (zeroes-divides s) from (to - k) i to (omega arith) h (z .high) (z .clear))
 
 -- four bytes at each end, which may overlap
 pub zeros-twice : (s : List ℕ) (from to : ℕ) {p q : Bool} → p ≡ allZero (take 4 (drop from s)) → q ≡ allZero (take 4 (drop (to - 4) s))
@@ -125,7 +109,7 @@ module _ {s : List ℕ} {at n i : ℕ} {clear : Bool} (z : Seen s at n i clear) 
   pub seen-end : n ≤ i → clear ≡ allZero (take n (drop at s))
   seen-end h = let e : i ≡ n = omega arith in rw e at (z .so-far)
 
-pub ruleset zeros = (zeros-begin, zeros-block, zeros-no-block, zeros-word, zeros-no-word, zeros-rest, zeros-lap, zeros-twice, seen-begin, seen-more, seen-end, needs)
+pub ruleset zeros = (zeros-begin, zeros-more, zeros-stop, zeros-lap, zeros-twice, seen-begin, seen-more, seen-end, needs)
 
 -- ---- equal texts
 

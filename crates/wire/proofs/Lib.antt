@@ -1,5 +1,7 @@
 pub mod From
 pub mod Texts
+pub mod Below
+pub mod Parts
 pub mod Words
 mod Runs
 pub mod Ranges

@@ -1,8 +1,8 @@
 -- A test of the number in four or eight bytes is the test of each of the bytes. Assumes nothing.
 use mathlib.Core.Path.{_≡_, refl, sym, ap, ap₂, _∙_}
-use mathlib.Core.Bool.{Bool, true, false, _&&_}
+use mathlib.Core.Bool.{true, _&&_}
 use mathlib.Core.List.{List, [], _∷_, _++_}
-use Prim.Native.Nat.{ℕ, zero, suc, _+_, _*_, _/_, _%_, _≤_, _<_}
+use Prim.Native.Nat.{ℕ, zero, suc, _+_, _*_, _/_, _≤_, _<_}
 use native.Mathlib.Omega.{arith}
 use lib.Dec.{eqb}
 use lib.ListN.{length, take, drop, getD, length-take, length-drop}
@@ -15,11 +15,36 @@ use Rattle.wire.specs.Bytes.{allZero, same}
 use Rattle.wire.specs.Words.{joined, wordAt, wordBytes, longAt}
 use Rattle.wire.specs.declared.Order.the-variants.{Little}
 use Rattle.wire.proofs.Texts.{agree, both-first, both-second, zero-append, zero-zeros, same-append, same-eq, eq-same}
-use Rattle.wire.proofs.Words.{four-at, bytes-again}
+use Rattle.wire.proofs.Words.{four-at, bytes-again, word-below}
 
 -- each element is a byte, as the borrow checker says it of a slice
 abbrev Bytes : List ℕ → Type 0
 Bytes s = (i : ℕ) → Fits w8 (getD s i 0)
+
+-- ---- eight bytes are four and four
+
+small : (s : List ℕ) (at : ℕ) → Bytes s → wordAt Little s at < 4294967296
+small s at b = word-below Little s at (λ i. b i .fits)
+
+same-two : (v w m n : ℕ) → v < 4294967296 → m < 4294967296 → eqb (v + 4294967296 * w) (m + 4294967296 * n) ≡ eqb v m && eqb w n
+same-two v w m n h k = agree (eqb (v + 4294967296 * w) (m + 4294967296 * n)) (eqb v m && eqb w n) there back
+  where
+    there : eqb (v + 4294967296 * w) (m + 4294967296 * n) ≡ true → eqb v m && eqb w n ≡ true
+    there e =
+        let a : v + 4294967296 * w ≡ m + 4294967296 * n = eqb-true (v + 4294967296 * w) (m + 4294967296 * n) e in
+        let p : (v + 4294967296 * w) / 4294967296 ≡ w = omega arith in
+        let q : (m + 4294967296 * n) / 4294967296 ≡ n = omega arith in
+        let f : w ≡ n = sym p ∙ ap (λ (i : ℕ). i / 4294967296) a ∙ q in
+        rw (eq-eqb v m (omega arith), eq-eqb w n f)
+
+    back : eqb v m && eqb w n ≡ true → eqb (v + 4294967296 * w) (m + 4294967296 * n) ≡ true
+    back e =
+        let p : v ≡ m = eqb-true v m (both-first (eqb v m) (eqb w n) e) in
+        let q : w ≡ n = eqb-true w n (both-second (eqb v m) (eqb w n) e) in
+        eq-eqb (v + 4294967296 * w) (m + 4294967296 * n) (omega arith)
+
+eight-at : (s : List ℕ) (at : ℕ) → take 8 (drop at s) ≡ take 4 (drop at s) ++ take 4 (drop (at + 4) s)
+eight-at s at = take-add 4 4 (drop at s) ∙ rw (drop-drop 4 at s)
 
 -- ---- zero
 
@@ -43,27 +68,9 @@ pub zero-word : (s : List ℕ) (at : ℕ) → at + 4 ≤ length s → eqb (wordA
 unfolding wordAt
 zero-word s at h = rw (four-at s at h) (zero-four (getD s at 0) (getD s (at + 1) 0) (getD s (at + 2) 0) (getD s (at + 3) 0))
 
--- eight bytes are four and four
-eight-at : (s : List ℕ) (at : ℕ) → take 8 (drop at s) ≡ take 4 (drop at s) ++ take 4 (drop (at + 4) s)
-eight-at s at = take-add 4 4 (drop at s) ∙ rw (drop-drop 4 at s)
-
-zero-two : (v w : ℕ) → eqb (v + 4294967296 * w) 0 ≡ eqb v 0 && eqb w 0
-zero-two v w = agree (eqb (v + 4294967296 * w) 0) (eqb v 0 && eqb w 0) there back
-  where
-    there : eqb (v + 4294967296 * w) 0 ≡ true → eqb v 0 && eqb w 0 ≡ true
-    there e =
-        let n : v + 4294967296 * w ≡ 0 = eqb-true (v + 4294967296 * w) 0 e in
-        rw (eq-eqb v 0 (omega arith), eq-eqb w 0 (omega arith))
-
-    back : eqb v 0 && eqb w 0 ≡ true → eqb (v + 4294967296 * w) 0 ≡ true
-    back e =
-        let p : v ≡ 0 = eqb-true v 0 (both-first (eqb v 0) (eqb w 0) e) in
-        let q : w ≡ 0 = eqb-true w 0 (both-second (eqb v 0) (eqb w 0) e) in
-        eq-eqb (v + 4294967296 * w) 0 (omega arith)
-
-pub zero-long : (s : List ℕ) (at : ℕ) → at + 8 ≤ length s → eqb (longAt s at) 0 ≡ allZero (take 8 (drop at s))
-zero-long s at h =
-    zero-two (wordAt Little s at) (wordAt Little s (at + 4))
+pub zero-long : (s : List ℕ) (at : ℕ) → Bytes s → at + 8 ≤ length s → eqb (longAt s at) 0 ≡ allZero (take 8 (drop at s))
+zero-long s at b h =
+    same-two (wordAt Little s at) (wordAt Little s (at + 4)) 0 0 (small s at b) (omega arith)
     ∙ ap₂ _&&_ (zero-word s at (omega arith)) (zero-word s (at + 4) (omega arith))
     ∙ sym (ap allZero (eight-at s at) ∙ zero-append (take 4 (drop at s)) (take 4 (drop (at + 4) s)))
 
@@ -92,10 +99,6 @@ numbered : (s : List ℕ) (at : ℕ) → at + 4 ≤ length s → number (take 4 
 unfolding wordAt number
 numbered s at h = rw (four-at s at h)
 
-small : (s : List ℕ) (at : ℕ) → Bytes s → wordAt Little s at < 4294967296
-unfolding wordAt
-small s at b = omega (arith, b at .fits, b (at + 1) .fits, b (at + 2) .fits, b (at + 3) .fits)
-
 module _ (x y : List ℕ) (at : ℕ) (b : Bytes x) (c : Bytes y) where
   pub same-word : at + 4 ≤ length x → at + 4 ≤ length y
       → eqb (wordAt Little x at) (wordAt Little y at) ≡ same (take 4 (drop at x)) (take 4 (drop at y))
@@ -105,23 +108,6 @@ module _ (x y : List ℕ) (at : ℕ) (b : Bytes x) (c : Bytes y) where
       (sym (again x at b h) ∙ ap wordBytes (eqb-true (wordAt Little x at) (wordAt Little y at) e) ∙ again y at c k))
       (λ e. eq-eqb (wordAt Little x at) (wordAt Little y at)
       (sym (numbered x at h) ∙ ap number (same-eq (take 4 (drop at x)) (take 4 (drop at y)) e) ∙ numbered y at k))
-
-same-two : (v w m n : ℕ) → v < 4294967296 → m < 4294967296 → eqb (v + 4294967296 * w) (m + 4294967296 * n) ≡ eqb v m && eqb w n
-same-two v w m n h k = agree (eqb (v + 4294967296 * w) (m + 4294967296 * n)) (eqb v m && eqb w n) there back
-  where
-    there : eqb (v + 4294967296 * w) (m + 4294967296 * n) ≡ true → eqb v m && eqb w n ≡ true
-    there e =
-        let a : v + 4294967296 * w ≡ m + 4294967296 * n = eqb-true (v + 4294967296 * w) (m + 4294967296 * n) e in
-        let p : (v + 4294967296 * w) / 4294967296 ≡ w = omega arith in
-        let q : (m + 4294967296 * n) / 4294967296 ≡ n = omega arith in
-        let f : w ≡ n = sym p ∙ ap (λ (i : ℕ). i / 4294967296) a ∙ q in
-        rw (eq-eqb v m (omega arith), eq-eqb w n f)
-
-    back : eqb v m && eqb w n ≡ true → eqb (v + 4294967296 * w) (m + 4294967296 * n) ≡ true
-    back e =
-        let p : v ≡ m = eqb-true v m (both-first (eqb v m) (eqb w n) e) in
-        let q : w ≡ n = eqb-true w n (both-second (eqb v m) (eqb w n) e) in
-        eq-eqb (v + 4294967296 * w) (m + 4294967296 * n) (omega arith)
 
 module _ (x y : List ℕ) (at : ℕ) (b : Bytes x) (c : Bytes y) where
   pub same-long : at + 8 ≤ length x → at + 8 ≤ length y → eqb (longAt x at) (longAt y at) ≡ same (take 8 (drop at x)) (take 8 (drop at y))
@@ -140,8 +126,8 @@ module _ (s : List ℕ) (at n : ℕ) where
   pub zero-load : n ≡ wordAt Little s at → at + 4 ≤ length s → eqb n 0 ≡ allZero (take 4 (drop at s))
   zero-load e h = rw e (zero-word s at h)
 
-  pub zero-load-long : n ≡ longAt s at → at + 8 ≤ length s → eqb n 0 ≡ allZero (take 8 (drop at s))
-  zero-load-long e h = rw e (zero-long s at h)
+  pub zero-load-long : n ≡ longAt s at → Bytes s → at + 8 ≤ length s → eqb n 0 ≡ allZero (take 8 (drop at s))
+  zero-load-long e b h = rw e (zero-long s at b h)
 
 module _ (x y : List ℕ) (at n m : ℕ) where
   pub same-load : n ≡ wordAt Little x at → m ≡ wordAt Little y at → Bytes x → Bytes y → at + 4 ≤ length x → at + 4 ≤ length y

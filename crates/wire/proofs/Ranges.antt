@@ -1,10 +1,10 @@
 -- A test of every element from one index up to another, made block by block. The laws hold of any test of a range that a cut divides in two: a run
 -- of zeros, equal texts, a name's bytes. Assumes nothing.
-use mathlib.Core.Path.{_≡_, refl, sym, ap, _∙_}
-use mathlib.Core.Bool.{Bool, true, false, _&&_}
-use Prim.Native.Nat.{ℕ, _+_, _-_, _≤_, _<_}
+use mathlib.Core.Path.{_≡_, refl, sym, _∙_}
+use mathlib.Core.Bool.{Bool, true, false, _&&_, and-false}
+use Prim.Native.Nat.{ℕ, _≤_}
 use native.Mathlib.Omega.{arith}
-use Rattle.wire.proofs.Texts.{both-first, both-second, both-true}
+use Rattle.wire.proofs.Texts.{both-first}
 
 -- all from a up to c is good where all from a up to b and all from b up to c is
 abbrev pub Divides : (ℕ → ℕ → Bool) → Type 0
@@ -16,7 +16,7 @@ module _ (P : ℕ → ℕ → Bool) (d : Divides P) where
   range-grows a b c h k p q = rw (d a b c h k, p, q)
 
   -- the last block, where all before it is good
-  pub range-ends : (a b c : ℕ) → a ≤ b → b ≤ c → P a b ≡ true → P a c ≡ P b c
+  range-ends : (a b c : ℕ) → a ≤ b → b ≤ c → P a b ≡ true → P a c ≡ P b c
   range-ends a b c h k p = rw (d a b c h k, p)
 
   -- the last block, which starts at m and may overlap what is known to be good
@@ -26,11 +26,7 @@ module _ (P : ℕ → ℕ → Bool) (d : Divides P) where
 
   -- a block that is not good
   pub range-breaks : (a b c e : ℕ) → a ≤ b → b ≤ c → c ≤ e → P b c ≡ false → P a e ≡ false
-  range-breaks a b c e h k l p = rw (d a b e h (omega arith), d b c e k l, p) (lost (P a b))
-    where
-      lost : (x : Bool) → x && false ≡ false
-      lost true = refl
-      lost false = refl
+  range-breaks a b c e h k l p = rw (d a b e h (omega arith), d b c e k l, p) (and-false (P a b))
 
   -- two blocks that overlap
   pub range-twice : (a m b c : ℕ) → a ≤ m → m ≤ b → b ≤ c → P a b && P m c ≡ P a c

@@ -1,13 +1,13 @@
 -- Numbers and their bytes. Assumes nothing.
-use mathlib.Core.Path.{_≡_, refl, sym, ap, ap₂, _∙_}
+use mathlib.Core.Path.{_≡_, refl, ap, _∙_}
 use mathlib.Core.List.{List, [], _∷_, _++_, append-assoc}
 use Prim.Native.Nat.{ℕ, suc, _+_, _-_, _*_, _/_, _%_, _^_, _≤_, _<_}
 use native.Mathlib.Omega.{arith}
-use native.Mathlib.Nat.{add-zero, add-sub-cancel-left}
+use native.Mathlib.Nat.{add-sub-cancel-left}
 use lib.ListN.{length, take, drop, set, getD, length-drop}
-use lib.Seq.{sets, sets-eq, drop-drop, getD-drop, take-all}
+use lib.Seq.{sets-eq, drop-drop, getD-drop, getD-take, take-all}
 use Rattle.wire.proofs.From.{next}
-use Rattle.wire.specs.Words.{joined, wordAt, wordBytes}
+use Rattle.wire.specs.Words.{wordAt, wordBytes}
 use Rattle.wire.specs.declared.Order.{Order}
 use Rattle.wire.specs.declared.Order.the-variants.{Little, Big}
 
@@ -43,19 +43,30 @@ bytes-again (a ∷ b ∷ c ∷ d ∷ []) e h =
     rw (p, q, r, s, t, u, v)
 bytes-again (a ∷ b ∷ c ∷ d ∷ f ∷ g) e h = absurd (omega arith)
 
--- a number is read the same in a part of the slice
-pub word-drop : (o : Order) (s : List ℕ) (a i : ℕ) → wordAt o (drop a s) i ≡ wordAt o s (a + i)
+-- a number is its four bytes, wherever they stand
+word-same : (o : Order) (s t : List ℕ) (i j : ℕ) → getD s i 0 ≡ getD t j 0 → getD s (i + 1) 0 ≡ getD t (j + 1) 0 → getD s (i + 2) 0 ≡ getD t (j + 2) 0
+    → getD s (i + 3) 0 ≡ getD t (j + 3) 0 → wordAt o s i ≡ wordAt o t j
 unfolding wordAt
-word-drop Little s a i =
-    let e : a + (i + 1) ≡ a + i + 1 = omega arith in
-    let f : a + (i + 2) ≡ a + i + 2 = omega arith in
-    let g : a + (i + 3) ≡ a + i + 3 = omega arith in
-    simp (getD-drop, e, f, g)
-word-drop Big s a i =
-    let e : a + (i + 1) ≡ a + i + 1 = omega arith in
-    let f : a + (i + 2) ≡ a + i + 2 = omega arith in
-    let g : a + (i + 3) ≡ a + i + 3 = omega arith in
-    simp (getD-drop, e, f, g)
+word-same Little s t i j a b c d = rw (a, b, c, d)
+word-same Big s t i j a b c d = rw (a, b, c, d)
+
+-- it is read the same in a part of the slice
+pub word-drop : (o : Order) (s : List ℕ) (a i : ℕ) → wordAt o (drop a s) i ≡ wordAt o s (a + i)
+word-drop o s a i = word-same o (drop a s) s i (a + i) (getD-drop a s i 0) (further 1) (further 2) (further 3)
+  where
+    further : (k : ℕ) → getD (drop a s) (i + k) 0 ≡ getD s (a + i + k) 0
+    further k = getD-drop a s (i + k) 0 ∙ ap (λ (n : ℕ). getD s n 0) (omega arith)
+
+pub word-take : (o : Order) (n : ℕ) (s : List ℕ) (at : ℕ) → at + 4 ≤ n → wordAt o (take n s) at ≡ wordAt o s at
+word-take o n s at h =
+    word-same o (take n s) s at at (getD-take n s at 0 (omega arith)) (getD-take n s (at + 1) 0 (omega arith)) (getD-take n s (at + 2) 0 (omega arith))
+    (getD-take n s (at + 3) 0 (omega arith))
+
+-- bytes make a number below 2 ^ 32
+pub word-below : (o : Order) (s : List ℕ) (at : ℕ) → ((i : ℕ) → getD s i 0 < 256) → wordAt o s at < 4294967296
+unfolding wordAt
+word-below Little s at b = omega (arith, b at, b (at + 1), b (at + 2), b (at + 3))
+word-below Big s at b = omega (arith, b at, b (at + 1), b (at + 2), b (at + 3))
 
 -- the four bytes that a number is read from
 pub four-at : (s : List ℕ) (at : ℕ) → at + 4 ≤ length s

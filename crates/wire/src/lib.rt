@@ -144,19 +144,34 @@ fn zero_words(s: &[u8], from: usize, to: usize) -> bool
     zero_8(s, last)
 }
 
-// Each byte from `from` up to `to` is zero: blocks of 256 bytes with an exit between them, then words.
+// Blocks of w bytes with an exit between them, the last of which may overlap the one before it.
+fn zero_blocks(s: &[u8], from: usize, to: usize, w: usize) -> bool
+    requires { ⌜ (from ≤ to) × (to ≤ length (now s)) × (0 < w) × (w ≤ to - from) ⌝ }
+    ensures { λ r. ⌜ r ≡ allZero (take (to - from) (drop from (now (s .entry)))) ⌝ }
+{
+    let last = to - w;
+    let mut i = from;
+    while i < last {
+        if !zero_run(s, i, w) {
+            return false;
+        }
+        i += w;
+    }
+    zero_run(s, last, w)
+}
+
+// Each byte from `from` up to `to` is zero: by blocks as wide as fit, or by words.
 pub fn is_zero(s: &[u8], from: usize, to: usize) -> bool
     requires { ⌜ (from ≤ to) × (to ≤ length (now s)) ⌝ }
     ensures { λ r. ⌜ r ≡ allZero (take (to - from) (drop from (now (s .entry)))) ⌝ }
 {
-    let mut i = from;
-    while 256 <= to - i {
-        if !zero_run(s, i, 256) {
-            return false;
-        }
-        i += 256;
+    if to - from < 32 {
+        return zero_words(s, from, to);
     }
-    zero_words(s, i, to)
+    if to - from < 256 {
+        return zero_blocks(s, from, to, 32);
+    }
+    zero_blocks(s, from, to, 256)
 }
 
 fn same_4(a: &[u8], b: &[u8], at: usize) -> bool

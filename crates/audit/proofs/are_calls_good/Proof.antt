@@ -20,8 +20,6 @@ are-calls-good-spec =
     (λ c. search calling)
     (λ c κs. search calling)
     (λ c. search calling)
-    (λ c κs. search calling)
-    (λ c. search calling)
     (λ c. search calling)
     (λ c. search calling)
     (λ c. search calling)

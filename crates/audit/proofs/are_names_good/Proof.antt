@@ -20,8 +20,6 @@ are-names-good-spec =
     (λ c. search naming)
     (λ c κs. search naming)
     (λ c. search naming)
-    (λ c κs. search naming)
-    (λ c. search naming)
     (λ c. search naming)
     (λ c. search naming)
     (λ c. search naming)

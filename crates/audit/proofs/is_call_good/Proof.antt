@@ -19,6 +19,4 @@ is-call-good-spec =
     (λ c κs. search call-tests)
     (λ c. search call-tests)
     (λ c κs. search call-tests)
-    (λ c. search call-tests)
-    (λ c κs. search call-tests)
     (λ c. search call-tests))

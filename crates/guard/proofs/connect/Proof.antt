@@ -1,14 +1,18 @@
 -- `guard::connect` meets its contract. Assumes nothing.
+use Rattle.memory.specs.Calls.{connectOn}
 use Rattle.guard.proofs.Tested.{passed-image, passed-memory, calls}
 use Rattle.guard.proofs.connect.Statement.{statement}
 use Rattle.guard.proofs.connect.Tie as tie
 
 pub connect-spec : {M : Type 1} → statement M
+unfolding connectOn
 connect-spec =
     tie.close
     (tie.spec
     (λ c κs. search calls)
+    (λ c κs. search calls)
     (λ c. search calls)
+    (λ c κs. search calls)
     (λ c κs. search calls)
     (λ c. search calls)
     (λ c. search calls)

@@ -1,9 +1,11 @@
 -- `guard::own` meets its contract. Assumes nothing.
+use Rattle.memory.specs.Calls.{ownOn}
 use Rattle.guard.proofs.Tested.{passed-image, passed-memory, calls}
 use Rattle.guard.proofs.own.Statement.{statement}
 use Rattle.guard.proofs.own.Tie as tie
 
 pub own-spec : {M : Type 1} → statement M
+unfolding ownOn
 own-spec =
     tie.close
     (tie.spec

@@ -1,14 +1,18 @@
 -- `guard::piece` meets its contract. Assumes nothing.
+use Rattle.memory.specs.Calls.{pieceOn}
 use Rattle.guard.proofs.Tested.{passed-image, passed-memory, calls}
 use Rattle.guard.proofs.piece.Statement.{statement}
 use Rattle.guard.proofs.piece.Tie as tie
 
 pub piece-spec : {M : Type 1} → statement M
+unfolding pieceOn
 piece-spec =
     tie.close
     (tie.spec
     (λ c κs. search calls)
+    (λ c κs. search calls)
     (λ c. search calls)
+    (λ c κs. search calls)
     (λ c κs. search calls)
     (λ c. search calls)
     (λ c. search calls)

@@ -1,6 +1,5 @@
 -- `header::header_of` meets its contract. Assumes nothing.
 use Rattle.header.proofs.Whole.{a-header, judging}
-use borrow.Author.Needs.{needs}
 use Rattle.header.proofs.header_of.Statement.{statement}
 use Rattle.header.proofs.header_of.Tie as tie
 

@@ -1,6 +1,5 @@
 -- `header::judge` meets its contract. Assumes nothing.
 use Rattle.header.proofs.Whole.{judging}
-use borrow.Author.Needs.{needs}
 use Rattle.header.proofs.judge.Statement.{statement}
 use Rattle.header.proofs.judge.Tie as tie
 

@@ -1,6 +1,5 @@
 -- `header::read` meets its contract. Assumes nothing.
 use Rattle.header.proofs.Whole.{bytes}
-use borrow.Author.Needs.{needs}
 use Rattle.header.proofs.read.Statement.{statement}
 use Rattle.header.proofs.read.Tie as tie
 

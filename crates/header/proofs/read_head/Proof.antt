@@ -1,6 +1,5 @@
 -- `header::read_head` meets its contract. Assumes nothing.
 use Rattle.header.proofs.Whole.{heads}
-use borrow.Author.Needs.{needs}
 use Rattle.header.proofs.read_head.Statement.{statement}
 use Rattle.header.proofs.read_head.Tie as tie
 

@@ -1,7 +1,7 @@
 -- `image::are_connects` meets its contract. The loop's invariant: of the rules, those below `i` are left to be tested. Assumes nothing.
 use Rattle.image.specs.Image.{connectCount}
 use Rattle.image.specs.Good.{goodConnect}
-use Rattle.image.proofs.Below.{Testing, testing}
+use Rattle.wire.proofs.Below.{Testing, testing}
 use Rattle.image.proofs.are_connects.Statement.{statement}
 use Rattle.image.proofs.are_connects.Tie as tie
 

@@ -1,7 +1,7 @@
 -- `image::are_owns` meets its contract. The loop's invariant: of the rules, those below `i` are left to be tested. Assumes nothing.
 use Rattle.image.specs.Image.{ownCount}
 use Rattle.image.specs.Good.{goodOwn}
-use Rattle.image.proofs.Below.{Testing, testing}
+use Rattle.wire.proofs.Below.{Testing, testing}
 use Rattle.image.proofs.are_owns.Statement.{statement}
 use Rattle.image.proofs.are_owns.Tie as tie
 

@@ -1,7 +1,7 @@
 -- `image::are_transactions` meets its contract. The loop's invariant: of the rules, those below `i` are left to be tested. Assumes nothing.
 use Rattle.image.specs.Image.{transactionCount}
 use Rattle.image.specs.Good.{goodTransaction}
-use Rattle.image.proofs.Below.{Testing, testing}
+use Rattle.wire.proofs.Below.{Testing, testing}
 use Rattle.image.proofs.are_transactions.Statement.{statement}
 use Rattle.image.proofs.are_transactions.Tie as tie
 

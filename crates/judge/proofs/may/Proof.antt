@@ -9,8 +9,6 @@ may-spec =
     (tie.spec
     (λ c κs. search saying)
     (λ c. search saying)
-    (λ c κs. search saying)
-    (λ c. search saying)
     (λ c. search saying)
     (λ c. search saying)
     (λ c. search saying)

@@ -6,4 +6,12 @@ use Rattle.peers.proofs.connect.Tie as tie
 pub connect-spec : {M : Type 1} → statement M
 connect-spec =
     tie.close
-    (tie.spec (λ c. search connecting) (λ c κs. search connecting) (λ c. search connecting) (λ c κs. search connecting) (λ c. search connecting) (λ c. search connecting))
+    (tie.spec
+    (λ c κs. search connecting)
+    (λ c. search connecting)
+    (λ c κs. search connecting)
+    (λ c κs. search connecting)
+    (λ c. search connecting)
+    (λ c κs. search connecting)
+    (λ c. search connecting)
+    (λ c. search connecting))

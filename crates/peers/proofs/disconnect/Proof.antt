@@ -8,6 +8,7 @@ disconnect-spec =
     tie.close
     (tie.spec
     (λ c κs. search disconnecting)
+    (λ c κs. search disconnecting)
     (λ c. search disconnecting)
     (λ c. search disconnecting)
     (λ c κs. search disconnecting)

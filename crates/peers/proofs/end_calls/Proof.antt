@@ -2,8 +2,7 @@
 use Prim.Native.Nat.{_-_}
 use Rattle.tables.specs.Tables.{tableOf}
 use Rattle.memory.specs.Encoding.{pendingOf}
-use Rattle.memory.proofs.Ending.{Ending}
-use Rattle.peers.proofs.Calls.{calls, calls-out}
+use Rattle.memory.proofs.Ending.{Ending, ending, ending-out}
 use borrow.Author.Needs.{needs}
 use Rattle.peers.proofs.end_calls.Statement.{statement}
 use Rattle.peers.proofs.end_calls.Tie as tie
@@ -20,21 +19,21 @@ end-calls-spec =
     (tie.spec
     Inv-loop
     μ-loop
-    (λ c κs. search calls)
-    (λ c. search calls)
-    (λ c. search calls)
-    (λ c. search calls)
-    (λ c. search calls)
-    (λ c κs. search calls)
-    (λ c. search calls)
-    (λ c. search calls)
-    (λ c. search calls)
-    (λ c κs. search calls)
-    (λ c. search calls)
-    (λ c. search calls)
-    (λ c. search (calls-out (c .before .before .before .before .before .before .before .before .loop .inv), c .before .before .before .before .before .u32-at2 .ensures, c .before .before .before .before .if1 .taken, c .before .before .remove .ensures, needs))
-    (λ c. search calls)
-    (λ c. search calls)
-    (λ c. search calls)
-    (λ c. search calls)
-    (λ c. search calls))
+    (λ c κs. search ending)
+    (λ c. search ending)
+    (λ c. search ending)
+    (λ c. search ending)
+    (λ c. search ending)
+    (λ c κs. search ending)
+    (λ c. search ending)
+    (λ c. search ending)
+    (λ c. search ending)
+    (λ c κs. search ending)
+    (λ c. search ending)
+    (λ c. search ending)
+    (λ c. search (ending-out (c .before .before .before .before .before .before .before .before .loop .inv), c .before .before .before .before .before .u32-at2 .ensures, c .before .before .before .before .if1 .taken, c .before .before .remove .ensures, needs))
+    (λ c. search ending)
+    (λ c. search ending)
+    (λ c. search ending)
+    (λ c. search ending)
+    (λ c. search ending))

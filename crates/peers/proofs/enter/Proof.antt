@@ -8,8 +8,10 @@ enter-spec =
     tie.close
     (tie.spec
     (λ c κs. search entering)
+    (λ c κs. search entering)
     (λ c. search entering)
     (λ c. search entering)
+    (λ c κs. search entering)
     (λ c κs. search entering)
     (λ c. search entering)
     (λ c. search entering)

@@ -1,5 +1,6 @@
 -- `pieces::piece` meets its contract. Assumes nothing.
-use Rattle.pieces.proofs.Offered.{piece-runs, piecing}
+use mathlib.Core.Path.{sym, _∙_}
+use Rattle.pieces.proofs.Offered.{piecing}
 use Rattle.pieces.proofs.piece.Statement.{statement}
 use Rattle.pieces.proofs.piece.Tie as tie
 
@@ -15,6 +16,6 @@ piece-spec =
     (λ c κs. search piecing)
     (λ c. search piecing)
     (λ c. search piecing)
-    (λ c κs. (search piecing, piece-runs _ (c .before .before .before .before .before .before .before .before .before .before .pre .1) _ _ (c .before .before .before .before .before .find .ensures) (c .before .before .before .before .if1 .left) _ (c .before .before .is-closed-at .ensures) (c .before .if2 .left)))
+    (λ c κs. (search piecing, search piecing, sym (c .before .before .is-closed-at .ensures) ∙ c .before .if2 .left))
     (λ c. search piecing)
     (λ c. search piecing))

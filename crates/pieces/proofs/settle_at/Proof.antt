@@ -14,6 +14,7 @@ settle-at-spec =
     (λ c. search seats)
     (λ c. search seats)
     (λ c. search seats)
+    (λ c. search seats)
     (λ c κs. search seats)
     (λ c. search seats)
     (λ c. search seats))

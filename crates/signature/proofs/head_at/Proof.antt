@@ -1,6 +1,6 @@
 -- `signature::head_at` meets its contract: the tests that led to each `return` say which case of `headOf` holds.
 -- Assumes nothing.
-use mathlib.Core.Path.{_≡_, refl, sym}
+use mathlib.Core.Path.{_≡_}
 use mathlib.Core.Bool.{Bool, true, false, _&&_, _||_}
 use mathlib.Core.List.{List}
 use Prim.Native.Nat.{ℕ, _+_, _≤_, _<_}
@@ -14,13 +14,9 @@ use Rattle.signature.specs.Reader.{HeadAt}
 use Rattle.signature.specs.declared.Head.the-variants.{Plain, Array, Dict, Paren, None}
 use Rattle.wire.specs.Bytes.{front}
 use Rattle.wire.proofs.From.{next, past, skip}
+use Rattle.wire.proofs.Texts.{both-second}
 use Rattle.signature.proofs.head_at.Statement.{statement}
 use Rattle.signature.proofs.head_at.Tie as tie
-
-second : (a b : Bool) → a && b ≡ true → b ≡ true
-second true b h = h
-second false true h = refl
-second false false h = h
 
 none-left : {s : List ℕ} {at arrays parens : ℕ} → length s ≤ at → HeadAt s at arrays parens None
 unfolding headOf
@@ -34,7 +30,7 @@ module _ {s : List ℕ} {at arrays parens : ℕ} (h : at < length s) {k : Bool} 
   module _ (t : k || eqb (getD s at 0) 118 ≡ false) where
     paren : eqb (getD s at 0) 40 && ltb parens 32 ≡ true → HeadAt s at arrays parens Paren
     unfolding headOf
-    paren p = record { is = rw (next s at h, ← e, t, p); fits = (h, ltb-true parens 32 (second (eqb (getD s at 0) 40) (ltb parens 32) p)) }
+    paren p = record { is = rw (next s at h, ← e, t, p); fits = (h, ltb-true parens 32 (both-second (eqb (getD s at 0) 40) (ltb parens 32) p)) }
 
     module _ (p : eqb (getD s at 0) 40 && ltb parens 32 ≡ false) where
       other : eqb (getD s at 0) 97 && ltb arrays 32 ≡ false → HeadAt s at arrays parens None
@@ -44,14 +40,14 @@ module _ {s : List ℕ} {at arrays parens : ℕ} (h : at < length s) {k : Bool} 
       module _ (a : eqb (getD s at 0) 97 && ltb arrays 32 ≡ true) {q : ℕ} (f : q ≡ front (drop (at + 1) s)) where
         array : (q ≡ 123 → ⊥) → HeadAt s at arrays parens Array
         unfolding headOf
-        array n = record { is = rw (next s at h, ← e, t, p, a, ← f, ne-eqb q 123 n); fits = (h, ltb-true arrays 32 (second (eqb (getD s at 0) 97) (ltb arrays 32) a)) }
+        array n = record { is = rw (next s at h, ← e, t, p, a, ← f, ne-eqb q 123 n); fits = (h, ltb-true arrays 32 (both-second (eqb (getD s at 0) 97) (ltb arrays 32) a)) }
 
         dict : q ≡ 123 → {r : ℕ} → r ≡ front (drop (at + 2) s) → {key : Bool} → key ≡ basic r → (v : Bool) → key ≡ v → HeadAt s at arrays parens (Dict v)
         unfolding headOf
         dict n {r} g {key} b v w =
             record {
               is = rw (next s at h, ← e, t, p, a, ← f, eq-eqb q 123 n, skip s (at + 1) 1 (at + 2) (omega arith), ← w, b, g);
-              fits = (h, ltb-true arrays 32 (second (eqb (getD s at 0) 97) (ltb arrays 32) a));
+              fits = (h, ltb-true arrays 32 (both-second (eqb (getD s at 0) 97) (ltb arrays 32) a));
             }
 
 ruleset heads = (none-left, plain, paren, other, array, dict, needs)

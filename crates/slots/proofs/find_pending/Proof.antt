@@ -18,8 +18,6 @@ find-pending-spec =
     μ-loop
     (λ c κs. search seeking)
     (λ c. search seeking)
-    (λ c κs. search seeking)
-    (λ c. search seeking)
     (λ c. search seeking)
     (λ c. search seeking)
     (λ c κs. search seeking)

@@ -5,4 +5,5 @@ use Rattle.stream.proofs.Stream.in_body.Statement.{statement}
 use Rattle.stream.proofs.Stream.in_body.Tie as tie
 
 pub in-body-spec : {M : Type 1} → statement M
-in-body-spec = tie.close (tie.spec (λ c. search needs) (λ c. search needs) (λ c. search more-body) (λ c κs. search end-body) (λ c. search needs))
+in-body-spec =
+    tie.close (tie.spec (λ c. search needs) (λ c. search needs) (λ c κs. search needs) (λ c. search more-body) (λ c κs. search end-body) (λ c. search needs))

@@ -1,0 +1,27 @@
+-- `wire::zero_blocks` meets its contract. Assumes nothing.
+use Prim.Native.Nat.{_-_}
+use Rattle.wire.proofs.Blocks.{Zeros, zeros}
+use Rattle.wire.proofs.zero_blocks.Statement.{statement}
+use Rattle.wire.proofs.zero_blocks.Tie as tie
+
+abbrev Inv-loop : tie.InvT-loop
+Inv-loop s from to w last i₀ i = Zeros s from to i
+
+abbrev μ-loop : tie.MeasureT-loop
+μ-loop s from to w last i₀ i = to - i
+
+pub zero-blocks-spec : {M : Type 1} → statement M
+zero-blocks-spec =
+    tie.close
+    (tie.spec
+    Inv-loop
+    μ-loop
+    (λ c. search zeros)
+    (λ c. search zeros)
+    (λ c κs. search zeros)
+    (λ c. search zeros)
+    (λ c. search zeros)
+    (λ c. search zeros)
+    (λ c. search zeros)
+    (λ c κs. search zeros)
+    (λ c. search zeros))
