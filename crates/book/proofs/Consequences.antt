@@ -15,7 +15,7 @@ use Rattle.header.specs.declared.Reading.the-variants.{Short, Broken, Whole}
 use Rattle.header.specs.Header.{readHeader}
 use Rattle.header.proofs.Readings.{read-few, read-front, read-append, whole-fits}
 use Rattle.policy.specs.Matching.{fieldOf}
-use Rattle.stream.specs.Stream.{more, broken, whole}
+use Rattle.stream.specs.Stream.{broken, whole}
 use Rattle.stream.specs.Tail.{finished, isBroken, brokenAt}
 use Rattle.stream.proofs.Pushes.{breaks}
 use Rattle.rules.specs.State.{free, peer, Peer, State}
@@ -32,6 +32,7 @@ use Rattle.book.specs.Book.{front, isWhole, size, past, cut, current, bo
 use Rattle.book.specs.Lists.{Call, starts, Answer, Run, entry, answers}
 use Rattle.book.specs.Split.{joined}
 use Rattle.book.proofs.Cut.{snoc, begins-whole, whole-begins, whole-append, whole-some, whole-reached, cut-step, cut-stops, cut-enough, current-snoc}
+use Rattle.book.proofs.Numbers.{broken-read}
 use Rattle.book.proofs.List.{started}
 
 -- ---- "The book cuts each stream from its first byte"
@@ -136,16 +137,7 @@ broken-where xs b a c j = subst (λ (y : List ℕ). length y ≡ brokenAt a y) (
     h = current xs
 
     read : (y : List ℕ) → front y ≡ broken a → readHeader y ≡ Broken a
-    read y q = by (readHeader y) refl q
-      where
-        last : (x : Header) (t : Bool) → cond t more (whole (take (x .head) y) x) ≡ broken a → Whole x ≡ Broken a
-        last x true u = let z : _≡_ {A = ℕ} 0 1 = cc in absurd (omega arith)
-        last x false u = let z : _≡_ {A = ℕ} 0 1 = cc in absurd (omega arith)
-
-        by : (r : Reading) → readHeader y ≡ r → finished (length y) y r ≡ broken a → r ≡ Broken a
-        by Short e u = let z : _≡_ {A = ℕ} 0 1 = cc in absurd (omega arith)
-        by (Broken n) e u = let z : n ≡ a = cc in ap Broken z
-        by (Whole x) e u = last x (ltb (length y) (x .head + x .body)) u
+    read y q = broken-read (length y) y a q
 
     short : readHeader (snoc h b) ≡ Broken a → (r : Reading) → readHeader h ≡ r → readHeader h ≡ Short
     short q Short e = e

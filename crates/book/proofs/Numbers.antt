@@ -97,14 +97,18 @@ read-number s a e = go (known s e)
         let n = head-number (take h s) (sym (read-whole s l (z .sizes) w) ∙ e) in
         (omega (arith, n .0), omega (arith, n .1))
 
-pub broken-number : (n : ℕ) (h : List ℕ) (a : ℕ) → finished n h (readHeader h) ≡ broken a → (1 ≤ a) × (a ≤ 9)
-broken-number n h a e = go (readHeader h) refl e
+-- a message is broken by what its head reads as
+pub broken-read : (n : ℕ) (h : List ℕ) (a : ℕ) → finished n h (readHeader h) ≡ broken a → readHeader h ≡ Broken a
+broken-read n h a e = go (readHeader h) e
   where
-    last : (x : Header) (b : Bool) → cond b more (whole (take (x .head) h) x) ≡ broken a → (1 ≤ a) × (a ≤ 9)
+    last : (x : Header) (b : Bool) → cond b more (whole (take (x .head) h) x) ≡ broken a → Whole x ≡ Broken a
     last x true q = let z : _≡_ {A = ℕ} 0 1 = cc in absurd (omega arith)
     last x false q = let z : _≡_ {A = ℕ} 0 1 = cc in absurd (omega arith)
 
-    go : (r : Reading) → readHeader h ≡ r → finished n h r ≡ broken a → (1 ≤ a) × (a ≤ 9)
-    go Short f q = let z : _≡_ {A = ℕ} 0 1 = cc in absurd (omega arith)
-    go (Broken c) f q = let z : c ≡ a = cc in read-number h a (f ∙ ap Broken z)
-    go (Whole x) f q = last x (ltb n (x .head + x .body)) q
+    go : (r : Reading) → finished n h r ≡ broken a → r ≡ Broken a
+    go Short q = let z : _≡_ {A = ℕ} 0 1 = cc in absurd (omega arith)
+    go (Broken c) q = let z : c ≡ a = cc in ap Broken z
+    go (Whole x) q = last x (ltb n (x .head + x .body)) q
+
+pub broken-number : (n : ℕ) (h : List ℕ) (a : ℕ) → finished n h (readHeader h) ≡ broken a → (1 ≤ a) × (a ≤ 9)
+broken-number n h a e = read-number h a (broken-read n h a e)
