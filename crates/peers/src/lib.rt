@@ -1,5 +1,7 @@
 // The calls about peers and their names, on a good image and good memory: connect, own, release, disconnect.
+use memory::FIRST_GID;
 use memory::FIRST_NAME;
+use memory::GIDS_AT;
 use memory::NAMES_AT;
 use memory::PENDING_AT;
 use memory::SLOT_LENGTH;
@@ -39,9 +41,9 @@ fn seat(memory: &mut [u8], i: usize, number: u32, uid: u32, gids: &[u32])
 {
     let at = SLOTS_AT + SLOT_LENGTH * i;
     wire::put_u32(memory, at, number);
-    wire::put_u32(memory, at + 4, uid);
-    wire::put_u32(memory, at + 8, gids.len() as u32);
-    tables::put_words(memory, at + 12, gids);
+    wire::put_u32(memory, at + UID_AT, uid);
+    wire::put_u32(memory, at + GIDS_AT, gids.len() as u32);
+    tables::put_words(memory, at + FIRST_GID, gids);
 }
 
 // Gives slot i, which is free, to a peer, whose number is then the last.
