@@ -14,7 +14,7 @@ use Rattle.rules.specs.Pending.{isCall, awaits}
 use Rattle.rules.proofs.Waits.{awaits-first}
 use Rattle.memory.specs.Encoding.{stateOf}
 use Rattle.memory.specs.Good.{goodPending}
-use Rattle.memory.proofs.Search.{Found}
+use Rattle.memory.specs.Places.{Found}
 use Rattle.slots.specs.Slots.{peerAt, CallAt}
 use Rattle.slots.proofs.Cells.{calls-next, before}
 use Rattle.audit.specs.Tests.{calleeAt, serialAt, callTest}

@@ -14,7 +14,7 @@ use Rattle.rules.specs.State.{Slot, firstBy}
 use Rattle.rules.proofs.First.{first-any}
 use Rattle.memory.specs.Encoding.{stateOf}
 use Rattle.memory.proofs.Reading.{sixteen}
-use Rattle.memory.proofs.Search.{Found}
+use Rattle.memory.specs.Places.{Found}
 use Rattle.slots.proofs.Cells.{before}
 
 pub not-ltb : (a b : ℕ) → not (ltb a b) ≡ leb b a

@@ -18,7 +18,7 @@ use Rattle.rules.specs.Addresses.{ownable}
 use Rattle.rules.specs.Calls.{isOwner}
 use Rattle.memory.specs.Encoding.{stateOf}
 use Rattle.memory.specs.Good.{goodNames}
-use Rattle.memory.proofs.Search.{Found}
+use Rattle.memory.specs.Places.{Found}
 use Rattle.slots.specs.Slots.{peerAt, nameAt}
 use Rattle.slots.proofs.Cells.{names-next, name-byte}
 use Rattle.audit.specs.Tests.{nameTest}

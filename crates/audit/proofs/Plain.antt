@@ -15,15 +15,16 @@ use Rattle.wire.specs.Words.{wordAt, wordBytes}
 use Rattle.wire.specs.declared.Order.the-variants.{Little}
 use Rattle.wire.proofs.Texts.{same-refl}
 use Rattle.wire.proofs.Words.{word-length, bytes-again}
-use Rattle.tables.specs.Tables.{tableBytes, tableOf}
+use Rattle.tables.specs.Tables.{tableBytes, tableOf, plainCells}
 use Rattle.tables.proofs.Words.{word-part, word-front, bytes-take, bytes-drop, word-cut}
 use Rattle.tables.proofs.Table.{table-length, table-take}
-use Rattle.tables.proofs.Same.{same-zeros, same-split, plainCells, table-same, plain-always}
+use Rattle.tables.proofs.Same.{same-zeros, same-split, table-same, plain-always}
 use Rattle.policy.specs.Names.{cellOf, nameOf}
 use Rattle.stream.specs.Tail.{Tail}
 use Rattle.rules.specs.State.{Slot, free, peer}
 use Rattle.memory.specs.Encoding.{pendingBytes, headBytes, peerBytes, slotBytes, wordOf, pendingOf, slotOf}
-use Rattle.memory.proofs.Reading.{peerFrom, slot-take, peer-from}
+use Rattle.memory.specs.Places.{peerFrom}
+use Rattle.memory.proofs.Reading.{slot-take, peer-from}
 use Rattle.memory.proofs.Heads.{single, single-length, head-table, head-of, single-plain}
 use Rattle.memory.proofs.Frame.{pending-length, cell-length}
 use Rattle.audit.specs.Tests.{tableTest, cellsTest, shapeTest}

@@ -16,7 +16,8 @@ use Rattle.wire.specs.Bytes.{allZero, same, front, pad}
 use Rattle.wire.specs.Words.{wordAt}
 use Rattle.wire.specs.declared.Order.the-variants.{Little}
 use Rattle.wire.proofs.Parts.{drop-take}
-use Rattle.tables.proofs.Same.{same-pad, plainCells, plain-next, plain-end}
+use Rattle.tables.specs.Tables.{plainCells}
+use Rattle.tables.proofs.Same.{same-pad, plain-next, plain-end}
 use Rattle.policy.specs.Names.{cellOf, nameOf}
 use Rattle.memory.proofs.Frame.{cell-length}
 use Rattle.slots.proofs.Cells.{cell-front}

@@ -21,8 +21,8 @@ use Rattle.stream.specs.Tail.{goodTail}
 use Rattle.rules.specs.State.{free, peer, isPeer}
 use Rattle.memory.specs.Encoding.{slotOf, slotBytes, stateOf}
 use Rattle.memory.specs.Good.{goodNames, goodPending, goodPeer, goodSlot, goodSlots, plain, good}
-use Rattle.memory.proofs.Reading.{numberAt, sixteen, slot-at, slot-part, slot-free, slot-peer, gids-many, pending-many, names-many}
-use Rattle.memory.proofs.Search.{Found}
+use Rattle.memory.specs.Places.{numberAt, Found}
+use Rattle.memory.proofs.Reading.{sixteen, slot-at, slot-part, slot-free, slot-peer, gids-many, pending-many, names-many}
 use Rattle.slots.specs.Slots.{peerAt}
 use Rattle.audit.specs.Tests.{tableTest, cellsTest, shapeTest, slotTest}
 use Rattle.audit.proofs.Found.{found-any}

@@ -14,7 +14,7 @@ use Rattle.rules.specs.State.{isPeer}
 use Rattle.rules.specs.Addresses.{ownable}
 use Rattle.rules.specs.Pending.{awaits}
 use Rattle.rules.specs.Calls.{isOwner}
-use Rattle.tables.proofs.Same.{plainCells}
+use Rattle.tables.specs.Tables.{plainCells}
 use Rattle.memory.specs.Layout.{slotStart, slotLength, namesAt, firstName, pendingAt, gidsAt, headAt, firstCallee, firstSerial}
 use Rattle.memory.specs.Encoding.{slotBytes, slotOf, stateOf}
 use Rattle.memory.specs.Good.{nobody, goodSlot}

@@ -20,7 +20,7 @@ ghost use Rattle.rules.specs.Addresses.{ownable};
 ghost use Rattle.memory.specs.Layout.{slotStart, memoryLength, firstName};
 ghost use Rattle.memory.specs.Encoding.{stateOf};
 ghost use Rattle.memory.specs.Good.{goodNames, goodPending, goodPeer, good};
-ghost use Rattle.memory.proofs.Reading.{numberAt};
+ghost use Rattle.memory.specs.Places.{numberAt};
 ghost use Rattle.stream.specs.Tail.{goodTail};
 ghost use Rattle.slots.specs.Slots.{peerAt, At};
 ghost use Rattle.audit.specs.Tests.{nameTest, callTest, plainCell, tableTest, cellsTest, shapeTest, slotTest};

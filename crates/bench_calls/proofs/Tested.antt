@@ -10,7 +10,7 @@ use Rattle.image.proofs.Holds.{outcome-holds}
 use Rattle.header.specs.declared.Header.{Header}
 use Rattle.header.specs.declared.Reading.{Reading}
 use Rattle.header.specs.declared.Reading.the-variants.{Short, Broken, Whole}
-use Rattle.header.specs.Header.{readHeader, answerOf}
+use Rattle.header.specs.Header.{readHeader, readingAnswer}
 use Rattle.policy.specs.Contracts.{Within, Asked}
 
 pub asked : (image head : List ℕ) (m : Header) {r : Outcome} → r ≡ outcomeOf image → r ≡ Good → Within head m → Asked image head m
@@ -19,13 +19,13 @@ asked image head m e h w = record { good = outcome-holds image (sym e ∙ h); wi
 pub ruleset testing = (asked, needs)
 
 module _ (s : List ℕ) {r : Reading} (e : r ≡ readHeader s) where
-  pub short-is : r ≡ Short → 10 ≡ answerOf (readHeader s)
-  short-is h = ap answerOf (sym h ∙ e)
+  pub short-is : r ≡ Short → 10 ≡ readingAnswer (readHeader s)
+  short-is h = ap readingAnswer (sym h ∙ e)
 
-  pub broken-is : {n : ℕ} → r ≡ Broken n → n ≡ answerOf (readHeader s)
-  broken-is h = ap answerOf (sym h ∙ e)
+  pub broken-is : {n : ℕ} → r ≡ Broken n → n ≡ readingAnswer (readHeader s)
+  broken-is h = ap readingAnswer (sym h ∙ e)
 
-  pub whole-is : {x : Header} → r ≡ Whole x → 0 ≡ answerOf (readHeader s)
-  whole-is h = ap answerOf (sym h ∙ e)
+  pub whole-is : {x : Header} → r ≡ Whole x → 0 ≡ readingAnswer (readHeader s)
+  whole-is h = ap readingAnswer (sym h ∙ e)
 
 pub ruleset reading = (short-is, broken-is, whole-is, needs)

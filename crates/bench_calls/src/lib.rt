@@ -8,7 +8,7 @@ use policy::Uid;
 ghost use mathlib.Core.Path.{_≡_};
 ghost use Prim.Native.Nat.{_+_, _≤_};
 ghost use Rattle.signature.specs.Signature.{validSignature};
-ghost use Rattle.header.specs.Header.{readHeader, answerOf};
+ghost use Rattle.header.specs.Header.{readHeader, readingAnswer};
 ghost use Rattle.memory.specs.Good.{good};
 ghost use Rattle.memory.specs.Calls.{startOn, ownOn, Did};
 ghost use Rattle.policy.specs.Contracts.{Within};
@@ -47,7 +47,7 @@ pub extern "C" fn bench_signature_valid(bytes: &[u8]) -> bool
 // The answer number of a head: 0 where it is whole and good, 10 where bytes are missing.
 #[no_mangle]
 pub extern "C" fn bench_header_read(bytes: &[u8]) -> u8
-    ensures { λ r. ⌜ r ≡ answerOf (readHeader (now (bytes .entry))) ⌝ }
+    ensures { λ r. ⌜ r ≡ readingAnswer (readHeader (now (bytes .entry))) ⌝ }
 {
     match header::read(bytes) {
         Reading::Short => 10,

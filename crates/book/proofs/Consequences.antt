@@ -22,7 +22,7 @@ use Rattle.rules.specs.State.{free, peer, Peer, State}
 use Rattle.rules.specs.Addresses.{resolve}
 use Rattle.rules.specs.Judge.{isReply, judged}
 use Rattle.rules.specs.Calls.{empty, disconnect}
-use Rattle.rules.proofs.View.{seen, seenSlot}
+use Rattle.rules.specs.View.{seen, seenSlot}
 use Rattle.rules.proofs.Waits.{okPending}
 use Rattle.rules.proofs.Replies.{isWaiting, awaited, reply-exact, second-reply, gone-unawaited}
 use Rattle.memory.specs.Layout.{memoryLength}

@@ -14,7 +14,8 @@ use Rattle.rules.specs.declared.Connected.{Connected}
 use Rattle.rules.specs.declared.Taken.{Taken}
 use Rattle.rules.specs.declared.Gone.{Gone}
 use Rattle.rules.proofs.Tests.{choice}
-use Rattle.rules.proofs.View.{chosen, seen, seenStep}
+use Rattle.rules.specs.View.{seen, seenStep}
+use Rattle.rules.proofs.View.{chosen}
 use Rattle.rules.proofs.Seen.{connect-seen, own-seen, release-seen, piece-seen, disconnect-seen}
 use Rattle.memory.specs.Layout.{memoryLength}
 use Rattle.memory.specs.Encoding.{memoryOf, stateOf}

@@ -14,7 +14,7 @@ use Rattle.rules.specs.Calls.{Step, stays, empty, piece, noPiece}
 use Rattle.rules.specs.declared.Judgement.{Judgement}
 use Rattle.rules.specs.declared.Taken.{Taken}
 use Rattle.rules.proofs.Tests.{choice}
-use Rattle.rules.proofs.View.{seen}
+use Rattle.rules.specs.View.{seen}
 use Rattle.memory.specs.Layout.{memoryLength}
 use Rattle.memory.specs.Encoding.{memoryOf, stateOf}
 use Rattle.memory.specs.Good.{good}

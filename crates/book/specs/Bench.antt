@@ -9,8 +9,7 @@ use Rattle.signature.specs.Signature.{validSignature}
 use Rattle.image.specs.Table.{imageOf, head, cites}
 use Rattle.rules.specs.Judge.{bit}
 use Rattle.rules.specs.Calls.{empty}
-use Rattle.rules.specs.declared.Receiver.{Receiver}
-use Rattle.rules.specs.declared.Receiver.the-variants as to
+use Rattle.rules.specs.Places.{receiverWords}
 use Rattle.book.specs.Lists.{Call, starts, connects, claims, offers, Answer, plain, connected, taken, gone, answers}
 
 -- ---- messages
@@ -97,17 +96,10 @@ between image name =
 
 -- ---- answers as numbers
 
--- 0 nobody, 1 the bus, 2 a peer, 3 slots
-abbrev pub receiver : Receiver → List ℕ
-receiver to.Nobody = 0 ∷ 0 ∷ 0 ∷ []
-receiver to.Bus = 1 ∷ 0 ∷ 0 ∷ []
-receiver (to.Peer n) = 2 ∷ n ∷ 0 ∷ []
-receiver (to.Slots mask count) = 3 ∷ mask ∷ count ∷ []
-
 abbrev pub shown : Answer → List ℕ
 shown (plain a) = a ∷ []
 shown (connected r) = r .answer ∷ r .number ∷ r .slot ∷ []
-shown (taken r) = r .judgement .answer ∷ r .taken ∷ receiver (r .judgement .receiver)
+shown (taken r) = r .judgement .answer ∷ r .taken ∷ receiverWords (r .judgement .receiver)
 shown (gone r) = r .answer ∷ r .bytes ∷ []
 
 abbrev pub lastOf : List Answer → List ℕ

@@ -13,7 +13,7 @@ use Rattle.rules.specs.declared.Taken.{Taken}
 use Rattle.rules.specs.declared.Gone.{Gone}
 use Rattle.memory.specs.Calls.{Did, startOn, connectOn, ownOn, releaseOn, pieceOn, disconnectOn}
 use Rattle.memory.specs.Encoding.{memoryOf}
-use Rattle.rules.proofs.View.{seen}
+use Rattle.rules.specs.View.{seen}
 use Rattle.book.specs.Book.{books, tailView}
 
 -- each with its arguments, and nothing of the guard's memory

@@ -20,7 +20,7 @@ use Rattle.memory.specs.Layout.{memoryLength}
 use Rattle.memory.specs.Encoding.{memoryOf}
 use Rattle.memory.specs.Calls.{Did, startOn}
 use Rattle.book.specs.Lists.{Call, Answer, plain, connected, taken, gone, Ran, Run, done, then}
-use Rattle.book.specs.Bench.{receiver}
+use Rattle.rules.specs.Places.{receiverWords}
 use Rattle.book.proofs.List.{empty-claim}
 use Rattle.calls.specs.declared.Count.{Count}
 use Rattle.calls.specs.Script.{kindOf, argumentOf, entrySize, layout, calls, callOf, decode}
@@ -45,7 +45,7 @@ place-length : (a : Answer) → length (placeOf a) ≡ 28
 unfolding placeOf
 place-length a = cells-length 4 wordBytes word-length (wordsOf a) ∙ omega (arith, seven a)
   where
-    to-three : (r : Receiver) → length (receiver r) ≡ 3
+    to-three : (r : Receiver) → length (receiverWords r) ≡ 3
     to-three to.Nobody = refl
     to-three to.Bus = refl
     to-three (to.Peer n) = refl
@@ -54,7 +54,7 @@ place-length a = cells-length 4 wordBytes word-length (wordsOf a) ∙ omega (ari
     seven : (x : Answer) → length (wordsOf x) ≡ 7
     seven (plain n) = refl
     seven (connected r) = refl
-    seven (taken r) = omega (arith, length-append (receiver (r .judgement .receiver)) (0 ∷ 0 ∷ []), to-three (r .judgement .receiver))
+    seven (taken r) = omega (arith, length-append (receiverWords (r .judgement .receiver)) (0 ∷ 0 ∷ []), to-three (r .judgement .receiver))
     seven (gone r) = refl
 
 -- ---- the entries behind `rest` are to come; those before it have run

@@ -7,7 +7,7 @@ use lib.ListN.{length, take, drop}
 use Rattle.wire.specs.Words.{wordBytes}
 use Rattle.tables.specs.Tables.{cells}
 use Rattle.rules.specs.Calls.{empty}
-use Rattle.rules.proofs.View.{seen}
+use Rattle.rules.specs.View.{seen}
 use Rattle.memory.specs.Encoding.{memoryOf}
 use Rattle.book.specs.Book.{tailView}
 use Rattle.book.specs.Lists.{Call, Answer, answers, after, Ran}

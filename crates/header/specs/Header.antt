@@ -52,8 +52,8 @@ afterFixed s (fixed.Sizes head message) = cond (ltb (length s) head) Short (read
 unfoldable pub readHeader : List ℕ → Reading
 readHeader s = cond (ltb (length s) 16) Short (afterFixed s (fixedPart s))
 
--- 01's number for each case: 10 is "message unfinished", and 0 a head that has none of the faults
-abbrev pub answerOf : Reading → ℕ
-answerOf Short = 10
-answerOf (Broken n) = n
-answerOf (Whole header) = 0
+-- the answer number of each case: 10 says that more bytes are needed, and 0 that the head has none of the faults (rules 2.4 and 2.11)
+abbrev pub readingAnswer : Reading → ℕ
+readingAnswer Short = 10
+readingAnswer (Broken n) = n
+readingAnswer (Whole header) = 0

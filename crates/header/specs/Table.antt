@@ -7,7 +7,7 @@ use Rattle.wire.specs.Bytes.{byte, bytes}
 use Rattle.wire.specs.Words.{wordBytes}
 use Rattle.wire.specs.declared.Order.{Order}
 use Rattle.wire.specs.declared.Order.the-variants.{Little, Big}
-use Rattle.header.specs.Header.{readHeader, answerOf}
+use Rattle.header.specs.Header.{readHeader, readingAnswer}
 
 abbrev pub Line : Type 0
 Line = List ℕ × ℕ
@@ -63,4 +63,4 @@ abbrev pub table : List Line
 table = lines Little ++ lines Big
 
 abbrev pub answer : List ℕ → ℕ
-answer s = answerOf (readHeader s)
+answer s = readingAnswer (readHeader s)

@@ -111,7 +111,11 @@ goodImage image =
 unfoldable pub outcomeOf : List ℕ → Outcome
 outcomeOf image = cond (goodImage image) Good Bad
 
--- 01, "Answer numbers"
-abbrev pub answerOf : Outcome → ℕ
-answerOf Good = 0
-answerOf Bad = 50
+-- the answer number of each case (rule 5.9)
+abbrev pub outcomeAnswer : Outcome → ℕ
+outcomeAnswer Good = 0
+outcomeAnswer Bad = 50
+
+-- what a call that takes this image answers before all else, and 0 where it goes on (rules 5.9 and 8.1)
+unfoldable pub imageAnswer : List ℕ → ℕ
+imageAnswer image = outcomeAnswer (outcomeOf image)

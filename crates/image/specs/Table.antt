@@ -4,7 +4,7 @@ use Prim.Native.Nat.{ℕ, _+_, _/_}
 use lib.ListN.{length, take, replicate}
 use Rattle.wire.specs.Bytes.{bytes}
 use Rattle.wire.specs.Words.{wordBytes}
-use Rattle.image.specs.Good.{outcomeOf, answerOf}
+use Rattle.image.specs.Good.{imageAnswer}
 
 -- the image of the sections' bytes, behind the header that they take
 abbrev pub imageOf : List ℕ → List ℕ → List ℕ → List ℕ → List ℕ
@@ -58,4 +58,4 @@ table =
     ∷ []
 
 abbrev pub answer : List ℕ → ℕ
-answer image = answerOf (outcomeOf image)
+answer image = imageAnswer image

@@ -13,8 +13,9 @@ use Rattle.policy.specs.Names.{owns}
 use Rattle.rules.specs.Addresses.{uniqueName, answersTo, resolve}
 use Rattle.rules.specs.Calls.{slotAt}
 use Rattle.memory.specs.Encoding.{stateOf}
-use Rattle.memory.proofs.Reading.{numberAt, sixteen, slot-free, slot-peer}
-use Rattle.memory.proofs.Search.{Found, looking-begins, tested-hit, tested-miss, tested-ends}
+use Rattle.memory.specs.Places.{numberAt, Found}
+use Rattle.memory.proofs.Reading.{sixteen, slot-free, slot-peer}
+use Rattle.memory.proofs.Search.{looking-begins, tested-hit, tested-miss, tested-ends}
 use Rattle.memory.proofs.Find.{found-first, found-passes}
 use Rattle.slots.specs.Slots.{peerAt}
 use Rattle.judge.specs.declared.address.Destination.the-variants.{Absent, Bus, At, Unknown}

@@ -9,8 +9,7 @@ use mir.Val.{Fits}
 use borrow.Author.Needs.{needs}
 use Rattle.wire.specs.Words.{wordBytes}
 use Rattle.wire.proofs.Words.{word-length}
-use Rattle.tables.specs.Cut.{cutOut, Cell}
-use Rattle.tables.proofs.Change.{without}
+use Rattle.tables.specs.Cut.{cutOut, Cell, without}
 use Rattle.tables.proofs.Written.{put-joined, part-cell, remove-written}
 use Rattle.memory.specs.Encoding.{pendingBytes}
 use Rattle.memory.proofs.Frame.{pending-length}

@@ -20,9 +20,9 @@ use Rattle.rules.specs.Judge.{Judged, refusal, refused, passed, maySend, mayRec
 use Rattle.rules.specs.declared.Judgement.{Judgement}
 use Rattle.rules.specs.declared.Receiver.the-variants as to
 use Rattle.rules.proofs.Waits.{awaits-first}
-use Rattle.tables.proofs.Change.{without}
+use Rattle.tables.specs.Cut.{without}
 use Rattle.memory.specs.Encoding.{memoryOf, stateOf}
-use Rattle.memory.proofs.Reading.{numberAt}
+use Rattle.memory.specs.Places.{numberAt}
 use Rattle.memory.proofs.Good.{good-is}
 use Rattle.memory.proofs.Removal.{ended-without}
 use Rattle.slots.specs.Slots.{peerAt, Seated, CallAt}

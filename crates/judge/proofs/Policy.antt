@@ -22,7 +22,8 @@ use Rattle.policy.proofs.Cells.{bus-names}
 use Rattle.rules.specs.Judge.{refusal}
 use Rattle.rules.specs.declared.Judgement.{Judgement}
 use Rattle.rules.specs.declared.Receiver.the-variants as to
-use Rattle.memory.proofs.Reading.{numberAt, slot-free, slot-peer}
+use Rattle.memory.specs.Places.{numberAt}
+use Rattle.memory.proofs.Reading.{slot-free, slot-peer}
 use Rattle.memory.proofs.Held.{held-counted}
 use Rattle.memory.proofs.Names.{names-in}
 use Rattle.slots.specs.Slots.{peerAt, Seated, GidsOf}

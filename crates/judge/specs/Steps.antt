@@ -16,7 +16,7 @@ use Rattle.rules.specs.Judge.{passed, maySend, mayReceive, toBus, waits, expect
 use Rattle.rules.specs.Calls.{slotAt}
 use Rattle.rules.specs.declared.Judgement.{Judgement}
 use Rattle.rules.specs.declared.Receiver.the-variants as to
-use Rattle.tables.proofs.Change.{without}
+use Rattle.tables.specs.Cut.{without}
 use Rattle.memory.specs.Encoding.{memoryOf, stateOf}
 use Rattle.memory.specs.Sound.{Held}
 use Rattle.slots.specs.Slots.{peerAt, Seated}

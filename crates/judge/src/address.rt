@@ -7,7 +7,7 @@ ghost use Rattle.rules.specs.Addresses.{uniqueName, answersTo};
 ghost use Rattle.rules.specs.Calls.{slotAt};
 ghost use Rattle.memory.specs.Layout.{memoryLength};
 ghost use Rattle.memory.specs.Encoding.{stateOf};
-ghost use Rattle.memory.proofs.Search.{Found};
+ghost use Rattle.memory.specs.Places.{Found};
 ghost use Rattle.slots.specs.Slots.{At};
 ghost use Rattle.judge.specs.Steps.{Spelled, Seeks, Resolved};
 

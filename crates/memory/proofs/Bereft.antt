@@ -12,7 +12,7 @@ use Rattle.rules.specs.Pending.{endedAll, bereft}
 use Rattle.memory.specs.Encoding.{pendingBytes, pendingOf, slotBytes, peerOf, slotOf}
 use Rattle.memory.proofs.Reading.{part-free, part-peer}
 use Rattle.memory.proofs.Fields.{put-pending}
-use Rattle.memory.proofs.Sweep.{changed}
+use Rattle.memory.specs.Places.{changed}
 
 -- b is a slot's bytes, and is plain
 pub bereft-free : (c : ℕ) (b : List ℕ) → slotBytes (slotOf b) ≡ b → wordAt Little b 0 ≡ 0 → b ≡ changed (bereft c) b

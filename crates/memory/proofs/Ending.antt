@@ -10,10 +10,10 @@ use borrow.Author.Needs.{needs}
 use Rattle.wire.specs.Words.{wordAt, wordBytes}
 use Rattle.wire.specs.declared.Order.the-variants.{Little}
 use Rattle.tables.specs.Tables.{parts, tableBytes, tableOf}
-use Rattle.tables.specs.Cut.{Cell}
+use Rattle.tables.specs.Cut.{Cell, without}
 use Rattle.tables.proofs.Words.{word-part, word-fits, bytes-take, bytes-drop}
 use Rattle.tables.proofs.Table.{table-length, table-many, table-count, table-again, table-at}
-use Rattle.tables.proofs.Change.{without, without-length, map-without, removed, table-remove}
+use Rattle.tables.proofs.Change.{without-length, map-without, removed, table-remove}
 use Rattle.rules.specs.State.{Pending}
 use Rattle.rules.specs.Pending.{endedAll}
 use Rattle.memory.specs.Encoding.{pendingBytes, pendingOf}

@@ -15,8 +15,9 @@ use Rattle.rules.specs.State.{Slot, free, peer, isFree, isPeer, firstBy}
 use Rattle.rules.proofs.First.{first-passes}
 use Rattle.memory.specs.Layout.{slotStart}
 use Rattle.memory.specs.Encoding.{stateOf}
-use Rattle.memory.proofs.Reading.{sixteen, numberAt, peerFrom, slot-free, slot-peer}
-use Rattle.memory.proofs.Search.{Looking, Found, looking-begins, looking-hit, looking-miss, looking-ends, tested-ends}
+use Rattle.memory.specs.Places.{numberAt, peerFrom, Found}
+use Rattle.memory.proofs.Reading.{sixteen, slot-free, slot-peer}
+use Rattle.memory.proofs.Search.{Looking, looking-begins, looking-hit, looking-miss, looking-ends, tested-ends}
 
 -- ---- the first free slot; k is the number that the code read in slot i
 

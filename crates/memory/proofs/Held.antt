@@ -17,7 +17,8 @@ use Rattle.memory.specs.Layout.{slotStart}
 use Rattle.memory.specs.Encoding.{slotBytes, slotOf, stateOf}
 use Rattle.memory.specs.Good.{plain}
 use Rattle.memory.specs.Sound.{Held}
-use Rattle.memory.proofs.Reading.{slot-part, slot-at, numberAt, peerFrom, slot-free, slot-peer, gids-many, pending-many, names-many}
+use Rattle.memory.specs.Places.{numberAt, peerFrom}
+use Rattle.memory.proofs.Reading.{slot-part, slot-at, slot-free, slot-peer, gids-many, pending-many, names-many}
 use Rattle.memory.proofs.Fields.{gids-in, pending-in, names-in, table-counted}
 use Rattle.memory.proofs.Slots.{head-count}
 use Rattle.memory.proofs.Good.{good-plain}

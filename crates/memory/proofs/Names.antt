@@ -14,7 +14,7 @@ use Rattle.wire.proofs.Parts.{drop-take}
 use Rattle.tables.proofs.Words.{word-front, bytes-take, bytes-drop}
 use Rattle.tables.proofs.Cells.{parts-take}
 use Rattle.policy.specs.Names.{nameOf, cellNames, namesIn}
-use Rattle.memory.proofs.Reading.{peerFrom}
+use Rattle.memory.specs.Places.{peerFrom}
 
 -- a name is read no further than its cell
 pub name-take : (s : List ℕ) → getD s 0 0 < 256 → nameOf (take 256 s) ≡ nameOf s

@@ -18,7 +18,8 @@ use Rattle.memory.specs.Encoding.{pendingBytes, streamBytes, slotBytes, 
 use Rattle.memory.specs.Sound.{Held}
 use Rattle.memory.proofs.Frame.{pending-length, cell-length, slot-length}
 use Rattle.memory.proofs.Fields.{put-field, put-names, put-pending, put-stream, table-part, names-in, pending-in}
-use Rattle.memory.proofs.Reading.{sixteen, numberAt, peerFrom, slot-peer}
+use Rattle.memory.specs.Places.{numberAt, peerFrom}
+use Rattle.memory.proofs.Reading.{sixteen, slot-peer}
 use Rattle.memory.proofs.Good.{good-is}
 use Rattle.memory.proofs.Held.{held-peer}
 

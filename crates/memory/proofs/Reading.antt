@@ -20,6 +20,7 @@ use Rattle.stream.specs.Tail.{Tail}
 use Rattle.rules.specs.State.{Peer, free, peer}
 use Rattle.memory.specs.Layout.{slotStart}
 use Rattle.memory.specs.Encoding.{wordOf, pendingOf, tailOf, peerOf, slotOf, stateOf}
+use Rattle.memory.specs.Places.{peerFrom, numberAt}
 
 -- ---- sixteen slots
 
@@ -84,20 +85,6 @@ part-peer b e = rw (ne-eqb (wordAt Little b 0) 0 e)
 
 -- ---- the peer whose slot begins at a
 
-abbrev pub tailFrom : List ℕ → ℕ → Tail
-tailFrom m a = record { taken = wordAt Little m (a + 1236); head = take (min (wordAt Little m (a + 1240)) 2048) (drop (a + 1244) m) }
-
-abbrev pub peerFrom : List ℕ → ℕ → Peer Tail
-peerFrom m a =
-    record {
-      number = wordAt Little m a;
-      uid = wordAt Little m (a + 4);
-      gids = tableOf 4 16 wordOf (drop (a + 8) m);
-      pending = tableOf 8 16 pendingOf (drop (a + 76) m);
-      names = tableOf 256 4 nameOf (drop (a + 208) m);
-      stream = tailFrom m a;
-    }
-
 pub peer-from : (m : List ℕ) (a : ℕ) → peerOf (drop a m) ≡ peerFrom m a
 unfolding peerOf tailOf
 peer-from m a =
@@ -111,10 +98,6 @@ peer-from m a =
       drop-drop 208 a m,
       drop-drop 1244 a m,
     )
-
--- the number that stands in slot i
-abbrev pub numberAt : List ℕ → ℕ → ℕ
-numberAt m i = wordAt Little m (slotStart i)
 
 -- the number that stands in the bytes of slot i
 pub part-number : (m : List ℕ) (i : ℕ) → wordAt Little (take 3292 (drop (slotStart i) m)) 0 ≡ numberAt m i

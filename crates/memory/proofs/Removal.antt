@@ -9,7 +9,8 @@ use lib.ListN.{length, getD, take, drop, drop-of-length-le}
 use lib.Seq.{take-at, drop-at, drop-cons, take-suc, append-snoc, take-all, length-take-le}
 use borrow.Author.Tests.{eq-eqb, ne-eqb}
 use Rattle.wire.specs.Bytes.{same}
-use Rattle.tables.proofs.Change.{without, without-length, without-next}
+use Rattle.tables.specs.Cut.{without}
+use Rattle.tables.proofs.Change.{without-length, without-next}
 use Rattle.rules.specs.State.{Pending, firstBy, dropFirst}
 use Rattle.rules.specs.Pending.{isCall, ended, endedAll}
 use Rattle.rules.specs.Calls.{released}

@@ -10,6 +10,7 @@ use lib.Seq.{drop-cons}
 use Rattle.stream.specs.Tail.{Tail}
 use Rattle.rules.specs.State.{Slot, free, firstBy}
 use Rattle.memory.specs.Encoding.{stateOf}
+use Rattle.memory.specs.Places.{Found}
 use Rattle.memory.proofs.Reading.{sixteen}
 
 -- ---- of any list
@@ -43,11 +44,6 @@ pub record Looking (t : Slot Tail → Bool) (m : List ℕ) (from i : ℕ) : Type
   pub low : from ≤ i
   pub high : i ≤ 16
   pub left : from + firstBy t (drop from (stateOf m .slots)) ≡ i + firstBy t (drop i (stateOf m .slots))
-
--- what was found: a slot, or 16
-pub record Found (t : Slot Tail → Bool) (m : List ℕ) (from r : ℕ) : Type 0 where
-  pub bound : r ≤ 16
-  pub is : r ≡ from + firstBy t (drop from (stateOf m .slots))
 
 pub looking-begins : (t : Slot Tail → Bool) (m : List ℕ) (from : ℕ) → from ≤ 16 → Looking t m from from
 looking-begins t m from h = record { low = omega arith; high = h; left = refl }

@@ -16,14 +16,11 @@ use Rattle.stream.specs.Tail.{Tail}
 use Rattle.rules.specs.State.{Slot, free, State, putSlot}
 use Rattle.memory.specs.Layout.{slotStart}
 use Rattle.memory.specs.Encoding.{slotBytes, memoryOf, slotOf, stateOf}
+use Rattle.memory.specs.Places.{putAt, changed, mapped}
 use Rattle.memory.proofs.Frame.{slot-length}
 use Rattle.memory.proofs.Slots.{free-back}
 
 -- ---- a slot's bytes put are read back
-
--- m with the bytes y for those of slot i
-abbrev pub putAt : List ℕ → ℕ → List ℕ → List ℕ
-putAt m i y = take (slotStart i) m ++ (y ++ drop (slotStart i + 3292) m)
 
 word-first : (m : List ℕ) → 4 ≤ length m → ((i : ℕ) → getD m i 0 < 256) → wordBytes (wordAt Little m 0) ≡ take 4 m
 word-first m h b =
@@ -62,13 +59,6 @@ put-again m y i h l k =
     λ j. record { last = a j; slots = c j }
 
 -- ---- each slot changed in turn
-
--- a slot's bytes after f
-abbrev pub changed : (Slot Tail → Slot Tail) → List ℕ → List ℕ
-changed f b = slotBytes (f (slotOf b))
-
-abbrev pub mapped : (Slot Tail → Slot Tail) → State Tail → State Tail
-mapped f s = record { last = s .last; slots = map f (s .slots) }
 
 cells-sweep : (f : Slot Tail → Slot Tail) (n : ℕ) (d : List ℕ) → length d ≡ 3292 * n
     → cells slotBytes (map f (map slotOf (parts 3292 n d))) ≡ sweep (changed f) 3292 n d

@@ -6,7 +6,7 @@ use mathlib.Core.Path.{_≡_}
 use Prim.Native.Nat.{ℕ}
 use lib.Dec.{eqb}
 use lib.ListN.{length}
-use Rattle.image.specs.Good.{goodImage}
+use Rattle.image.specs.Good.{imageAnswer}
 use Rattle.stream.specs.Tail.{Tail, tails}
 use Rattle.rules.specs.Calls.{Step, empty, connect, own, release, piece, disconnect, noConnect, noPiece, noGone}
 use Rattle.rules.specs.declared.Connected.{Connected}
@@ -32,9 +32,9 @@ kept m r = record { memory = m; result = r }
 abbrev pub onMemory : {R : Type 0} → (ℕ → R) → List ℕ → Step Tail R → Left R
 onMemory refuse m step = cond (good m) (stored step) (kept m (refuse 51))
 
--- the same under a good image; else 50
+-- the same under an image; where the image has an answer of its own, that one
 abbrev pub onImage : {R : Type 0} → (ℕ → R) → List ℕ → List ℕ → Step Tail R → Left R
-onImage refuse image m step = cond (goodImage image) (onMemory refuse m step) (kept m (refuse 50))
+onImage refuse image m step = cond (eqb (imageAnswer image) 0) (onMemory refuse m step) (kept m (refuse (imageAnswer image)))
 
 -- "Starting writes an empty guard over any bytes of that length; another length is 51."
 unfoldable pub startOn : List ℕ → Left ℕ

@@ -15,11 +15,12 @@ use Rattle.tables.proofs.Table.{table-take}
 use Rattle.rules.specs.State.{Pending, peer}
 use Rattle.rules.specs.Pending.{endedAll, bereft}
 use Rattle.memory.specs.Encoding.{pendingBytes, pendingOf, slotBytes, peerOf, slotOf, memoryOf, stateOf}
-use Rattle.memory.proofs.Reading.{sixteen, slot-at, numberAt, part-peer, part-number}
+use Rattle.memory.specs.Places.{numberAt, changed}
+use Rattle.memory.proofs.Reading.{sixteen, slot-at, part-peer, part-number}
 use Rattle.memory.proofs.Fields.{table-part, pending-in}
 use Rattle.memory.proofs.Frame.{slot-length, memory-at}
 use Rattle.memory.proofs.Bereft.{bereft-free, bereft-peer, pending-of}
-use Rattle.memory.proofs.Sweep.{changed, Sweeping, sweeping-begins, sweeping-again, sweeping-ends}
+use Rattle.memory.proofs.Sweep.{Sweeping, sweeping-begins, sweeping-again, sweeping-ends}
 use Rattle.peers.specs.Steps.{PlainSlot, Encoded, endedAt, endedFor}
 use Rattle.peers.proofs.Found.{Octets, below}
 

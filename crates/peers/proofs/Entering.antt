@@ -17,7 +17,7 @@ use Rattle.memory.specs.Encoding.{slotBytes, stateOf}
 use Rattle.memory.specs.Sound.{Held}
 use Rattle.memory.specs.Calls.{stored, Did}
 use Rattle.memory.proofs.Reading.{sixteen}
-use Rattle.memory.proofs.Search.{Found}
+use Rattle.memory.specs.Places.{Found}
 use Rattle.memory.proofs.Find.{found-first}
 use Rattle.memory.proofs.Frame.{free-bytes}
 use Rattle.memory.proofs.Newcomer.{newcomer-spread}

@@ -13,7 +13,7 @@ use Rattle.memory.specs.Encoding.{slotBytes, stateOf}
 use Rattle.memory.specs.Sound.{Held}
 use Rattle.memory.specs.Calls.{stored, Did}
 use Rattle.memory.proofs.Reading.{sixteen}
-use Rattle.memory.proofs.Search.{Found}
+use Rattle.memory.specs.Places.{Found}
 use Rattle.memory.proofs.Find.{found-first, found-some, found-is, found-free}
 use Rattle.memory.proofs.Good.{good-is}
 use Rattle.memory.proofs.Held.{held-free, Counted, held-counted}

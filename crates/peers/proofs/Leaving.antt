@@ -17,12 +17,12 @@ use Rattle.rules.specs.declared.Gone.{Gone}
 use Rattle.memory.specs.Encoding.{slotBytes, memoryOf, stateOf}
 use Rattle.memory.specs.Sound.{Held}
 use Rattle.memory.specs.Calls.{stored, Did}
-use Rattle.memory.proofs.Search.{Found}
+use Rattle.memory.specs.Places.{Found, putAt}
 use Rattle.memory.proofs.Find.{found-number}
 use Rattle.memory.proofs.Frame.{free-bytes, slot-length}
 use Rattle.memory.proofs.Slots.{free-back}
 use Rattle.memory.proofs.Good.{framed}
-use Rattle.memory.proofs.Sweep.{putAt, put-again, put-length, swept-freed}
+use Rattle.memory.proofs.Sweep.{put-again, put-length, swept-freed}
 use Rattle.peers.specs.Steps.{Encoded, endedFor, gone}
 use Rattle.peers.proofs.Found.{Octets, below, did-stay, peer-none, found-below, peer-place, peer-some}
 

@@ -25,7 +25,7 @@ use Rattle.memory.specs.Encoding.{stateOf}
 use Rattle.memory.specs.Sound.{Held}
 use Rattle.memory.specs.Calls.{stored, Did}
 use Rattle.memory.proofs.Reading.{sixteen}
-use Rattle.memory.proofs.Search.{Found}
+use Rattle.memory.specs.Places.{Found}
 use Rattle.memory.proofs.Find.{found-first}
 use Rattle.memory.proofs.Frame.{cell-length}
 use Rattle.memory.proofs.Again.{ownable-short}

@@ -12,8 +12,7 @@ use borrow.Author.Tests.{not-true, not-false, lt-ltb, le-ltb}
 use Rattle.wire.specs.Bytes.{same}
 use Rattle.wire.specs.Words.{wordAt, wordBytes}
 use Rattle.wire.specs.declared.Order.the-variants.{Little}
-use Rattle.tables.specs.Cut.{cutOut, Cell}
-use Rattle.tables.proofs.Change.{without}
+use Rattle.tables.specs.Cut.{cutOut, Cell, without}
 use Rattle.tables.proofs.Written.{part-cell, remove-written}
 use Rattle.policy.specs.Names.{cellOf, owns}
 use Rattle.rules.specs.State.{isPeer, firstBy}
@@ -22,7 +21,7 @@ use Rattle.rules.specs.Calls.{release, released}
 use Rattle.memory.specs.Encoding.{stateOf}
 use Rattle.memory.specs.Sound.{Held}
 use Rattle.memory.specs.Calls.{stored, Did}
-use Rattle.memory.proofs.Search.{Found}
+use Rattle.memory.specs.Places.{Found}
 use Rattle.memory.proofs.Frame.{cell-length}
 use Rattle.memory.proofs.Removal.{released-without}
 use Rattle.memory.proofs.Puts.{names-stand, names-put}

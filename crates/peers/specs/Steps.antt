@@ -14,7 +14,7 @@ use Rattle.rules.specs.declared.Connected.{Connected}
 use Rattle.memory.specs.Layout.{slotStart, memoryLength, slotLength}
 use Rattle.memory.specs.Encoding.{slotBytes, slotOf, memoryOf, stateOf}
 use Rattle.memory.specs.Sound.{Held}
-use Rattle.memory.proofs.Sweep.{putAt, changed, mapped}
+use Rattle.memory.specs.Places.{putAt, changed, mapped}
 use Rattle.slots.specs.Slots.{peerAt}
 
 -- ---- connect

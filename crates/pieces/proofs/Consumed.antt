@@ -27,7 +27,8 @@ use Rattle.memory.specs.Encoding.{headBytes, streamBytes, memoryOf, stateOf}
 use Rattle.memory.specs.Sound.{Sound}
 use Rattle.memory.proofs.Frame.{memory-length}
 use Rattle.memory.proofs.Fields.{stream-length}
-use Rattle.memory.proofs.Reading.{numberAt, slot-free, slot-peer, sixteen}
+use Rattle.memory.specs.Places.{numberAt}
+use Rattle.memory.proofs.Reading.{slot-free, slot-peer, sixteen}
 use Rattle.memory.proofs.Sound.{state-again, good-memory}
 use Rattle.memory.proofs.Good.{held-of}
 use Rattle.sound.proofs.Put.{put-there}

@@ -26,7 +26,7 @@ use Rattle.memory.specs.Encoding.{memoryOf, stateOf}
 use Rattle.memory.specs.Sound.{Held}
 use Rattle.memory.specs.Calls.{stored, Did}
 use Rattle.memory.proofs.Reading.{sixteen, slot-peer}
-use Rattle.memory.proofs.Search.{Found}
+use Rattle.memory.specs.Places.{Found}
 use Rattle.memory.proofs.Find.{found-first, found-some}
 use Rattle.memory.proofs.Good.{good-is}
 use Rattle.slots.specs.Slots.{peerAt, Seated}

@@ -20,7 +20,8 @@ use Rattle.rules.specs.Calls.{Step, stays, noConnect, newcomer, seated, 
 use Rattle.rules.specs.Calls.{releaseAt, release, noPiece, offered, offeredTo, pieceAt, piece, disconnectAt, disconnect}
 use Rattle.rules.specs.declared.Connected.{Connected}
 use Rattle.rules.specs.declared.Taken.{Taken}
-use Rattle.rules.proofs.View.{chosen, map-swap, set-over, seenPeer, seenSlot, seen, seenStep, bereft-seen, first-free, first-peer, first-owner}
+use Rattle.rules.specs.View.{seenPeer, seenSlot, seen, seenStep}
+use Rattle.rules.proofs.View.{chosen, map-swap, set-over, bereft-seen, first-free, first-peer, first-owner}
 use Rattle.rules.proofs.View.{long-seen, slot-seen, put-seen}
 use Rattle.rules.proofs.SeenJudge.{judged-seen}
 

@@ -16,7 +16,8 @@ use Rattle.rules.specs.Judge.{Judged, refused, passed, maySend, mayRecei
 use Rattle.rules.specs.Judge.{replyTo, reply, toSlot, directed, isReply, judged}
 use Rattle.rules.specs.declared.Receiver.{Receiver}
 use Rattle.rules.specs.declared.Receiver.the-variants as to
-use Rattle.rules.proofs.View.{chosen, map-over, seenPeer, seenSlot, seen, seenJudged, slot-seen, resolve-seen, put-seen}
+use Rattle.rules.specs.View.{seenPeer, seenSlot, seen, seenJudged}
+use Rattle.rules.proofs.View.{chosen, map-over, slot-seen, resolve-seen, put-seen}
 
 module _ {A B : Type 0} (f : A → B) (image : List ℕ) (s : State A) (sender : Peer A) (x : Header) where
   abbrev z : State B

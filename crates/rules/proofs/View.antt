@@ -10,8 +10,8 @@ use Rattle.policy.specs.Names.{busName}
 use Rattle.rules.specs.State.{Slot, free, peer, Peer, State, isFree, isPeer, firstBy, putSlot}
 use Rattle.rules.specs.Addresses.{Address, answersTo, found, resolve}
 use Rattle.rules.specs.Pending.{bereft}
-use Rattle.rules.specs.Judge.{Judged}
-use Rattle.rules.specs.Calls.{Step, isOwner}
+use Rattle.rules.specs.Calls.{isOwner}
+use Rattle.rules.specs.View.{seenSlot, seen}
 
 -- ---- choices and maps
 
@@ -37,74 +37,56 @@ unfolding firstBy
 first-over f t u e [] = refl
 first-over f t u e (x ∷ l) = ap₂ (λ (b : Bool) (k : ℕ). cond b 0 (suc k)) (e x) (first-over f t u e l)
 
--- ---- what is seen of a state
-
 module _ {A B : Type 0} (f : A → B) where
-  abbrev pub seenPeer : Peer A → Peer B
-  seenPeer p = record { number = p .number; uid = p .uid; gids = p .gids; pending = p .pending; names = p .names; stream = f (p .stream) }
-
-  abbrev pub seenSlot : Slot A → Slot B
-  seenSlot free = free
-  seenSlot (peer p) = peer (seenPeer p)
-
-  abbrev pub seen : State A → State B
-  seen s = record { last = s .last; slots = map seenSlot (s .slots) }
-
-  abbrev pub seenJudged : Judged A → Judged B
-  seenJudged j = record { judgement = j .judgement; state = seen (j .state) }
-
-  abbrev pub seenStep : {R : Type 0} → Step A R → Step B R
-  seenStep s = record { state = seen (s .state); result = s .result }
-
   -- ---- tests of a slot
 
-  free-seen : (x : Slot A) → isFree (seenSlot x) ≡ isFree x
+  free-seen : (x : Slot A) → isFree (seenSlot f x) ≡ isFree x
   free-seen free = refl
   free-seen (peer p) = refl
 
-  peer-seen : (n : ℕ) (x : Slot A) → isPeer n (seenSlot x) ≡ isPeer n x
+  peer-seen : (n : ℕ) (x : Slot A) → isPeer n (seenSlot f x) ≡ isPeer n x
   peer-seen n free = refl
   peer-seen n (peer p) = refl
 
-  owner-seen : (name : List ℕ) (x : Slot A) → isOwner name (seenSlot x) ≡ isOwner name x
+  owner-seen : (name : List ℕ) (x : Slot A) → isOwner name (seenSlot f x) ≡ isOwner name x
   owner-seen name free = refl
   owner-seen name (peer p) = refl
 
-  answers-seen : (text : List ℕ) (x : Slot A) → answersTo text (seenSlot x) ≡ answersTo text x
+  answers-seen : (text : List ℕ) (x : Slot A) → answersTo text (seenSlot f x) ≡ answersTo text x
   unfolding answersTo
   answers-seen text free = refl
   answers-seen text (peer p) = refl
 
-  pub bereft-seen : (n : ℕ) (x : Slot A) → bereft n (seenSlot x) ≡ seenSlot (bereft n x)
+  pub bereft-seen : (n : ℕ) (x : Slot A) → bereft n (seenSlot f x) ≡ seenSlot f (bereft n x)
   bereft-seen n free = refl
   bereft-seen n (peer p) = refl
 
   -- ---- what is found
 
   module _ (s : State A) where
-    pub first-free : firstBy isFree (seen s .slots) ≡ firstBy isFree (s .slots)
-    first-free = first-over seenSlot isFree isFree free-seen (s .slots)
+    pub first-free : firstBy isFree (seen f s .slots) ≡ firstBy isFree (s .slots)
+    first-free = first-over (seenSlot f) isFree isFree free-seen (s .slots)
 
-    pub first-peer : (n : ℕ) → firstBy (isPeer n) (seen s .slots) ≡ firstBy (isPeer n) (s .slots)
-    first-peer n = first-over seenSlot (isPeer n) (isPeer n) (peer-seen n) (s .slots)
+    pub first-peer : (n : ℕ) → firstBy (isPeer n) (seen f s .slots) ≡ firstBy (isPeer n) (s .slots)
+    first-peer n = first-over (seenSlot f) (isPeer n) (isPeer n) (peer-seen n) (s .slots)
 
-    pub first-owner : (name : List ℕ) → firstBy (isOwner name) (seen s .slots) ≡ firstBy (isOwner name) (s .slots)
-    first-owner name = first-over seenSlot (isOwner name) (isOwner name) (owner-seen name) (s .slots)
+    pub first-owner : (name : List ℕ) → firstBy (isOwner name) (seen f s .slots) ≡ firstBy (isOwner name) (s .slots)
+    first-owner name = first-over (seenSlot f) (isOwner name) (isOwner name) (owner-seen name) (s .slots)
 
-    pub long-seen : length (seen s .slots) ≡ length (s .slots)
-    long-seen = length-map (s .slots) seenSlot
+    pub long-seen : length (seen f s .slots) ≡ length (s .slots)
+    long-seen = length-map (s .slots) (seenSlot f)
 
-    pub slot-seen : (i : ℕ) → getD (seen s .slots) i free ≡ seenSlot (getD (s .slots) i free)
-    slot-seen i = List·getD-map seenSlot (s .slots) i free
+    pub slot-seen : (i : ℕ) → getD (seen f s .slots) i free ≡ seenSlot f (getD (s .slots) i free)
+    slot-seen i = List·getD-map (seenSlot f) (s .slots) i free
 
-    pub resolve-seen : (d : Option (List ℕ)) → resolve (seen s .slots) d ≡ resolve (s .slots) d
+    pub resolve-seen : (d : Option (List ℕ)) → resolve (seen f s .slots) d ≡ resolve (s .slots) d
     unfolding resolve
     resolve-seen none = refl
     resolve-seen (some text) =
         ap₂ (λ (n i : ℕ). cond (same text busName) Address.bus (found n i)) long-seen
-        (first-over seenSlot (answersTo text) (answersTo text) (answers-seen text) (s .slots))
+        (first-over (seenSlot f) (answersTo text) (answersTo text) (answers-seen text) (s .slots))
 
     -- ---- what is put
 
-    pub put-seen : (i : ℕ) (x : Slot A) → putSlot (seen s) i (seenSlot x) ≡ seen (putSlot s i x)
-    put-seen i x = ap (λ (l : List (Slot B)). record { last = s .last; slots = l }) (set-over seenSlot (s .slots) i x)
+    pub put-seen : (i : ℕ) (x : Slot A) → putSlot (seen f s) i (seenSlot f x) ≡ seen f (putSlot s i x)
+    put-seen i x = ap (λ (l : List (Slot B)). record { last = s .last; slots = l }) (set-over (seenSlot f) (s .slots) i x)

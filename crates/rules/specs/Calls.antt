@@ -8,7 +8,7 @@ use lib.ListN.{length, getD, set, replicate}
 use Rattle.wire.specs.Bytes.{same}
 use Rattle.policy.specs.Names.{owns}
 use Rattle.policy.specs.Decisions.{mayConnect, mayOwn}
-use Rattle.stream.specs.Stream.{Verdict, more, broken, whole, Streams, Offer, offer, settled}
+use Rattle.stream.specs.Stream.{Verdict, more, broken, whole, verdictAnswer, Streams, Offer, offer, settled}
 use Rattle.rules.specs.State.{Slot, free, peer, Peer, State, isFree, isPeer, firstBy, dropFirst, putSlot, withNames, withStream}
 use Rattle.rules.specs.Addresses.{ownable}
 use Rattle.rules.specs.Pending.{bereft}
@@ -103,11 +103,11 @@ release s n name = let i = firstBy (isPeer n) (s .slots) in releaseAt s i (slotA
 -- ---- piece: 30, 40
 
 abbrev pub noPiece : ℕ → Taken
-noPiece a = record { judgement = refusal a; taken = 0 }
+noPiece a = record { judgement = refusal (verdictAnswer (broken a)); taken = 0 }
 
 -- "Answers 1 to 9 take up to the byte that decided"; a whole message is judged over the state in which its bytes are taken
 abbrev pub offered : {S : Type 0} → List ℕ → State S → ℕ → Peer S → ℕ → Verdict → Step S Taken
-offered image s i p taken more = stays s (record { judgement = refusal 10; taken = taken })
+offered image s i p taken more = stays s (record { judgement = refusal (verdictAnswer more); taken = taken })
 offered image s i p taken (broken a) = stays s (record { judgement = refusal a; taken = taken })
 offered image s i p taken (whole h x) =
     let j = judged image s i p h x in

@@ -3,3 +3,5 @@ pub mod Addresses
 pub mod Pending
 pub mod Judge
 pub mod Calls
+pub mod View
+pub mod Places

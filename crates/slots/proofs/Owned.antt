@@ -14,7 +14,8 @@ use Rattle.policy.specs.Names.{owns}
 use Rattle.rules.specs.State.{firstBy}
 use Rattle.rules.specs.Calls.{slotAt, isOwner}
 use Rattle.memory.specs.Encoding.{stateOf}
-use Rattle.memory.proofs.Reading.{numberAt, slot-free, slot-peer}
+use Rattle.memory.specs.Places.{numberAt}
+use Rattle.memory.proofs.Reading.{slot-free, slot-peer}
 use Rattle.memory.proofs.Search.{looking-begins as finding-begins, tested-hit, tested-miss, tested-ends}
 use Rattle.slots.specs.Slots.{peerAt, nameAt, namePlace}
 use Rattle.slots.proofs.Cells.{names-next, name-byte, before, owns-first}

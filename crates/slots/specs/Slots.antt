@@ -9,7 +9,7 @@ use Rattle.rules.specs.State.{Peer, firstBy}
 use Rattle.rules.specs.Pending.{isCall}
 use Rattle.memory.specs.Layout.{slotStart, memoryLength, firstName}
 use Rattle.memory.specs.Sound.{Held}
-use Rattle.memory.proofs.Reading.{numberAt, peerFrom}
+use Rattle.memory.specs.Places.{numberAt, peerFrom}
 use Rattle.slots.specs.declared.Gids.{Gids}
 
 -- the peer that the bytes of slot i say

@@ -20,8 +20,7 @@ ghost use Rattle.wire.specs.Bytes.{same};
 ghost use Rattle.policy.specs.Names.{owns};
 ghost use Rattle.memory.specs.Layout.{slotStart, memoryLength, slotLength, firstName};
 ghost use Rattle.memory.specs.Encoding.{stateOf};
-ghost use Rattle.memory.proofs.Reading.{numberAt};
-ghost use Rattle.memory.proofs.Search.{Found};
+ghost use Rattle.memory.specs.Places.{numberAt, Found};
 ghost use Rattle.slots.specs.Slots.{peerAt, nameAt, namePlace, At, GidsOf, CallAt};
 
 // A peer's gids: the first `count` of the list.

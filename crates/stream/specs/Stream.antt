@@ -11,6 +11,12 @@ pub data Verdict : Type 0 where
   broken : ℕ → Verdict
   whole : List ℕ → Header → Verdict
 
+-- the answer number of each case: a whole message is judged next, and 0 says no more than that (rule 9.1)
+abbrev pub verdictAnswer : Verdict → ℕ
+verdictAnswer more = 10
+verdictAnswer (broken a) = a
+verdictAnswer (whole h x) = 0
+
 pub record Streams (S : Type 0) : Type 0 where
   -- no byte taken
   pub fresh : S

@@ -10,7 +10,7 @@ use Rattle.wire.specs.Bytes.{pad}
 use Rattle.wire.specs.Words.{wordBytes}
 use Rattle.tables.specs.Tables.{cells, tableBytes}
 use Rattle.wire.proofs.Parts.{drop-past, drop-zeros, cut-two}
-use Rattle.tables.specs.Cut.{cutOut}
+use Rattle.tables.specs.Cut.{cutOut, without}
 use Rattle.tables.proofs.Cells.{cells-length, cells-append, cells-snoc, cells-take, cells-drop}
 use Rattle.tables.proofs.Table.{table-body, table-spread}
 
@@ -51,9 +51,6 @@ removed-of w n j t e l h =
     ap (removed w n j) q ∙ removed-parts w n j a b c e la lb (omega (arith, length-drop (w * j + w) t))
 
 -- ---- a list without its thing i
-
-abbrev pub without : {A : Type 0} → ℕ → List A → List A
-without i xs = take i xs ++ drop (i + 1) xs
 
 pub without-length : {A : Type 0} (i : ℕ) (xs : List A) → i < length xs → length (without i xs) + 1 ≡ length xs
 without-length i xs h =

@@ -16,7 +16,7 @@ use Rattle.wire.specs.Words.{wordAt, wordBytes}
 use Rattle.wire.specs.declared.Order.the-variants.{Little}
 use Rattle.wire.proofs.Texts.{same-refl, ne-same}
 use Rattle.wire.proofs.Words.{word-again}
-use Rattle.tables.specs.Tables.{cells, parts, tableBytes, tableOf}
+use Rattle.tables.specs.Tables.{cells, parts, tableBytes, tableOf, plainCells}
 use Rattle.wire.proofs.Parts.{pad-past, take-zeros}
 use Rattle.tables.proofs.Words.{word-cut, bytes-take, bytes-drop}
 use Rattle.tables.proofs.Cells.{parts-length}
@@ -77,11 +77,6 @@ unfolding pad
 same-pad k n d e = rw (← e) (padded k (length d) d (omega arith))
 
 -- ---- plain cells
-
--- the first n cells are the bytes of what is read off them, and what follows is zero
-unfoldable pub plainCells : {A : Type 0} → (A → List ℕ) → (List ℕ → A) → ℕ → ℕ → List ℕ → Bool
-plainCells enc dec w zero d = allZero d
-plainCells enc dec w (suc n) d = same (enc (dec (take w d))) (take w d) && plainCells enc dec w n (drop w d)
 
 module _ {A : Type 0} (w : ℕ) (enc : A → List ℕ) (sized : (x : A) → length (enc x) ≡ w) (dec : List ℕ → A) where
   pub cells-same : (n k : ℕ) (d : List ℕ) → n ≤ k → length d ≡ w * k

@@ -10,11 +10,11 @@ use Rattle.wire.specs.Bytes.{pad}
 use Rattle.wire.specs.Words.{wordBytes}
 use Rattle.wire.proofs.Words.{word-length, cut-at, put-at}
 use Rattle.tables.specs.Tables.{cells, tableBytes}
-use Rattle.tables.specs.Cut.{Cell}
+use Rattle.tables.specs.Cut.{Cell, without}
 use Rattle.wire.proofs.Parts.{drop-past, part-past, cut-two}
 use Rattle.tables.proofs.Cells.{cells-length}
 use Rattle.tables.proofs.Table.{table-length, table-body, table-spread}
-use Rattle.tables.proofs.Change.{removed, without, table-append, table-remove}
+use Rattle.tables.proofs.Change.{removed, table-append, table-remove}
 
 -- m with the bytes y for the c at a
 abbrev pub put : List ℕ → ℕ → ℕ → List ℕ → List ℕ

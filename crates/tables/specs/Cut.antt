@@ -11,3 +11,7 @@ cutOut w e q t = take q t ++ (drop (q + w) (take e t) ++ (replicate w 0 ++ drop 
 pub record Cell (s : List ℕ) (at w end : ℕ) : Type 0 where
   pub inside : at + w ≤ end
   pub room : end ≤ length s
+
+-- a list without its thing i
+abbrev pub without : {A : Type 0} → ℕ → List A → List A
+without i xs = take i xs ++ drop (i + 1) xs

@@ -1,9 +1,10 @@
 -- Things of one width in bytes, one after the other; and a table: a count, then so many things, then zeros up to the room for k of them. A table is as
 -- long whatever it holds, so that putting one changes nothing else. Assumes nothing: these are definitions.
+use mathlib.Core.Bool.{Bool, _&&_}
 use mathlib.Core.List.{List, [], _∷_, _++_, map}
 use Prim.Native.Nat.{ℕ, zero, suc, _*_, min}
 use lib.ListN.{length, take, drop}
-use Rattle.wire.specs.Bytes.{pad}
+use Rattle.wire.specs.Bytes.{allZero, same, pad}
 use Rattle.wire.specs.Words.{wordAt, wordBytes}
 use Rattle.wire.specs.declared.Order.the-variants.{Little}
 
@@ -23,3 +24,8 @@ tableBytes w k enc xs = wordBytes (length xs) ++ pad (w * k) (cells enc xs)
 -- what the bytes of a table say
 unfoldable pub tableOf : {A : Type 0} → ℕ → ℕ → (List ℕ → A) → List ℕ → List A
 tableOf w k dec b = map dec (parts w (min (wordAt Little b 0) k) (drop 4 b))
+
+-- the first n parts are each the bytes of what is read off them, and what follows is zero
+unfoldable pub plainCells : {A : Type 0} → (A → List ℕ) → (List ℕ → A) → ℕ → ℕ → List ℕ → Bool
+plainCells enc dec w zero d = allZero d
+plainCells enc dec w (suc n) d = same (enc (dec (take w d))) (take w d) && plainCells enc dec w n (drop w d)

@@ -1,0 +1,54 @@
+-- What stands in the slots of a memory, by its place; a slot's bytes put; the first slot that passes a test (rules 10.1 and 10.2).
+use mathlib.Core.Bool.{Bool}
+use mathlib.Core.List.{List, _++_, map}
+use mathlib.Core.Path.{_≡_}
+use Prim.Native.Nat.{ℕ, _+_, _≤_, min}
+use lib.ListN.{take, drop}
+use Rattle.wire.specs.Words.{wordAt}
+use Rattle.wire.specs.declared.Order.the-variants.{Little}
+use Rattle.tables.specs.Tables.{tableOf}
+use Rattle.policy.specs.Names.{nameOf}
+use Rattle.stream.specs.Tail.{Tail}
+use Rattle.rules.specs.State.{Peer, Slot, State, firstBy}
+use Rattle.memory.specs.Layout.{slotStart}
+use Rattle.memory.specs.Encoding.{wordOf, pendingOf, slotBytes, slotOf, stateOf}
+
+-- ---- the peer whose slot begins at a
+
+abbrev pub tailFrom : List ℕ → ℕ → Tail
+tailFrom m a = record { taken = wordAt Little m (a + 1236); head = take (min (wordAt Little m (a + 1240)) 2048) (drop (a + 1244) m) }
+
+abbrev pub peerFrom : List ℕ → ℕ → Peer Tail
+peerFrom m a =
+    record {
+      number = wordAt Little m a;
+      uid = wordAt Little m (a + 4);
+      gids = tableOf 4 16 wordOf (drop (a + 8) m);
+      pending = tableOf 8 16 pendingOf (drop (a + 76) m);
+      names = tableOf 256 4 nameOf (drop (a + 208) m);
+      stream = tailFrom m a;
+    }
+
+-- the number that stands in slot i
+abbrev pub numberAt : List ℕ → ℕ → ℕ
+numberAt m i = wordAt Little m (slotStart i)
+
+-- ---- the slots in turn
+
+-- what was found: a slot, or 16
+pub record Found (t : Slot Tail → Bool) (m : List ℕ) (from r : ℕ) : Type 0 where
+  pub bound : r ≤ 16
+  pub is : r ≡ from + firstBy t (drop from (stateOf m .slots))
+
+-- ---- a slot's bytes put
+
+-- m with the bytes y for those of slot i
+abbrev pub putAt : List ℕ → ℕ → List ℕ → List ℕ
+putAt m i y = take (slotStart i) m ++ (y ++ drop (slotStart i + 3292) m)
+
+-- a slot's bytes after f
+abbrev pub changed : (Slot Tail → Slot Tail) → List ℕ → List ℕ
+changed f b = slotBytes (f (slotOf b))
+
+abbrev pub mapped : (Slot Tail → Slot Tail) → State Tail → State Tail
+mapped f s = record { last = s .last; slots = map f (s .slots) }
