@@ -1,3 +1,4 @@
+pub mod Decides
 pub mod Precedence
 pub mod Cells
 mod Subjects
