@@ -1,4 +1,4 @@
--- The worked examples hold of the policy image's rules: one statement, which antt computes. Assumes nothing.
+-- The worked examples hold of the policy image's rules: one statement, which antt computes.
 use mathlib.Core.Path.{_≡_, refl}
 use mathlib.Core.Bool.{true}
 use lib.Dec.{eqb}

@@ -1,4 +1,4 @@
--- Worked examples of policy images, as a table. Assumes nothing: these are definitions.
+-- Worked examples of policy images, as a table.
 use mathlib.Core.List.{List, [], _∷_, _++_}
 use Prim.Native.Nat.{ℕ, _+_, _/_}
 use lib.ListN.{length, take, replicate}
@@ -33,7 +33,7 @@ head a b c d n = a ∷ b ∷ c ∷ d ∷ wordBytes n
 abbrev pub cites : ℕ → ℕ → List ℕ
 cites offset len = wordBytes offset ++ wordBytes len
 
--- an image, and 01's number for it
+-- an image, and its answer
 abbrev pub Line : Type 0
 Line = List ℕ × ℕ
 

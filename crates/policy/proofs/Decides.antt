@@ -9,7 +9,7 @@ use Prim.Native.Nat.{ℕ, zero, suc, _≤_, _<_}
 use native.Mathlib.Nat.{eq-or-lt-of-le}
 use native.Mathlib.Omega.{arith}
 use lib.Dec.{eqb}
-use borrow.Author.Tests.{leb-true, leb-false, eqb-true, eqb-false}
+use borrow.Author.Tests.{leb-true, leb-false, ltb-true, ltb-false, eqb-true, eqb-false}
 use Rattle.image.specs.Image.{connectCount, ownCount, transactionCount}
 use Rattle.policy.specs.Precedence.{givesWay, takeOver, heard, deciding, Beats, Decides, NoneMatches}
 use Rattle.policy.specs.Matching.{Message}
@@ -20,6 +20,15 @@ use Rattle.policy.specs.declared.Uid.{Uid}
 -- what holds of each number below n, and of n, holds of each below n + 1
 one-more : (P : ℕ → Type 0) {n : ℕ} → ((j : ℕ) → j < n → P j) → P n → (j : ℕ) → j < suc n → P j
 one-more P {n} h p j l = ⊎-elim (λ (e : j ≡ n). subst P (sym e) p) (λ (k : j < n). h j k) (eq-or-lt-of-le (omega arith))
+
+-- ---- two rules that match
+
+-- the earlier gives way exactly where its context is not the higher
+gives : (earlier later : ℕ) → givesWay earlier later ≡ true → earlier ≤ later
+gives earlier later e = omega (arith, leb-true, ltb-true)
+
+keeps : (earlier later : ℕ) → givesWay earlier later ≡ false → later < earlier
+keeps earlier later e = omega (arith, leb-false, ltb-false)
 
 -- ---- any section
 
@@ -72,8 +81,8 @@ module _ (contextOf : ℕ → ℕ) (matches : ℕ → Bool) where
           go false q = later n j l (omega (arith, at-most j i (k .beats j l m (eqb-false j i q))))
 
       go : (b : Bool) → givesWay (contextOf i) (contextOf n) ≡ b → Says (suc n) (cond b (some n) (some i))
-      go true q = takes n e (over (leb-true (contextOf i) (contextOf n) q))
-      go false q = stays n i (λ m. inl (leb-false (contextOf i) (contextOf n) q)) k
+      go true q = takes n e (over (gives (contextOf i) (contextOf n) q))
+      go false q = stays n i (λ m. inl (keeps (contextOf i) (contextOf n) q)) k
 
   says : (n : ℕ) → Says n (deciding contextOf matches n)
   unfolding deciding

@@ -1,3 +1,4 @@
+pub mod Table
 pub mod Decides
 pub mod Precedence
 pub mod Cells
@@ -6,4 +7,3 @@ mod Fits
 mod Section
 mod Decisions
 mod Transactions
-pub mod Table

@@ -1,4 +1,4 @@
--- The worked examples hold of the decisions: one statement, which antt computes. Assumes nothing.
+-- The worked examples hold of the decisions: one statement, which antt computes.
 use mathlib.Core.Path.{_≡_, refl}
 use mathlib.Core.Bool.{Bool, true, Bool·beq}
 use Rattle.wire.specs.Lists.{agrees}

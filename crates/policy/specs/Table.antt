@@ -1,4 +1,4 @@
--- Worked examples of the decisions, as a table: T8, T9 and T12 of 01's bench table, and each matcher. Assumes nothing: these are definitions.
+-- Worked examples of the decisions, as a table: T8, T9 and T12 (rule 13.1), and each matcher.
 use mathlib.Core.Bool.{Bool, true, false}
 use mathlib.Core.List.{List, [], _∷_, _++_}
 use mathlib.Core.Option.{none, some}
@@ -16,7 +16,7 @@ strings = bytes "org.fooorg.a.xorg.b.y/pi.fM"
 abbrev pub any : List ℕ
 any = cites 0 0
 
--- "org.foo", "org.a.x", "org.b.y"; "/p" stands at 21, "i.f" at 23 and "M" at 26
+-- org.foo, org.a.x and org.b.y; /p stands at 21, i.f at 23 and M at 26
 abbrev pub foo : List ℕ
 foo = cites 0 7
 
@@ -47,6 +47,10 @@ to context verdict subject name = rule context verdict send 0 subject name any a
 abbrev pub of : ℕ → List ℕ → List ℕ → List ℕ → List ℕ
 of type path interface member = rule 0 1 send type 0 any path interface member
 
+-- rules of the three sections, over those strings
+abbrev pub imageWith : List ℕ → List ℕ → List ℕ → List ℕ
+imageWith connects owns transactions = imageOf connects owns transactions strings
+
 -- ---- questions, asked for uid 7 with the gids 5 and 6
 
 abbrev pub call : Message
@@ -59,13 +63,13 @@ abbrev pub gids : List ℕ
 gids = 5 ∷ 6 ∷ []
 
 abbrev pub connects : List ℕ → Bool
-connects rules = mayConnect (imageOf rules [] [] strings) (record { 0 = 7 }) gids
+connects rules = mayConnect (imageWith rules [] []) (record { 0 = 7 }) gids
 
 abbrev pub owns : List ℕ → List ℕ → Bool
-owns rules name = mayOwn (imageOf [] rules [] strings) (record { 0 = 7 }) gids name
+owns rules name = mayOwn (imageWith [] rules []) (record { 0 = 7 }) gids name
 
 abbrev pub passes : List ℕ → ℕ → List (List ℕ) → Message → Bool
-passes rules direction names m = mayTransact (imageOf [] [] rules strings) direction (record { 0 = 7 }) gids names m
+passes rules direction names m = mayTransact (imageWith [] [] rules) direction (record { 0 = 7 }) gids names m
 
 -- a decision, and what it is to be
 abbrev pub Line : Type 0

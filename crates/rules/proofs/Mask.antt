@@ -1,5 +1,4 @@
 -- The mask of a broadcast's receivers: the language's count of ones is the count of the slots reached, and the mask has a bit for each slot.
--- Assumes nothing.
 use mathlib.Core.Path.{_≡_, refl, ap, ap₂, _∙_}
 use mathlib.Core.Bool.{Bool, true, false}
 use mathlib.Core.List.{List, [], _∷_}
