@@ -75,6 +75,7 @@ passes rules direction names m = mayTransact (imageWith [] [] rules) direction (
 abbrev pub Line : Type 0
 Line = Bool × Bool
 
+-- T8, T9 and T12; deny where no rule matches; of one context the later rule
 abbrev pub table : List Line
 table =
     -- T8: mandatory deny before user allow
@@ -88,26 +89,32 @@ table =
     ∷ (passes (to 0 1 0 ax ++ to 0 0 0 by) send (bytes "org.a.x" ∷ bytes "org.b.y" ∷ []) call, false)
     ∷ (passes (to 0 0 0 by ++ to 0 1 0 ax) send (bytes "org.a.x" ∷ bytes "org.b.y" ∷ []) call, true)
     ∷ (passes (to 0 1 0 ax ++ to 0 0 0 by) send (bytes "org.a.x" ∷ []) call, true)
-    -- none means deny; of one context the later rule
     ∷ (connects [], false)
     ∷ (owns [] (bytes "org.foo"), false)
     ∷ (passes [] send [] call, false)
     ∷ (connects (connect 0 1 0 0 ++ connect 0 0 0 0), false)
     ∷ (connects (connect 3 1 0 0 ++ connect 0 0 0 0), true)
-    -- any, a uid, a gid
-    ∷ (connects (connect 0 1 1 7), true)
+    ∷ []
+
+-- connect: anybody, a uid, a gid; own: a name that is equal, and subjects
+abbrev pub people : List Line
+people =
+    (connects (connect 0 1 1 7), true)
     ∷ (connects (connect 0 1 1 5), false)
     ∷ (connects (connect 0 1 2 6), true)
     ∷ (connects (connect 0 1 2 7), false)
-    -- a name that is equal, and subjects
     ∷ (owns (own 0 1 1 0 foo) (bytes "org.foo"), true)
     ∷ (owns (own 0 1 1 0 foo) (bytes "org.foo.bar"), false)
     ∷ (owns (own 1 1 0 5 any) (bytes "org.foo"), true)
     ∷ (owns (own 1 1 0 7 any) (bytes "org.foo"), false)
     ∷ (owns (own 2 1 0 7 any) (bytes "org.foo"), true)
     ∷ (owns (own 2 1 0 5 any) (bytes "org.foo"), false)
-    -- direction, type, path, interface, member; a literal against an absent field
-    ∷ (passes (to 0 1 0 any) receive [] call, false)
+    ∷ []
+
+-- direction, type, path, interface and member; a text against an absent field; a name that is not owned
+abbrev pub messages : List Line
+messages =
+    (passes (to 0 1 0 any) receive [] call, false)
     ∷ (passes (of 4 any any any) send [] call, false)
     ∷ (passes (of 1 (cites 21 2) (cites 23 3) (cites 26 1)) send [] call, true)
     ∷ (passes (of 1 (cites 21 1) any any) send [] call, false)

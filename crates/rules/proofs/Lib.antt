@@ -8,4 +8,4 @@ pub mod Replies
 pub mod View
 pub mod SeenJudge
 pub mod Seen
-pub mod Table
+pub mod Bench

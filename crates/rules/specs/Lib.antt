@@ -4,5 +4,5 @@ pub mod Pending
 pub mod Judge
 pub mod Calls
 pub mod View
-pub mod Table
+pub mod Bench
 pub mod Places

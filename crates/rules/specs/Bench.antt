@@ -1,5 +1,5 @@
--- Worked examples of the judgement and of the calls, as a table. Peers 1 and 2 are in the first two of sixteen slots, and streams are made up: they count
--- their bytes, and the third one breaks the message.
+-- Worked examples of the judgement and of the calls, as a table of five parts. Peers 1 and 2 are in the first two of sixteen slots, and streams are
+-- made up: they count their bytes, and the third one breaks the message.
 use mathlib.Core.Bool.{cond}
 use mathlib.Core.List.{List, [], _∷_, _++_}
 use Prim.Native.Nat.{ℕ, zero, suc}
@@ -142,7 +142,7 @@ taking s = s .result .judgement .answer ∷ s .result .taken ∷ []
 abbrev pub parting : Step ℕ Gone → List ℕ
 parting s = s .result .answer ∷ s .result .bytes ∷ []
 
--- ---- the table: what is reported, and what it is to be
+-- ---- the table: what is reported, and what it should be
 
 abbrev pub Line : Type 0
 Line = List ℕ × List ℕ
@@ -211,8 +211,8 @@ connects =
     ∷ []
 
 -- own: 30, 31, 32, the peer's already, 33, 34 in this order; release: 30, 31, 35
-abbrev pub owns : List Line
-owns =
+abbrev pub claims : List Line
+claims =
     (answer (own mayJoin waiting 3 by), 30 ∷ [])
     ∷ (answer (own nothing waiting 1 (bytes "x")), 31 ∷ [])
     ∷ (answer (own mayJoin waiting 1 busName), 31 ∷ [])
@@ -240,6 +240,3 @@ pieces =
     ∷ (parting (disconnect counted waiting 1), 0 ∷ 2 ∷ [])
     ∷ (parting (disconnect counted (disconnect counted waiting 1 .state) 1), 30 ∷ 0 ∷ [])
     ∷ []
-
-abbrev pub table : List Line
-table = messages ++ (replies ++ (connects ++ (owns ++ pieces)))
