@@ -2,4 +2,4 @@ mod Ways
 pub mod Holds
 pub mod RuleHolds
 pub mod Answers
-pub mod Table
+pub mod Bench
