@@ -114,13 +114,13 @@ release s n name = let i = firstBy (isPeer n) (s .slots) in releaseAt s i (slotA
 
 -- a refused piece reports its answer, nobody, and that no byte was taken (rule 8.1)
 abbrev pub noPiece : ℕ → Taken
-noPiece a = record { judgement = refusal (verdictAnswer (broken a)); taken = 0 }
+noPiece a = record { judgement = refusal a; taken = 0 }
 
 -- what the bytes that joined come to: 10, one of 1 to 9, or a whole message, which is judged at once, over the state in which it is consumed already
 -- (rules 7.11, 9.1 and 9.2)
 abbrev pub offered : {S : Type 0} → List ℕ → State S → ℕ → Peer S → ℕ → Verdict → Step S Taken
 offered image s i p taken more = stays s (record { judgement = refusal (verdictAnswer more); taken = taken })
-offered image s i p taken (broken a) = stays s (record { judgement = refusal a; taken = taken })
+offered image s i p taken (broken a) = stays s (record { judgement = refusal (verdictAnswer (broken a)); taken = taken })
 offered image s i p taken (whole h x) =
     let j = judged image s i p h x in
     record { state = j .state; result = record { judgement = j .judgement; taken = taken } }
