@@ -1,4 +1,4 @@
--- What holds of a good header and of a good image. Assumes nothing.
+-- What holds of a good header and of a good image.
 use mathlib.Core.Path.{_≡_, refl, sym, _∙_}
 use mathlib.Core.Bool.{Bool, true, false, not, cond}
 use mathlib.Core.List.{List, [], _∷_}

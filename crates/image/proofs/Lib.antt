@@ -1,4 +1,5 @@
 mod Ways
 pub mod Holds
 pub mod RuleHolds
-pub mod Table
+pub mod Answers
+pub mod Bench

@@ -1,4 +1,4 @@
--- What holds of each rule of a good image: its bytes and its strings lie inside, and its context is one of the four. Assumes nothing.
+-- What holds of each rule of a good image: its bytes and its strings lie inside, and its context is one of the four.
 use mathlib.Core.Path.{_≡_, refl}
 use mathlib.Core.Logic.{⊎-elim}
 use mathlib.Core.Bool.{Bool, true, false, cond, _&&_, _||_}

@@ -1,4 +1,4 @@
--- A law for each way through the tests of an image: what the code has read makes the definition. Assumes nothing.
+-- A law for each way through the tests of an image: what the code has read makes the definition.
 use mathlib.Core.Path.{_≡_, _∙_}
 use mathlib.Core.Bool.{Bool, true, false, not, _&&_, _||_, and-false}
 use mathlib.Core.List.{List}

@@ -1,4 +1,4 @@
--- What functions over an image require of it, as plain numbers. Assumes nothing: these are definitions.
+-- What functions over an image require of it, as plain numbers.
 use mathlib.Core.Path.{_≡_}
 use mathlib.Core.Bool.{true}
 use mathlib.Core.List.{List}

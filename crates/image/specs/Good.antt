@@ -1,4 +1,4 @@
--- Which policy images are good (01, "Policy image"): "Any breach is answer 50." Assumes nothing: these are definitions.
+-- Which policy images are good.
 use mathlib.Core.Bool.{Bool, cond, _&&_, _||_}
 use mathlib.Core.List.{List}
 use Prim.Native.Nat.{ℕ, _+_, _*_}
@@ -15,7 +15,7 @@ use Rattle.image.specs.declared.Outcome.the-variants.{Good, Bad}
 
 -- ---- the header
 
--- "At most 256 connect, 256 own, 512 transaction rules"; the total "equals the lent length"
+-- the total is the length of what is lent, and each section has no more rules than its limit (rule 5.2)
 unfoldable pub goodCounts : List ℕ → Bool
 goodCounts image =
     eqb (totalLength image) (length image)
@@ -23,7 +23,7 @@ goodCounts image =
     && leb (ownCount image) 256
     && leb (transactionCount image) 512
 
--- "Sections follow each other without gaps from byte 32; strings run to the total"
+-- each section begins where the one before it ends, the first at byte 32, and the strings run to the end of the image (rule 5.3)
 unfoldable pub goodSections : List ℕ → Bool
 goodSections image =
     eqb (connectOffset image) 32
@@ -32,48 +32,49 @@ goodSections image =
     && eqb (stringOffset image) (transactionOffset image + 40 * transactionCount image)
     && leb (stringOffset image) (length image)
 
--- "Little-endian, at most 65,536 bytes, a header": the header has 32
+-- an image has 32 bytes at least, its header, and 65,536 at most (rule 5.1)
 unfoldable pub goodHeader : List ℕ → Bool
 goodHeader image = leb 32 (length image) && leb (length image) 65536 && goodCounts image && goodSections image
 
 -- ---- strings
 
--- "each string lies inside it and obeys its name rule"
+-- a string lies inside the string area, which ends with the image, and is a name of its form (rule 5.8)
 unfoldable pub goodString : Form → List ℕ → Span → Bool
 goodString form image s = leb (stringOffset image + s .offset + s .len) (length image) && validName form (textOf image s)
 
--- "Length 0 means any and has offset 0."
+-- in a transaction rule a length of 0 stands for any, and then the offset is 0 too (rule 5.6)
 unfoldable pub goodOrAny : Form → List ℕ → Span → Bool
 goodOrAny form image s = cond (eqb (s .len) 0) (eqb (s .offset) 0) (goodString form image s)
 
--- own: offset and length, "both 0 for any"; "names and prefixes: well-known"
+-- an own rule about any name cites no string, and any other cites a well-known name (rules 5.5 and 5.8)
 unfoldable pub goodOwned : List ℕ → ℕ → Span → Bool
 goodOwned image matcher s = cond (eqb matcher 0) (eqb (s .offset) 0 && eqb (s .len) 0) (goodString WellKnown image s)
 
 -- ---- rules
 
--- "Contexts: 0 default, 1 group, 2 user, 3 mandatory. The subject is a gid for 1, a uid for 2, else 0."
+-- there are four contexts, and only those of groups (1) and users (2) have a subject (rule 5.7)
 abbrev pub goodSubject : ℕ → ℕ → Bool
 goodSubject context subject = leb context 3 && (eqb context 1 || eqb context 2 || eqb subject 0)
 
--- verdict 0 or 1, matcher 0 to 2, zero: three bytes that connect and own rules share
+-- verdict 0 or 1, matcher 0 to 2, zero: three bytes that connect and own rules share (rules 5.4 and 5.5)
 abbrev pub goodMatcher : ℕ → ℕ → ℕ → Bool
 goodMatcher verdict matcher reserved = leb verdict 1 && leb matcher 2 && eqb reserved 0
 
--- connect: "Context 0 or 3 only"; the id is "0 for any"
+-- connect rules are default or mandatory, and one that is about anybody has no id (rule 5.4)
 unfoldable pub goodConnectRule : ConnectRule → Bool
 goodConnectRule r =
     (eqb (r .context) 0 || eqb (r .context) 3)
     && goodMatcher (r .verdict) (r .matcher) (r .reserved)
     && (leb 1 (r .matcher) || eqb (r .id) 0)
 
+-- an own rule's bytes and its string (rule 5.5)
 unfoldable pub goodOwnRule : List ℕ → OwnRule → Bool
 goodOwnRule image r =
     goodSubject (r .context) (r .subject)
     && goodMatcher (r .verdict) (r .matcher) (r .reserved)
     && goodOwned image (r .matcher) (r .name)
 
--- "offset and length for name, path, interface, member"
+-- the four strings of a transaction rule, each with its own form (rules 5.6 and 5.8)
 unfoldable pub goodStrings : List ℕ → TransactionRule → Bool
 goodStrings image r =
     goodOrAny WellKnown image (r .name)
@@ -81,6 +82,7 @@ goodStrings image r =
     && goodOrAny Interface image (r .interface)
     && goodOrAny Member image (r .member)
 
+-- a transaction rule's bytes and its strings; returns and errors have no rules (rule 5.6)
 unfoldable pub goodTransactionRule : List ℕ → TransactionRule → Bool
 goodTransactionRule image r =
     goodSubject (r .context) (r .subject)
@@ -89,7 +91,7 @@ goodTransactionRule image r =
     && (eqb (r .type) 0 || eqb (r .type) 1 || eqb (r .type) 4)
     && goodStrings image r
 
--- the rule at place i keeps these sentences
+-- rule i of its section is a good one
 unfoldable pub goodConnect : List ℕ → ℕ → Bool
 goodConnect image i = goodConnectRule (connectRule image i)
 
@@ -101,6 +103,7 @@ goodTransaction image i = goodTransactionRule image (transactionRule image i)
 
 -- ---- the image
 
+-- the header and every rule of the three sections (rule 5.9)
 unfoldable pub goodImage : List ℕ → Bool
 goodImage image =
     goodHeader image
@@ -108,6 +111,7 @@ goodImage image =
     && below (goodOwn image) (ownCount image)
     && below (goodTransaction image) (transactionCount image)
 
+-- what the test of an image says (rule 5.9)
 unfoldable pub outcomeOf : List ℕ → Outcome
 outcomeOf image = cond (goodImage image) Good Bad
 

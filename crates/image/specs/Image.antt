@@ -1,11 +1,11 @@
--- A policy image as bytes (01, "Policy image"): its header, its strings. Assumes nothing: these are definitions.
+-- A policy image as bytes: its header and its strings.
 use mathlib.Core.List.{List}
 use Prim.Native.Nat.{ℕ, _+_}
 use lib.ListN.{take, drop}
 use Rattle.wire.specs.Words.{wordAt}
 use Rattle.wire.specs.declared.Order.the-variants.{Little}
 
--- "Header, 32 bytes, eight u32: total length; connect count, offset; own count, offset; transaction count, offset; string area offset."
+-- the eight little-endian numbers of the header (rule 5.1)
 abbrev pub totalLength : List ℕ → ℕ
 totalLength image = wordAt Little image 0
 
@@ -30,6 +30,6 @@ transactionOffset image = wordAt Little image 24
 abbrev pub stringOffset : List ℕ → ℕ
 stringOffset image = wordAt Little image 28
 
--- the string of a length at an offset: "String offsets count from the string area."
+-- the string of a length at an offset, which counts from the start of the string area (rule 5.8)
 abbrev pub stringAt : List ℕ → ℕ → ℕ → List ℕ
 stringAt image offset len = take len (drop (stringOffset image + offset) image)

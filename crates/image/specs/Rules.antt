@@ -1,4 +1,4 @@
--- The rules of a policy image, each read at its place (01, "Policy image"). Assumes nothing: these are definitions.
+-- The rules of a policy image, each read at its place.
 use mathlib.Core.List.{List}
 use Prim.Native.Nat.{ℕ, _+_, _*_}
 use lib.ListN.{getD}
@@ -14,11 +14,11 @@ pub record Span : Type 0 where
 abbrev pub spanAt : List ℕ → ℕ → Span
 spanAt image at = record { offset = wordAt Little image at; len = wordAt Little image (at + 4) }
 
--- the bytes that it cites
+-- the bytes that it cites (rule 5.8)
 abbrev pub textOf : List ℕ → Span → List ℕ
 textOf image s = stringAt image (s .offset) (s .len)
 
--- "Connect, 8 bytes: context, verdict (0 deny, 1 allow), matcher (0 any, 1 uid, 2 gid), zero; u32 id (0 for any)."
+-- a connect rule: verdict 1 allows; matcher 0 is anybody, 1 the user and 2 a group with the id (rule 5.4)
 pub record ConnectRule : Type 0 where
   pub context : ℕ
   pub verdict : ℕ
@@ -36,10 +36,11 @@ connectAt image at =
       id = wordAt Little image (at + 4);
     }
 
+-- connect rules have 8 bytes each
 abbrev pub connectRule : List ℕ → ℕ → ConnectRule
 connectRule image i = connectAt image (connectOffset image + 8 * i)
 
--- "Own, 16 bytes: context, verdict, matcher (0 any, 1 name, 2 prefix), zero; u32 subject; u32 string offset, u32 length (both 0 for any)."
+-- an own rule: matcher 0 is any name, 1 the name and 2 the prefix that it cites (rule 5.5)
 pub record OwnRule : Type 0 where
   pub context : ℕ
   pub verdict : ℕ
@@ -59,11 +60,11 @@ ownAt image at =
       name = spanAt image (at + 8);
     }
 
+-- own rules have 16 bytes each
 abbrev pub ownRule : List ℕ → ℕ → OwnRule
 ownRule image i = ownAt image (ownOffset image + 16 * i)
 
--- "Transaction, 40 bytes: context, verdict, direction (0 send, 1 receive), type (0 any, 1 call, 4 signal); u32 subject; then offset and length for
--- name, path, interface, member."
+-- a transaction rule: direction 0 is send and 1 receive; type 0 is any, 1 a method call and 4 a signal (rule 5.6)
 pub record TransactionRule : Type 0 where
   pub context : ℕ
   pub verdict : ℕ
@@ -89,5 +90,6 @@ transactionAt image at =
       member = spanAt image (at + 32);
     }
 
+-- transaction rules have 40 bytes each
 abbrev pub transactionRule : List ℕ → ℕ → TransactionRule
 transactionRule image i = transactionAt image (transactionOffset image + 40 * i)

@@ -1,7 +1,7 @@
--- Worked examples of policy images, as a table. Assumes nothing: these are definitions.
+-- Worked examples of policy images, as a table.
 use mathlib.Core.List.{List, [], _∷_, _++_}
 use Prim.Native.Nat.{ℕ, _+_, _/_}
-use lib.ListN.{length, take, replicate}
+use lib.ListN.{length, take, set, replicate}
 use Rattle.wire.specs.Bytes.{bytes}
 use Rattle.wire.specs.Words.{wordBytes}
 use Rattle.image.specs.Good.{imageAnswer}
@@ -33,28 +33,42 @@ head a b c d n = a ∷ b ∷ c ∷ d ∷ wordBytes n
 abbrev pub cites : ℕ → ℕ → List ℕ
 cites offset len = wordBytes offset ++ wordBytes len
 
--- an image, and 01's number for it
+-- an image, and its answer
 abbrev pub Line : Type 0
 Line = List ℕ × ℕ
 
+-- header and connect rules
 abbrev pub table : List Line
 table =
     (imageOf [] [] [] [], 0)
     ∷ (take 31 (imageOf [] [] [] []), 50)
+    -- own and transaction rules and strings from byte 40 on, behind a gap; one transaction rule and strings from byte 72 on, behind the end
+    ∷ (set (set (set (imageOf [] [] [] (replicate 8 0)) 16 40) 24 40) 28 40, 50)
+    ∷ (set (set (imageOf [] [] [] []) 20 1) 28 72, 50)
     ∷ (imageOf [] [] [] (bytes "any bytes"), 0)
     ∷ (imageOf (head 0 1 1 0 7) [] [] [], 0)
     ∷ (imageOf (head 1 1 1 0 7) [] [] [], 50)
     ∷ (imageOf (head 0 1 0 0 7) [] [] [], 50)
     ∷ (imageOf (head 0 1 1 1 7) [] [] [], 50)
-    ∷ (imageOf [] (head 1 1 2 0 5 ++ cites 0 5) [] (bytes "org.a"), 0)
+    ∷ []
+
+-- own rules
+abbrev pub owns : List Line
+owns =
+    (imageOf [] (head 1 1 2 0 5 ++ cites 0 0) [] [], 50)
+    ∷ (imageOf [] (head 1 1 0 0 5 ++ cites 0 0) [] [], 0)
     ∷ (imageOf [] (head 0 1 2 0 5 ++ cites 0 5) [] (bytes "org.a"), 50)
     ∷ (imageOf [] (head 1 1 2 0 5 ++ cites 0 6) [] (bytes "org.a"), 50)
-    ∷ (imageOf [] (head 1 1 2 0 5 ++ cites 0 0) [] [], 50)
-    ∷ (imageOf [] (head 1 1 0 0 5 ++ cites 0 0) [] [], 0)
-    ∷ (imageOf [] [] (head 2 0 1 4 9 ++ cites 2 5 ++ cites 0 2 ++ cites 2 5 ++ cites 1 4) (bytes "/aorg.a"), 0)
-    ∷ (imageOf [] [] (head 2 0 1 2 9 ++ cites 2 5 ++ cites 0 2 ++ cites 2 5 ++ cites 1 4) (bytes "/aorg.a"), 50)
-    ∷ (imageOf [] [] (head 0 0 0 0 0 ++ replicate 32 0) [], 0)
+    ∷ (imageOf [] (head 1 1 2 0 5 ++ cites 0 5) [] (bytes "org.a"), 0)
+    ∷ []
+
+-- transaction rules
+abbrev pub transactions : List Line
+transactions =
+    (imageOf [] [] (head 0 0 0 0 0 ++ replicate 32 0) [], 0)
+    ∷ (imageOf [] [] (head 0 0 0 2 0 ++ replicate 32 0) [], 50)
     ∷ (imageOf [] [] (head 0 0 0 0 0 ++ cites 1 0 ++ replicate 24 0) [], 50)
+    ∷ (imageOf [] [] (head 2 0 1 4 9 ++ cites 2 5 ++ cites 0 2 ++ cites 2 5 ++ cites 1 4) (bytes "/aorg.a"), 0)
     ∷ []
 
 abbrev pub answer : List ℕ → ℕ

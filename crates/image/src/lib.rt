@@ -10,7 +10,7 @@ ghost use Rattle.image.specs.Rules.{spanAt, textOf, transactionAt};
 ghost use Rattle.image.specs.Good.{goodCounts, goodSections, goodHeader, goodString, goodOrAny, goodOwned, goodStrings, goodSubject, goodMatcher, goodConnect, goodOwn, goodTransaction, outcomeOf};
 ghost use Rattle.image.specs.Contracts.{Header, Strings, RuleAt, Cites};
 
-// What the test of an image says: 01's answer 50 is Bad.
+// What the test of an image says: a bad one is answered 50 (rule 5.9).
 pub enum Outcome {
     Good,
     Bad,

@@ -1,4 +1,4 @@
-// Runs the test of policy images: each sentence of 01's section "Policy image" kept at its limits, and broken once at each place where it can be.
+// Runs the test of policy images: each rule about them kept at its limits, and broken once at each place where it can be.
 use libc::STDOUT_FILENO;
 ghost use Prim.Native.Nat.{_≤_, _<_};
 
@@ -6,7 +6,7 @@ ghost use Prim.Native.Nat.{_≤_, _<_};
 const ONE_OF_EACH: [u8; 103] =
     *b"\x67\0\0\0\x01\0\0\0\x20\0\0\0\x01\0\0\0\x28\0\0\0\x01\0\0\0\x38\0\0\0\x60\0\0\0\0\x01\x01\0\x07\0\0\0\x01\x01\x01\0\x05\0\0\0\x02\0\0\0\x05\0\0\0\x02\x01\x01\x01\x09\0\0\0\x02\0\0\0\x05\0\0\0\0\0\0\0\x02\0\0\0\x02\0\0\0\x05\0\0\0\x01\0\0\0\x04\0\0\0/aorg.a";
 
-// The label, and 01's number for the first n bytes of the image.
+// The label, and the answer for the first n bytes of the image.
 fn show(label: &[u8], image: &[u8], n: usize) {
     io::write_all(STDOUT_FILENO, label);
     if n <= image.len() {

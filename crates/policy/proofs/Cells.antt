@@ -1,4 +1,4 @@
--- Names in cells: a law for each way through the search of them, and what the bus's cell says. Assumes nothing.
+-- Names in cells: a law for each way through the search of them, and what the bus's cell says.
 use mathlib.Core.Path.{_≡_, refl, _∙_}
 use mathlib.Core.Bool.{Bool, true, false}
 use mathlib.Core.List.{List, [], _∷_}

@@ -1,4 +1,4 @@
--- Connect and own: what is particular to the two searches. Assumes nothing.
+-- Connect and own: what is particular to the two searches.
 use mathlib.Core.Path.{_≡_, sym, _∙_}
 use mathlib.Core.Bool.{Bool, true, false}
 use mathlib.Core.List.{List}

@@ -1,4 +1,4 @@
--- A rule against a peer, a name or a message: a law for each way through the tests. Assumes nothing.
+-- A rule against a peer, a name or a message: a law for each way through the tests.
 use mathlib.Core.Path.{_≡_, refl, sym, _∙_}
 use mathlib.Core.Bool.{Bool, true, false, cond, not, _&&_, _||_, false≢true}
 use mathlib.Core.Option.{none, some}

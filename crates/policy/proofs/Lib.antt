@@ -1,3 +1,5 @@
+pub mod Table
+pub mod Decides
 pub mod Precedence
 pub mod Cells
 mod Subjects
@@ -5,4 +7,3 @@ mod Fits
 mod Section
 mod Decisions
 mod Transactions
-pub mod Table

@@ -1,72 +1,35 @@
 -- A search from the highest precedence down finds the rule that decides, in any section. A precedence is one number: the context, times
--- 2 ^ 64, and the position, which is below 2 ^ 64. Assumes nothing.
+-- 2 ^ 64, and the position, which is below 2 ^ 64.
 use mathlib.Core.Path.{_≡_, refl, subst}
-use mathlib.Core.Logic.{⊎-elim}
-use mathlib.Core.Bool.{Bool, true, false, cond}
-use mathlib.Core.Option.{Option, none, some}
-use Prim.Native.Nat.{ℕ, zero, suc, _+_, _-_, _*_, _^_, _≤_, _<_}
+use mathlib.Core.Logic.{inl, inr, ⊎-elim}
+use mathlib.Core.Bool.{Bool, true, false}
+use mathlib.Core.Option.{none, some}
+use Prim.Native.Nat.{ℕ, _+_, _-_, _*_, _^_, _≤_, _<_}
 use native.Mathlib.Nat.{eq-or-lt-of-le}
 use native.Mathlib.Omega.{arith}
-use borrow.Author.Tests.{le-leb, lt-leb}
-use Rattle.policy.specs.Precedence.{givesWay, takeOver, heard, deciding, verdict}
+use Rattle.policy.specs.Precedence.{deciding, verdict, Beats}
+use Rattle.policy.proofs.Decides.{deciding-only, deciding-nothing}
 
 abbrev pub rank : ℕ → ℕ → ℕ
 rank context i = context * 18446744073709551616 + i
 
-module _ (contextOf : ℕ → ℕ) (matches : ℕ → Bool) where
-  -- ---- what decides
-
-  -- the context of the rule that decides so far is at most c
-  abbrev Capped : ℕ → Option ℕ → Type 0
-  Capped c none = Unit {0}
-  Capped c (some j) = contextOf j ≤ c
-
-  capped-over : (c i : ℕ) (o : Option ℕ) → contextOf i ≤ c → Capped c o → Capped c (takeOver contextOf i o)
-  capped-over c i none h k = h
-  capped-over c i (some j) h k = go (givesWay (contextOf j) (contextOf i))
-    where
-      go : (b : Bool) → Capped c (cond b (some i) (some j))
-      go true = h
-      go false = k
-
-  capped : (n c : ℕ) → ((j : ℕ) → j < n → matches j ≡ true → contextOf j ≤ c) → Capped c (deciding contextOf matches n)
-  unfolding deciding
-  capped zero c h = tt
-  capped (suc n) c h = go (matches n) refl (capped n c (λ j l. h j (omega arith)))
-    where
-      go : (b : Bool) → matches n ≡ b → Capped c (deciding contextOf matches n) → Capped c (heard contextOf n b (deciding contextOf matches n))
-      go true e k = capped-over c n (deciding contextOf matches n) (h n (omega arith) e) k
-      go false e k = k
-
-  -- the last rule decides where it matches and no other has a higher context
-  takes-over : (i : ℕ) (o : Option ℕ) → Capped (contextOf i) o → takeOver contextOf i o ≡ some i
-  takes-over i none k = refl
-  takes-over i (some j) k = rw (le-leb (contextOf j) (contextOf i) k)
-
-  decides : (n p : ℕ) → n ≤ 2 ^ 64 → p < n → matches p ≡ true
+module _ (contextOf : ℕ → ℕ) (matches : ℕ → Bool) (n : ℕ) where
+  -- the rule of the highest rank decides
+  decides : (p : ℕ) → n ≤ 2 ^ 64 → p < n → matches p ≡ true
       → ((j : ℕ) → j < n → matches j ≡ true → rank (contextOf j) j ≤ rank (contextOf p) p) → deciding contextOf matches n ≡ some p
-  unfolding deciding
-  decides zero p f h m best = absurd (omega arith)
-  decides (suc n) p f h m best =
-      ⊎-elim
-      (λ (e : p ≡ n).
-      rw (← e, m) (takes-over p (deciding contextOf matches p) (capped p (contextOf p) (λ j l k. omega (arith, best j (omega arith) k)))))
-      (λ (l : p < n). go (matches n) refl l (decides n p (omega arith) l m (λ j i. best j (omega arith))))
-      (eq-or-lt-of-le (omega arith))
+  decides p f h m best = deciding-only contextOf matches n p (record { inside = h; fits = m; beats = beats })
     where
-      go : (b : Bool) → matches n ≡ b → p < n → deciding contextOf matches n ≡ some p
-          → heard contextOf n b (deciding contextOf matches n) ≡ some p
-      go true e l d = rw (d, lt-leb (contextOf p) (contextOf n) (omega (arith, best n (omega arith) e)))
-      go false e l d = d
+      beats : (j : ℕ) → j < n → matches j ≡ true → (j ≡ p → ⊥) → Beats contextOf p j
+      beats j l k d =
+          ⊎-elim (λ (e : contextOf j ≡ contextOf p). inr (e, omega (arith, best j l k))) (λ (c : contextOf j < contextOf p). inl c)
+          (eq-or-lt-of-le (omega (arith, best j l k)))
 
-  nobody : (n : ℕ) → ((j : ℕ) → j < n → matches j ≡ true → ⊥) → deciding contextOf matches n ≡ none
-  unfolding deciding
-  nobody zero h = refl
-  nobody (suc n) h = go (matches n) refl (nobody n (λ j l. h j (omega arith)))
+  nobody : ((j : ℕ) → j < n → matches j ≡ true → ⊥) → deciding contextOf matches n ≡ none
+  nobody h = deciding-nothing contextOf matches n (λ j l. go (matches j) (h j l))
     where
-      go : (b : Bool) → matches n ≡ b → deciding contextOf matches n ≡ none → heard contextOf n b (deciding contextOf matches n) ≡ none
-      go true e d = absurd (h n (omega arith) e)
-      go false e d = d
+      go : (b : Bool) → (b ≡ true → ⊥) → b ≡ false
+      go true k = absurd (k refl)
+      go false k = refl
 
 -- ---- from the highest precedence down: a law for each way through the search
 

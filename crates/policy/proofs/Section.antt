@@ -1,5 +1,5 @@
 -- The search through a section of an image from its end down to its base, rules of one size in a row, context by context: a law for each way
--- through the loop, over any section. Assumes nothing.
+-- through the loop, over any section.
 use mathlib.Core.Path.{_≡_, refl, sym, ap, subst, _∙_}
 use mathlib.Core.Bool.{Bool, true, false, false≢true}
 use mathlib.Core.List.{List}

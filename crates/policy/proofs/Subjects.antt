@@ -1,4 +1,4 @@
--- Subjects: a law for each way through the tests of a user and of groups. Assumes nothing.
+-- Subjects: a law for each way through the tests of a user and of groups.
 use mathlib.Core.Path.{_≡_, refl, sym, _∙_}
 use mathlib.Core.Bool.{Bool, true, false}
 use mathlib.Core.List.{List}

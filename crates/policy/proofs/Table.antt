@@ -1,6 +1,7 @@
--- The worked examples hold of the decisions: one statement, which antt computes. Assumes nothing.
+-- The worked examples hold of the decisions: a statement for each part of the table, which antt computes.
 use mathlib.Core.Path.{_≡_, refl}
 use mathlib.Core.Bool.{Bool, true, Bool·beq}
+use mathlib.Core.List.{List}
 use Rattle.wire.specs.Lists.{agrees}
 use Rattle.wire.specs.Bytes.{same}
 use Rattle.wire.specs.Words.{wordAt, wordBytes}
@@ -10,8 +11,19 @@ use Rattle.policy.specs.Names.{owns}
 use Rattle.policy.specs.Subjects.{inGroups, subjectFits}
 use Rattle.policy.specs.Matching.{connectFits, ownedFits, ownFits, partFits, interfaceFits, partsFit, nameFits, transactionFits, transactionMatches}
 use Rattle.policy.specs.Decisions.{connectDecides, mayConnect, ownDecides, mayOwn, transactionDecides, mayTransact}
-use Rattle.policy.specs.Table.{table}
+use Rattle.policy.specs.Table.{Line, table, people, messages}
 
-pub table-agrees : agrees (λ (given : Bool). given) Bool·beq table ≡ true
+abbrev Agree : List Line → Type 0
+Agree lines = agrees (λ (given : Bool). given) Bool·beq lines ≡ true
+
+pub table-agrees : Agree table
 unfolding same wordAt wordBytes inNamespace deciding owns inGroups subjectFits connectFits ownedFits ownFits partFits interfaceFits partsFit nameFits transactionFits transactionMatches connectDecides mayConnect ownDecides mayOwn transactionDecides mayTransact
 table-agrees = refl
+
+pub people-agree : Agree people
+unfolding same wordAt wordBytes deciding inGroups subjectFits connectFits ownedFits ownFits connectDecides mayConnect ownDecides mayOwn
+people-agree = refl
+
+pub messages-agree : Agree messages
+unfolding same wordAt wordBytes deciding owns subjectFits partFits interfaceFits partsFit nameFits transactionFits transactionMatches transactionDecides mayTransact
+messages-agree = refl

@@ -1,4 +1,4 @@
--- Send and receive: what is particular to their search, with the owned names inside. Assumes nothing.
+-- Send and receive: what is particular to their search, with the owned names inside.
 use mathlib.Core.Path.{_≡_, refl, sym, ap, _∙_}
 use mathlib.Core.Bool.{Bool, true, false, _&&_, false≢true, or-true}
 use mathlib.Core.List.{List}

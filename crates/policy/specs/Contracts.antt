@@ -1,4 +1,4 @@
--- What the functions over an image and a head require, as plain numbers. Assumes nothing: these are definitions.
+-- What the functions over an image and a head require, as plain numbers.
 use mathlib.Core.List.{List}
 use Prim.Native.Nat.{ℕ, _+_, _≤_}
 use lib.ListN.{length}

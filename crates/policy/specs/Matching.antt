@@ -1,4 +1,4 @@
--- Which rules match (01, "Precedence and matching"). Assumes nothing: these are definitions.
+-- Which rules match.
 use mathlib.Core.Bool.{Bool, true, false, cond, _&&_, _||_}
 use mathlib.Core.List.{List}
 use mathlib.Core.Option.{Option, none, some}
@@ -16,32 +16,33 @@ use Rattle.policy.specs.declared.Uid.{Uid}
 
 -- ---- connect
 
--- "Connect: any, the peer's uid, or one of its gids."
+-- a connect rule is about anybody, the user with its id, or whoever has its id among the gids (rule 6.3)
 unfoldable pub connectFits : ConnectRule → Uid → List ℕ → Bool
 connectFits r uid gids =
     cond (eqb (r .matcher) 0) true (cond (eqb (r .matcher) 1) (sameUser uid (record { 0 = r .id })) (inGroups gids (record { 0 = r .id })))
 
 -- ---- own
 
--- "the name is equal, or equals the prefix or starts with the prefix and a dot"
+-- an own rule is about any name, its own name, or the names under its prefix (rule 6.4)
 unfoldable pub ownedFits : List ℕ → OwnRule → List ℕ → Bool
 ownedFits image r name =
     cond (eqb (r .matcher) 0) true
     (cond (eqb (r .matcher) 1) (same (textOf image (r .name)) name) (inNamespace (textOf image (r .name)) name))
 
--- "Own: the rule's subject fits the peer, and the name .."
+-- it matches where it is about the peer and about the name (rule 6.4)
 unfoldable pub ownFits : List ℕ → OwnRule → Uid → List ℕ → List ℕ → Bool
 ownFits image r uid gids name = subjectFits (r .context) (r .subject) uid gids && ownedFits image r name
 
 -- ---- send and receive
 
--- the parts of a message that rules speak of; `none` is an absent field
+-- the parts of a message that rules speak of; `none` is an absent field (rule 6.7)
 pub record Message : Type 0 where
   pub kind : ℕ
   pub path : Option (List ℕ)
   pub interface : Option (List ℕ)
   pub member : Option (List ℕ)
 
+-- the text of a field of the head, where it is present (rule 6.7)
 abbrev pub fieldOf : List ℕ → Place → Option (List ℕ)
 fieldOf h p = cond (present p) (some (textAt h p)) none
 
@@ -49,34 +50,36 @@ unfoldable pub messageOf : List ℕ → Header → Message
 messageOf h m =
     record { kind = m .kind; path = fieldOf h (m .path); interface = fieldOf h (m .interface); member = fieldOf h (m .member) }
 
--- "A literal doesn't match an absent field."
+-- a rule's text fits no absent field (rule 6.7)
 abbrev pub equals : List ℕ → Option (List ℕ) → Bool
 equals literal none = false
 equals literal (some text) = same literal text
 
--- "any, or equal to the message's"
+-- a text of length 0 stands for any (rule 6.7)
 unfoldable pub partFits : List ℕ → Span → Option (List ℕ) → Bool
 partFits image s part = eqb (s .len) 0 || equals (textOf image s) part
 
+-- the interface, by itself since only it can be absent from a message that rules are about (rule 6.7)
 unfoldable pub interfaceFits : List ℕ → TransactionRule → Option (List ℕ) → Bool
 interfaceFits image r interface = partFits image (r .interface) interface
 
--- "Type, path, interface, member: any, or equal to the message's."
+-- path, interface and member, each by itself (rule 6.7)
 unfoldable pub partsFit : List ℕ → TransactionRule → Message → Bool
 partsFit image r m = partFits image (r .path) (m .path) && interfaceFits image r (m .interface) && partFits image (r .member) (m .member)
 
+-- the type is any or the message's (rule 6.5)
 abbrev pub typeFits : TransactionRule → ℕ → Bool
 typeFits r kind = eqb (r .type) 0 || eqb (r .type) kind
 
--- "the name is any or one the receiver owns", for receive "one the sender owns", "whichever name the message was addressed to"
+-- the name is any, or one of all those that the other party owns (rule 6.6)
 unfoldable pub nameFits : List ℕ → TransactionRule → List (List ℕ) → Bool
 nameFits image r names = eqb (r .name .len) 0 || owns names (textOf image (r .name))
 
--- everything but the name: "the subject fits the sender", for receive "the receiver"
+-- everything but direction and name; uid and gids are the sender's for send and the receiver's for receive (rule 6.5)
 unfoldable pub transactionFits : List ℕ → TransactionRule → Uid → List ℕ → Message → Bool
 transactionFits image r uid gids m = typeFits r (m .kind) && subjectFits (r .context) (r .subject) uid gids && partsFit image r m
 
--- only rules of the asked direction match
+-- only rules of the asked direction match (rule 6.5)
 unfoldable pub transactionMatches : List ℕ → TransactionRule → ℕ → Uid → List ℕ → List (List ℕ) → Message → Bool
 transactionMatches image r direction uid gids names m =
     eqb (r .direction) direction && transactionFits image r uid gids m && nameFits image r names

@@ -1,4 +1,4 @@
--- Owned names as a region of bytes: cells of 256 bytes in a row, each a length byte, the name, and zeros. Assumes nothing: these are definitions.
+-- Owned names as a region of bytes: cells of 256 bytes in a row, each a length byte, the name, and zeros (rule 10.2).
 use mathlib.Core.Bool.{Bool}
 use mathlib.Core.List.{List, [], _∷_}
 use Prim.Native.Nat.{ℕ, zero, suc, _/_}
@@ -22,10 +22,10 @@ namesIn s = cellNames (length s / 256) s
 unfoldable pub cellOf : List ℕ → List ℕ
 cellOf name = length name ∷ pad 255 name
 
--- "the bus, which owns just that name"
+-- the one name of the bus (rule 7.3)
 abbrev pub busName : List ℕ
 busName = bytes "org.freedesktop.DBus"
 
--- the name is one of those
+-- the name is one of those (rule 6.6)
 unfoldable pub owns : List (List ℕ) → List ℕ → Bool
 owns names name = any (λ x. same x name) names

@@ -1,4 +1,4 @@
--- An image that was tested is good; and what each loop keeps. Assumes nothing.
+-- An image that was tested is good; and what each loop keeps.
 use mathlib.Core.Path.{_≡_, sym, _∙_}
 use mathlib.Core.List.{List}
 use Prim.Native.Nat.{ℕ, _≤_}

@@ -1,4 +1,4 @@
--- A message whose fields lie in the first 30 bytes of its head. Assumes nothing: these are definitions.
+-- A message whose fields lie in the first 30 bytes of its head.
 use Prim.Native.Nat.{_+_, _≤_}
 use Rattle.header.specs.declared.Header.{Header}
 

@@ -1,4 +1,4 @@
--- Lists by their tests: one of them passes, each passes, and each stands once. Assumes nothing.
+-- Lists by their tests: one of them passes, each passes, and each stands once.
 use mathlib.Core.Path.{_≡_, refl}
 use mathlib.Core.Logic.{_⊎_, inl, inr}
 use mathlib.Core.Bool.{Bool, true, false, not, _&&_, _||_, false≢true}

@@ -1,4 +1,4 @@
--- A list with some of its things gone and the later ones moved down. Assumes nothing.
+-- A list with some of its things gone and the later ones moved down.
 use mathlib.Core.Path.{_≡_, refl}
 use mathlib.Core.Bool.{Bool, true, false, cond}
 use mathlib.Core.List.{List, [], _∷_}

@@ -1,4 +1,4 @@
--- The first slot that passes a test. Assumes nothing.
+-- The first slot that passes a test.
 use mathlib.Core.Path.{_≡_, refl, sym, ap, _∙_}
 use mathlib.Core.Bool.{Bool, true, false, cond, _||_}
 use mathlib.Core.List.{List, [], _∷_}

@@ -8,3 +8,4 @@ pub mod Replies
 pub mod View
 pub mod SeenJudge
 pub mod Seen
+pub mod Bench

@@ -1,5 +1,4 @@
 -- What the rules come to for replies: one passes exactly where its call is pending, a second one does not, and nobody awaits a peer that is gone.
--- Assumes nothing.
 use mathlib.Core.Path.{_≡_, refl, sym, ap, ap₂, _∙_}
 use mathlib.Core.Logic.{_⊎_, inl, inr}
 use mathlib.Core.Bool.{Bool, true, false, cond, false≢true}
@@ -32,7 +31,7 @@ abbrev pub isWaiting : {S : Type 0} → ℕ → ℕ → Slot S → Bool
 isWaiting callee serial free = false
 isWaiting callee serial (peer p) = awaits callee serial (p .pending)
 
--- (A, B, reply serial) waits, where A is whom the address means
+-- the peer whom the address means awaits it
 abbrev pub awaited : {S : Type 0} → List (Slot S) → ℕ → ℕ → Address → Bool
 awaited slots callee serial absent = false
 awaited slots callee serial bus = false
@@ -54,7 +53,7 @@ module _ {S : Type 0} (image : List ℕ) (s : State S) (i : ℕ) (sender : Peer 
   unfolding judged
   judged-reply = rw (reply-low x r, r)
 
-  -- "passes exactly when (A, B, reply serial) waits"
+  -- it passes exactly where its call is pending (rule 7.9)
   to-answer : (j : ℕ) (y : Slot S) → replyTo s j sender y x .judgement .answer ≡ cond (isWaiting (sender .number) (x .«reply_serial») y) 0 24
   to-answer j free = refl
   to-answer j (peer caller) = go (awaits (sender .number) (x .«reply_serial») (caller .pending)) refl
@@ -72,7 +71,7 @@ module _ {S : Type 0} (image : List ℕ) (s : State S) (i : ℕ) (sender : Peer 
   pub reply-exact : judged image s i sender h x .judgement .answer ≡ cond (awaited (s .slots) (sender .number) (x .«reply_serial») address) 0 24
   reply-exact = ap (λ (j : Judged S). j .judgement .answer) judged-reply ∙ reply-answer address
 
-  -- ---- "and ends that wait": a second reply is 24
+  -- ---- it ends that call: a second reply is 24 (rule 7.9)
 
   module _ (ok : (j : ℕ) (p : Peer S) → getD (s .slots) j free ≡ peer p → okPending (p .pending) ≡ true) where
     once-to : (j : ℕ) (y : Slot S) → getD (s .slots) j free ≡ y → isWaiting (sender .number) (x .«reply_serial») y ≡ true
@@ -124,7 +123,7 @@ module _ {S : Type 0} (image : List ℕ) (s : State S) (i : ℕ) (sender : Peer 
         ∙ ap (awaited (reply s sender address x .state .slots) (sender .number) (x .«reply_serial»)) (resolve-after (fieldOf h (x .destination)) address)
         ∙ once ok address w
 
--- "second reply 24": the same reply again, by the peer of that number
+-- the same reply again, by the peer with that number, is 24
 pub second-reply : {S : Type 0} (image : List ℕ) (s : State S) (i : ℕ) (sender : Peer S) (h : List ℕ) (x : Header) → isReply x ≡ true
     → ((j : ℕ) (p : Peer S) → getD (s .slots) j free ≡ peer p → okPending (p .pending) ≡ true)
     → awaited (s .slots) (sender .number) (x .«reply_serial») (resolve (s .slots) (fieldOf h (x .destination))) ≡ true
@@ -133,7 +132,7 @@ second-reply image s i sender h x r ok w k again e =
     let z = judged image s i sender h x .state in
     reply-exact image z k again h x r ∙ rw (e, reply-once image s i sender h x r ok w)
 
--- ---- "every wait where it is caller or callee": nobody awaits a peer that is gone
+-- ---- nobody awaits a peer that is gone (rule 8.7)
 
 gone-slot : {S : Type 0} (n r : ℕ) (y : Slot S) → isWaiting n r (bereft n y) ≡ false
 gone-slot n r free = refl

@@ -1,5 +1,4 @@
 -- Streams seen as other streams: the calls, which are defined once over any streams, answer alike and leave states that are seen alike.
--- Assumes nothing.
 use mathlib.Core.Path.{_≡_, refl, sym, _∙_, ap, ap₂}
 use mathlib.Core.Bool.{Bool, cond}
 use mathlib.Core.List.{List, [], _∷_, _++_, map}

@@ -1,4 +1,4 @@
--- The judgement of a whole message never looks at streams: over a state seen through them it is what is seen of the judgement. Assumes nothing.
+-- The judgement of a whole message never looks at streams: over a state seen through them it is what is seen of the judgement.
 use mathlib.Core.Path.{_≡_, refl, _∙_, ap}
 use mathlib.Core.Bool.{Bool, cond}
 use mathlib.Core.List.{List, [], _∷_, _++_}

@@ -1,4 +1,4 @@
--- Tests joined, refuted and chosen by. Assumes nothing.
+-- Tests joined, refuted and chosen by.
 use mathlib.Core.Path.{_≡_, refl, sym, _∙_}
 use mathlib.Core.Bool.{Bool, true, false, cond, _||_, false≢true}
 

@@ -1,4 +1,4 @@
--- States seen as others, their streams through a function: what is found in them and set in them. Assumes nothing.
+-- States seen as others, their streams through a function: what is found in them and set in them.
 use mathlib.Core.Path.{_≡_, refl, sym, ap, ap₂, _∙_}
 use mathlib.Core.Bool.{Bool, true, false, cond}
 use mathlib.Core.List.{List, [], _∷_, map}

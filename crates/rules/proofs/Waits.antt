@@ -1,4 +1,4 @@
--- A peer's pending calls, as a list: what is good in it by itself, and what one more and some fewer leave. Assumes nothing.
+-- A peer's pending calls, as a list: what is good in it by itself, and what one more and some fewer leave.
 use mathlib.Core.Path.{_≡_, refl, sym, subst}
 use mathlib.Core.Logic.{_⊎_, inl, inr}
 use mathlib.Core.Bool.{Bool, true, false, cond, _&&_}
@@ -60,7 +60,7 @@ pub awaits-fewer : {ws vs : List Pending} → Fewer ws vs → (c s : ℕ) → aw
 unfolding awaits
 awaits-fewer f c s h = any-fewer (isCall c s) f h
 
--- "and ends that wait": it stands once, so that it waits no longer
+-- a pending call stands once, so that it is not pending once it has ended (rule 7.9)
 pub ended-ends : (c s : ℕ) (ws : List Pending) → okPending ws ≡ true → awaits c s (ended c s ws) ≡ false
 unfolding awaits ended dropFirst
 ended-ends c s [] e = refl

@@ -1,4 +1,4 @@
--- Who is meant by a destination (01, "Receivers and replies"). Assumes nothing: these are definitions.
+-- Who is meant by a destination.
 use mathlib.Core.Bool.{Bool, true, false, cond, _&&_, _||_, not}
 use mathlib.Core.List.{List, [], _∷_, _++_}
 use mathlib.Core.Option.{Option, none, some}
@@ -10,20 +10,20 @@ use Rattle.names.specs.Names.{wellKnown}
 use Rattle.policy.specs.Names.{busName, owns}
 use Rattle.rules.specs.State.{Slot, free, peer, firstBy}
 
--- a name that a peer may own: well-known, and not the bus's
+-- a name that a peer may own: well-known, and not the bus's (rule 8.4)
 abbrev pub ownable : List ℕ → Bool
 ownable name = wellKnown name && not (same name busName)
 
--- the digits of n before `after`; ten are enough for a number of 32 bits
+-- the decimal digits of n before `after`, the first of them not 0; ten are enough for a number of 32 bits (rule 7.2)
 unfoldable pub digits : ℕ → ℕ → List ℕ → List ℕ
 digits zero n after = after
 digits (suc fuel) n after = elim (eqb n 0) [ true ↦ after | false ↦ digits fuel (n / 10) ((48 + n % 10) ∷ after) ]
 
--- "peer N's unique name is `:1.N`, decimal, no leading zeros"
+-- the unique name of the peer with number n (rule 7.2)
 unfoldable pub uniqueName : ℕ → List ℕ
 uniqueName n = bytes ":1." ++ digits 10 n []
 
--- the slot's peer has that unique name, or owns that name
+-- the slot's peer has that unique name, byte for byte, or owns that name (rule 7.3)
 unfoldable pub answersTo : {S : Type 0} → List ℕ → Slot S → Bool
 answersTo text free = false
 answersTo text (peer p) = same text (uniqueName (p .number)) || owns (p .names) text
@@ -39,6 +39,7 @@ pub data Address : Type 0 where
 abbrev pub found : ℕ → ℕ → Address
 found n i = cond (ltb i n) (slot i) unknown
 
+-- the bus's name is tested first, since no peer can own it (rule 7.3)
 unfoldable pub resolve : {S : Type 0} → List (Slot S) → Option (List ℕ) → Address
 resolve slots none = absent
 resolve slots (some text) = cond (same text busName) bus (found (length slots) (firstBy (answersTo text) slots))

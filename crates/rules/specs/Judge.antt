@@ -1,5 +1,4 @@
--- The judgement of a whole message (01, "Precedence and matching", "Receivers and replies", "Answer numbers"): its answer, its receiver, and the state
--- that it leaves. Assumes nothing: these are definitions.
+-- The judgement of a whole message: its answer, its receiver, and the state that it leaves.
 use mathlib.Core.Bool.{Bool, true, false, cond, _&&_, _||_}
 use mathlib.Core.List.{List, [], _∷_, _++_, map}
 use Prim.Native.Nat.{ℕ, _+_, _*_, _%_}
@@ -21,18 +20,19 @@ pub record Judged (S : Type 0) : Type 0 where
   pub judgement : Judgement
   pub state : State S
 
--- "Refusals and 10 carry nobody."
+-- an answer that no receiver goes with (rule 7.4)
 abbrev pub refusal : ℕ → Judgement
 refusal a = record { answer = a; receiver = to.Nobody }
 
+-- a refused message changes nothing
 abbrev pub refused : {S : Type 0} → State S → ℕ → Judged S
 refused s a = record { judgement = refusal a; state = s }
 
+-- a message that passes is answered 0 with its receiver (rule 7.4)
 abbrev pub passed : {S : Type 0} → State S → Receiver → Judged S
 passed s r = record { judgement = record { answer = 0; receiver = r }; state = s }
 
--- "Send: the subject fits the sender; the name is any or one the receiver owns" and "Receive: the subject fits the receiver; the name is any or one the
--- sender owns"
+-- a send rule's subject is the sender and its name one of the receiver's; of a receive rule it is the other way round (rules 6.5 and 6.6)
 abbrev pub maySend : {S : Type 0} → List ℕ → Peer S → List (List ℕ) → Message → Bool
 maySend image sender names m = mayTransact image send (record { 0 = sender .uid }) (sender .gids) names m
 
@@ -41,13 +41,13 @@ mayReceive image receiver names m = mayTransact image receive (record { 0 = rece
 
 -- ---- to the bus
 
--- "Only send is judged; nothing waits."
+-- the bus has its one name and no policy of its own, so only send is asked (rule 7.5)
 abbrev pub toBus : {S : Type 0} → List ℕ → State S → Peer S → Message → Judged S
 toBus image s sender m = cond (maySend image sender (busName ∷ []) m) (passed s to.Bus) (refused s 22)
 
 -- ---- to one peer
 
--- "A passed call to a peer, flag bit 0 clear, waits as (caller, callee, serial)." 25 and 26 only where a wait would begin.
+-- a call that passes and awaits its reply is the last of its caller's pending calls; 25 is tested before 26 (rule 7.8)
 abbrev pub waits : {S : Type 0} → State S → ℕ → Peer S → Peer S → Header → Judged S
 waits s i sender receiver x =
     cond (awaits (receiver .number) (x .serial) (sender .pending)) (refused s 25)
@@ -57,11 +57,11 @@ waits s i sender receiver x =
     (peer (withPending sender (sender .pending ++ (record { callee = receiver .number; serial = x .serial } ∷ [])))))
     (to.Peer (receiver .number))))
 
--- a call that expects a reply: flag bit 0 clear
+-- a call that expects a reply has bit 0 of its flags clear (rule 2.2)
 abbrev pub expectsReply : Header → Bool
 expectsReply x = eqb (x .kind) call && eqb (x .flags % 2) 0
 
--- a call or a signal to a peer
+-- a call or a signal to a peer: send is asked before receive (rule 7.7)
 abbrev pub toPeer : {S : Type 0} → List ℕ → State S → ℕ → Peer S → Peer S → Message → Header → Judged S
 toPeer image s i sender receiver m x =
     cond (maySend image sender (receiver .names) m)
@@ -72,7 +72,7 @@ toPeer image s i sender receiver m x =
 
 -- ---- to everybody
 
--- "every connected peer, sender included, for whom send and receive both allow"
+-- a broadcast reaches the slot's peer, each asked about with its own names (rule 7.6)
 abbrev pub reaches : {S : Type 0} → List ℕ → Peer S → Message → Slot S → Bool
 reaches image sender m free = false
 reaches image sender m (peer receiver) = maySend image sender (receiver .names) m && mayReceive image receiver (sender .names) m
@@ -81,15 +81,17 @@ abbrev pub bit : Bool → ℕ
 bit true = 1
 bit false = 0
 
--- bit k is slot k
+-- bit k is slot k (rule 7.6)
 unfoldable pub maskOf : List Bool → ℕ
 maskOf [] = 0
 maskOf (b ∷ bs) = bit b + 2 * maskOf bs
 
+-- how many slots are reached (rule 7.6)
 unfoldable pub countOf : List Bool → ℕ
 countOf [] = 0
 countOf (b ∷ bs) = bit b + countOf bs
 
+-- a broadcast always passes, if to no slot (rule 7.6)
 abbrev pub toAll : {S : Type 0} → List ℕ → State S → Peer S → Message → Judged S
 toAll image s sender m =
     let bits = map (reaches image sender m) (s .slots) in
@@ -97,7 +99,7 @@ toAll image s sender m =
 
 -- ---- replies
 
--- "A return or error from B whose destination resolves to A passes exactly when (A, B, reply serial) waits, and ends that wait."
+-- the reply of `sender` to the peer in slot j: it passes where that peer awaits it, and is awaited no longer (rule 7.9)
 abbrev pub replyTo : {S : Type 0} → State S → ℕ → Peer S → Slot S → Header → Judged S
 replyTo s j sender free x = refused s 24
 replyTo s j sender (peer caller) x =
@@ -107,7 +109,7 @@ replyTo s j sender (peer caller) x =
     (to.Peer (caller .number)))
     (refused s 24)
 
--- "A reply to the bus or with no destination never does."
+-- only a peer awaits replies: the bus does not, nor does nobody (rule 7.9)
 abbrev pub reply : {S : Type 0} → State S → Peer S → Address → Header → Judged S
 reply s sender absent x = refused s 24
 reply s sender bus x = refused s 24
@@ -116,21 +118,23 @@ reply s sender (slot j) x = replyTo s j sender (getD (s .slots) j free) x
 
 -- ---- a call or a signal, by its address
 
+-- a free slot is nobody's (rule 7.7)
 abbrev pub toSlot : {S : Type 0} → List ℕ → State S → ℕ → Peer S → Slot S → Message → Header → Judged S
 toSlot image s i sender free m x = refused s 21
 toSlot image s i sender (peer receiver) m x = toPeer image s i sender receiver m x
 
+-- without a destination a call is for the bus and a signal for everybody (rules 7.5, 7.6 and 7.7)
 abbrev pub directed : {S : Type 0} → List ℕ → State S → ℕ → Peer S → Address → Message → Header → Judged S
 directed image s i sender absent m x = cond (eqb (x .kind) call) (toBus image s sender m) (toAll image s sender m)
 directed image s i sender bus m x = toBus image s sender m
 directed image s i sender unknown m x = refused s 21
 directed image s i sender (slot j) m x = toSlot image s i sender (getD (s .slots) j free) m x
 
--- "A return or error"
+-- returns and errors are replies (rule 7.9)
 abbrev pub isReply : Header → Bool
 isReply x = eqb (x .kind) return || eqb (x .kind) error
 
--- a whole message of the peer in slot i, whose head is h
+-- a whole message of the peer in slot i, whose head is h, over the state of that moment; a type above 4 is tested before all else (rules 7.10 and 7.11)
 unfoldable pub judged : {S : Type 0} → List ℕ → State S → ℕ → Peer S → List ℕ → Header → Judged S
 judged image s i sender h x =
     let a = resolve (s .slots) (fieldOf h (x .destination)) in

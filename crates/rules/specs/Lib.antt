@@ -4,4 +4,5 @@ pub mod Pending
 pub mod Judge
 pub mod Calls
 pub mod View
+pub mod Bench
 pub mod Places

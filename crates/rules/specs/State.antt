@@ -1,16 +1,16 @@
--- The abstract state: the last number given, and sixteen slots. `S` is what a stream is made of. Assumes nothing: these are definitions.
+-- The state that the rules speak of. `S` is what a stream is made of.
 use mathlib.Core.Bool.{Bool, true, false, cond}
 use mathlib.Core.List.{List, [], _∷_}
 use Prim.Native.Nat.{ℕ, suc}
 use lib.Dec.{eqb}
 use lib.ListN.{set}
 
--- a call that awaits its reply, kept by its caller: 01's "wait" (caller, callee, serial)
+-- a call that awaits its reply: its caller keeps it, so that its callee and its serial say which it is (rule 1.2)
 pub record Pending : Type 0 where
   pub callee : ℕ
   pub serial : ℕ
 
--- a connected peer
+-- a connected peer (rule 1.1)
 pub record Peer (S : Type 0) : Type 0 where
   pub number : ℕ
   pub uid : ℕ
@@ -19,10 +19,12 @@ pub record Peer (S : Type 0) : Type 0 where
   pub names : List (List ℕ)
   pub stream : S
 
+-- a slot is free or has a peer (rule 1.1)
 pub data Slot (S : Type 0) : Type 0 where
   free : Slot S
   peer : Peer S → Slot S
 
+-- the last number that was given to a peer, and the slots (rule 1.1)
 pub record State (S : Type 0) : Type 0 where
   pub last : ℕ
   pub slots : List (Slot S)
@@ -31,6 +33,7 @@ abbrev pub isFree : {S : Type 0} → Slot S → Bool
 isFree free = true
 isFree (peer p) = false
 
+-- the slot's peer has that number (rule 8.8)
 abbrev pub isPeer : {S : Type 0} → ℕ → Slot S → Bool
 isPeer n free = false
 isPeer n (peer p) = eqb (p .number) n

@@ -11,7 +11,7 @@ pub enum Receiver {
     Slots(u16, u32),
 }
 
-// An answer number of 01 and the receiver.
+// An answer number and the receiver.
 pub struct Judgement {
     pub answer: u8,
     pub receiver: Receiver,

@@ -1,4 +1,4 @@
--- `image::are_owns` meets its contract. The loop's invariant: of the rules, those below `i` are left to be tested. Assumes nothing.
+-- `image::are_owns` meets its contract. The loop's invariant: of the rules, those below `i` are left to be tested.
 use Rattle.image.specs.Image.{ownCount}
 use Rattle.image.specs.Good.{goodOwn}
 use Rattle.wire.proofs.Below.{Testing, testing}

@@ -1,4 +1,4 @@
--- `image::check` meets its contract. Assumes nothing.
+-- `image::check` meets its contract.
 use Rattle.image.proofs.Ways.{no-header, all-good, some-bad}
 use Rattle.image.proofs.Holds.{header-passed}
 use borrow.Author.Needs.{needs}

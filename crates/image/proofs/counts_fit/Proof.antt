@@ -1,4 +1,4 @@
--- `image::counts_fit` meets its contract. Assumes nothing.
+-- `image::counts_fit` meets its contract.
 use Rattle.image.proofs.Ways.{counts}
 use borrow.Author.Needs.{needs}
 use Rattle.image.proofs.counts_fit.Statement.{statement}

@@ -1,4 +1,4 @@
--- `image::has_header` meets its contract. Assumes nothing.
+-- `image::has_header` meets its contract.
 use Rattle.image.proofs.Ways.{too-short, too-long, header-is}
 use borrow.Author.Needs.{needs}
 use Rattle.image.proofs.has_header.Statement.{statement}

@@ -1,4 +1,4 @@
--- `image::has_strings` meets its contract. Assumes nothing.
+-- `image::has_strings` meets its contract.
 use Rattle.image.proofs.Ways.{strings-are}
 use borrow.Author.Needs.{needs}
 use Rattle.image.proofs.has_strings.Statement.{statement}

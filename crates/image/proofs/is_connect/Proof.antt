@@ -1,4 +1,4 @@
--- `image::is_connect` meets its contract. Assumes nothing.
+-- `image::is_connect` meets its contract.
 use Rattle.image.proofs.Ways.{connect-is}
 use borrow.Author.Needs.{needs}
 use Rattle.image.proofs.is_connect.Statement.{statement}

@@ -1,4 +1,4 @@
--- `image::is_matcher` meets its contract. Assumes nothing.
+-- `image::is_matcher` meets its contract.
 use borrow.Author.Needs.{needs}
 use Rattle.image.proofs.is_matcher.Statement.{statement}
 use Rattle.image.proofs.is_matcher.Tie as tie

@@ -1,4 +1,4 @@
--- `image::is_own` meets its contract. Assumes nothing.
+-- `image::is_own` meets its contract.
 use Rattle.image.proofs.Ways.{own-is}
 use borrow.Author.Needs.{needs}
 use Rattle.image.proofs.is_own.Statement.{statement}

@@ -1,4 +1,4 @@
--- `image::is_owned` meets its contract. Assumes nothing.
+-- `image::is_owned` meets its contract.
 use Rattle.image.proofs.Ways.{any-name, one-name}
 use borrow.Author.Needs.{needs}
 use Rattle.image.proofs.is_owned.Statement.{statement}

@@ -1,4 +1,4 @@
--- `image::is_string` meets its contract. Assumes nothing.
+-- `image::is_string` meets its contract.
 use Rattle.image.proofs.Ways.{outside, inside}
 use borrow.Author.Needs.{needs}
 use Rattle.image.proofs.is_string.Statement.{statement}

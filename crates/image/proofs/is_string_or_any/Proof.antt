@@ -1,4 +1,4 @@
--- `image::is_string_or_any` meets its contract. Assumes nothing.
+-- `image::is_string_or_any` meets its contract.
 use Rattle.image.proofs.Ways.{any, literal}
 use borrow.Author.Needs.{needs}
 use Rattle.image.proofs.is_string_or_any.Statement.{statement}

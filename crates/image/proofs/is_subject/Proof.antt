@@ -1,4 +1,4 @@
--- `image::is_subject` meets its contract. Assumes nothing.
+-- `image::is_subject` meets its contract.
 use Rattle.image.proofs.Ways.{subject}
 use borrow.Author.Needs.{needs}
 use Rattle.image.proofs.is_subject.Statement.{statement}

@@ -1,4 +1,4 @@
--- `image::is_transaction` meets its contract. Assumes nothing.
+-- `image::is_transaction` meets its contract.
 use Rattle.image.proofs.Ways.{transaction-bad, transaction-is}
 use borrow.Author.Needs.{needs}
 use Rattle.image.proofs.is_transaction.Statement.{statement}

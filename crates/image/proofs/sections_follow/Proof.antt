@@ -1,4 +1,4 @@
--- `image::sections_follow` meets its contract. Assumes nothing.
+-- `image::sections_follow` meets its contract.
 use Rattle.image.proofs.Ways.{sections}
 use borrow.Author.Needs.{needs}
 use Rattle.image.proofs.sections_follow.Statement.{statement}

@@ -1,4 +1,4 @@
--- `image::text` meets its contract. Assumes nothing.
+-- `image::text` meets its contract.
 use Rattle.image.proofs.Ways.{cited}
 use borrow.Author.Needs.{needs}
 use Rattle.image.proofs.text.Statement.{statement}

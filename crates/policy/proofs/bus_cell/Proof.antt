@@ -1,4 +1,4 @@
--- `policy::bus_cell` meets its contract: both sides compute. Assumes nothing.
+-- `policy::bus_cell` meets its contract: both sides compute.
 use mathlib.Core.Path.{refl}
 use Rattle.wire.specs.Bytes.{pad}
 use Rattle.policy.specs.Names.{cellOf}

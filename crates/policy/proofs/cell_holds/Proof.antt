@@ -1,4 +1,4 @@
--- `policy::cell_holds` meets its contract. Assumes nothing.
+-- `policy::cell_holds` meets its contract.
 use Rattle.policy.proofs.Fits.{cuts}
 use Rattle.policy.proofs.cell_holds.Statement.{statement}
 use Rattle.policy.proofs.cell_holds.Tie as tie

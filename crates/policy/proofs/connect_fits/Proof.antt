@@ -1,4 +1,4 @@
--- `policy::connect_fits` meets its contract. Assumes nothing.
+-- `policy::connect_fits` meets its contract.
 use Rattle.policy.proofs.Fits.{fits}
 use Rattle.policy.proofs.connect_fits.Statement.{statement}
 use Rattle.policy.proofs.connect_fits.Tie as tie

@@ -1,4 +1,4 @@
--- `policy::in_groups` meets its contract. Assumes nothing.
+-- `policy::in_groups` meets its contract.
 use lib.ListN.{length}
 use Prim.Native.Nat.{_-_}
 use Rattle.policy.proofs.Subjects.{Looking, looking}

@@ -1,4 +1,4 @@
--- `policy::interface_fits` meets its contract. Assumes nothing.
+-- `policy::interface_fits` meets its contract.
 use Rattle.policy.proofs.Fits.{fits}
 use Rattle.policy.proofs.interface_fits.Statement.{statement}
 use Rattle.policy.proofs.interface_fits.Tie as tie

@@ -1,4 +1,4 @@
--- `policy::may_connect` meets its contract. Assumes nothing.
+-- `policy::may_connect` meets its contract.
 use Prim.Native.Nat.{_-_}
 use Rattle.policy.proofs.Decisions.{Connecting, connecting, connect-found}
 use Rattle.policy.proofs.may_connect.Statement.{statement}

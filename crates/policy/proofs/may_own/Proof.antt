@@ -1,4 +1,4 @@
--- `policy::may_own` meets its contract. Assumes nothing.
+-- `policy::may_own` meets its contract.
 use Prim.Native.Nat.{_-_}
 use Rattle.policy.proofs.Decisions.{Owning, owning, own-found}
 use Rattle.policy.proofs.may_own.Statement.{statement}

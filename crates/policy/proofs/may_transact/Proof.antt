@@ -1,5 +1,5 @@
 -- `policy::may_transact` meets its contract. The invariant of the loops over contexts and rules: the decision is left to the rules below the context
--- and place reached. That of the loop over names: the rule matches if its name is among the names from cell `j` on. Assumes nothing.
+-- and place reached. That of the loop over names: the rule matches if its name is among the names from cell `j` on.
 use Prim.Native.Nat.{_-_, _/_}
 use lib.ListN.{length}
 use Rattle.policy.proofs.Transactions.{Deciding, Naming, deciding, decide-place, decide-named, decide-any, naming-more, naming-here}

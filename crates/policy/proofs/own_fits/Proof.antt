@@ -1,4 +1,4 @@
--- `policy::own_fits` meets its contract. Assumes nothing.
+-- `policy::own_fits` meets its contract.
 use Rattle.policy.proofs.Fits.{fits}
 use Rattle.policy.proofs.own_fits.Statement.{statement}
 use Rattle.policy.proofs.own_fits.Tie as tie

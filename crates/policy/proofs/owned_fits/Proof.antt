@@ -1,4 +1,4 @@
--- `policy::owned_fits` meets its contract. Assumes nothing.
+-- `policy::owned_fits` meets its contract.
 use Rattle.policy.proofs.Fits.{fits}
 use Rattle.policy.proofs.owned_fits.Statement.{statement}
 use Rattle.policy.proofs.owned_fits.Tie as tie

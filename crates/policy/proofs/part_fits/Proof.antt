@@ -1,4 +1,4 @@
--- `policy::part_fits` meets its contract. Assumes nothing.
+-- `policy::part_fits` meets its contract.
 use Rattle.policy.proofs.Fits.{fits}
 use Rattle.policy.proofs.part_fits.Statement.{statement}
 use Rattle.policy.proofs.part_fits.Tie as tie

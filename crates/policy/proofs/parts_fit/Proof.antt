@@ -1,4 +1,4 @@
--- `policy::parts_fit` meets its contract. Assumes nothing.
+-- `policy::parts_fit` meets its contract.
 use Rattle.policy.proofs.Fits.{fits}
 use Rattle.policy.proofs.parts_fit.Statement.{statement}
 use Rattle.policy.proofs.parts_fit.Tie as tie

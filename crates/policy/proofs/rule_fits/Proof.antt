@@ -1,4 +1,4 @@
--- `policy::rule_fits` meets its contract. Assumes nothing.
+-- `policy::rule_fits` meets its contract.
 use Rattle.policy.proofs.Fits.{fits}
 use Rattle.policy.proofs.rule_fits.Statement.{statement}
 use Rattle.policy.proofs.rule_fits.Tie as tie

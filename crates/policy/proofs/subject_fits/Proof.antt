@@ -1,4 +1,4 @@
--- `policy::subject_fits` meets its contract. Assumes nothing.
+-- `policy::subject_fits` meets its contract.
 use Rattle.policy.proofs.Subjects.{subjects}
 use Rattle.policy.proofs.subject_fits.Statement.{statement}
 use Rattle.policy.proofs.subject_fits.Tie as tie

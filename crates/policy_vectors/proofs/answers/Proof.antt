@@ -1,4 +1,4 @@
--- `policy_vectors::answers` meets its contract. Assumes nothing.
+-- `policy_vectors::answers` meets its contract.
 use Rattle.policy_vectors.proofs.Good.{testing}
 use Rattle.policy_vectors.proofs.answers.Statement.{statement}
 use Rattle.policy_vectors.proofs.answers.Tie as tie

@@ -1,4 +1,4 @@
--- `policy_vectors::ask_pass` meets its contract. Assumes nothing.
+-- `policy_vectors::ask_pass` meets its contract.
 use Prim.Native.Nat.{_-_}
 use Rattle.policy_vectors.proofs.Good.{Kept, testing}
 use Rattle.policy_vectors.proofs.ask_pass.Statement.{statement}

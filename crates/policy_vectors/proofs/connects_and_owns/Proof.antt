@@ -1,4 +1,4 @@
--- `policy_vectors::connects_and_owns` meets its contract. Assumes nothing.
+-- `policy_vectors::connects_and_owns` meets its contract.
 use Prim.Native.Nat.{_-_}
 use Rattle.policy_vectors.proofs.Good.{Kept, testing}
 use Rattle.policy_vectors.proofs.connects_and_owns.Statement.{statement}

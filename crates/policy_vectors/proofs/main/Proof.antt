@@ -1,4 +1,4 @@
--- `policy_vectors::main` meets its contract. Assumes nothing.
+-- `policy_vectors::main` meets its contract.
 use Prim.Native.Nat.{_-_, _≤_}
 use Rattle.policy_vectors.proofs.Good.{testing}
 use Rattle.policy_vectors.proofs.main.Statement.{statement}

@@ -1,4 +1,4 @@
--- `policy_vectors::write_text` meets its contract. Assumes nothing.
+-- `policy_vectors::write_text` meets its contract.
 use Prim.Native.Nat.{_-_}
 use Rattle.policy_vectors.proofs.Good.{Kept, testing}
 use Rattle.policy_vectors.proofs.write_text.Statement.{statement}

@@ -1,0 +1,44 @@
+-- The worked examples hold of the rules: a statement for each part of the table, which antt computes.
+use mathlib.Core.Path.{_≡_, refl}
+use mathlib.Core.Bool.{true}
+use mathlib.Core.List.{List}
+use Prim.Native.Nat.{ℕ}
+use Rattle.wire.specs.Lists.{agrees}
+use Rattle.wire.specs.Bytes.{same}
+use Rattle.wire.specs.Words.{wordAt, wordBytes}
+use Rattle.names.specs.Names.{startsWith, wellKnown}
+use Rattle.policy.specs.Precedence.{deciding}
+use Rattle.policy.specs.Names.{owns}
+use Rattle.policy.specs.Subjects.{subjectFits}
+use Rattle.policy.specs.Matching.{connectFits, ownedFits, ownFits, messageOf, partFits, interfaceFits, partsFit, nameFits, transactionFits, transactionMatches}
+use Rattle.policy.specs.Decisions.{connectDecides, mayConnect, ownDecides, mayOwn, transactionDecides, mayTransact}
+use Rattle.stream.specs.Stream.{offer}
+use Rattle.rules.specs.State.{firstBy, dropFirst}
+use Rattle.rules.specs.Addresses.{digits, uniqueName, answersTo, resolve}
+use Rattle.rules.specs.Pending.{awaits, ended, endedAll}
+use Rattle.rules.specs.Judge.{maskOf, countOf, judged}
+use Rattle.rules.specs.Calls.{connect, own, released, release, piece, disconnect}
+use Rattle.rules.specs.Bench.{Line, messages, replies, connects, claims, pieces}
+
+abbrev Holds : List Line → Type 0
+Holds lines = agrees (λ (given : List ℕ). given) same lines ≡ true
+
+pub messages-hold : Holds messages
+unfolding same wordAt wordBytes deciding owns subjectFits messageOf partFits interfaceFits partsFit nameFits transactionFits transactionMatches transactionDecides mayTransact firstBy digits uniqueName answersTo resolve awaits maskOf countOf judged
+messages-hold = refl
+
+pub replies-hold : Holds replies
+unfolding same wordAt wordBytes deciding owns subjectFits messageOf partFits interfaceFits partsFit nameFits transactionFits transactionMatches transactionDecides mayTransact firstBy dropFirst digits uniqueName answersTo resolve awaits ended endedAll judged disconnect
+replies-hold = refl
+
+pub connects-hold : Holds connects
+unfolding same wordAt wordBytes deciding connectFits connectDecides mayConnect firstBy connect
+connects-hold = refl
+
+pub claims-hold : Holds claims
+unfolding same wordAt wordBytes startsWith wellKnown deciding owns subjectFits ownedFits ownFits ownDecides mayOwn firstBy dropFirst own released release
+claims-hold = refl
+
+pub pieces-hold : Holds pieces
+unfolding same offer firstBy endedAll piece disconnect
+pieces-hold = refl
