@@ -21,7 +21,7 @@ fn image_answer(image: &[u8]) -> u8
     }
 }
 
-// Writes an empty guard over memory of the right length.
+// Begins anew in memory of the right length (rule 8.2).
 pub fn start(memory: &mut [u8]) -> u8
     ensures { λ r. ⌜ Did (startOn (now (memory .entry))) r (now (memory .exit)) ⌝ }
 {
@@ -32,7 +32,7 @@ pub fn start(memory: &mut [u8]) -> u8
     0
 }
 
-// A new peer, with its uid and gids: its number and slot.
+// A new peer, with its uid and gids: its number and slot (rule 8.3).
 pub fn connect(image: &[u8], memory: &mut [u8], uid: u32, gids: &[u32]) -> Connected
     ensures { λ r. ⌜ Did (connectOn (now (image .entry)) (now (memory .entry)) uid (now (gids .entry))) r (now (memory .exit)) ⌝ }
 {
@@ -46,7 +46,7 @@ pub fn connect(image: &[u8], memory: &mut [u8], uid: u32, gids: &[u32]) -> Conne
     peers::connect(image, memory, uid, gids)
 }
 
-// A peer asks to own a well-known name.
+// A peer asks to own a well-known name (rule 8.4).
 pub fn own(image: &[u8], memory: &mut [u8], peer: u32, name: &[u8]) -> u8
     ensures { λ r. ⌜ Did (ownOn (now (image .entry)) (now (memory .entry)) peer (now (name .entry))) r (now (memory .exit)) ⌝ }
 {
@@ -60,7 +60,7 @@ pub fn own(image: &[u8], memory: &mut [u8], peer: u32, name: &[u8]) -> u8
     peers::own(image, memory, peer, name)
 }
 
-// A peer gives a name up.
+// A peer gives a name up (rule 8.5).
 pub fn release(memory: &mut [u8], peer: u32, name: &[u8]) -> u8
     ensures { λ r. ⌜ Did (releaseOn (now (memory .entry)) peer (now (name .entry))) r (now (memory .exit)) ⌝ }
 {
@@ -70,7 +70,7 @@ pub fn release(memory: &mut [u8], peer: u32, name: &[u8]) -> u8
     peers::release(memory, peer, name)
 }
 
-// A piece of a peer's stream: at most one message of it is taken and judged.
+// A piece of a peer's stream: at most one message of it is taken and judged (rules 8.6 and 9.2).
 pub fn piece(image: &[u8], memory: &mut [u8], peer: u32, bytes: &[u8]) -> Taken
     ensures { λ r. ⌜ Did (pieceOn (now (image .entry)) (now (memory .entry)) peer (now (bytes .entry))) r (now (memory .exit)) ⌝ }
 {
@@ -84,7 +84,7 @@ pub fn piece(image: &[u8], memory: &mut [u8], peer: u32, bytes: &[u8]) -> Taken
     pieces::piece(image, memory, peer, bytes)
 }
 
-// A peer goes: its names and its pending calls, made and awaited, end.
+// A peer goes: its names and its pending calls, made and awaited, end (rule 8.7).
 pub fn disconnect(memory: &mut [u8], peer: u32) -> Gone
     ensures { λ r. ⌜ Did (disconnectOn (now (memory .entry)) peer) r (now (memory .exit)) ⌝ }
 {
