@@ -1,4 +1,4 @@
--- The pending calls of a slot, one after the other. Assumes nothing.
+-- The pending calls of a slot, one after the other.
 use mathlib.Core.Path.{_≡_, refl, sym, _∙_}
 use mathlib.Core.Bool.{Bool, true, false, not, _&&_, and-false}
 use mathlib.Core.List.{List}

@@ -1,4 +1,4 @@
--- Whether a slot passes, by the place at which a search ended. Assumes nothing.
+-- Whether a slot passes, by the place at which a search ended.
 use mathlib.Core.Path.{_≡_, sym, ap, _∙_}
 use mathlib.Core.Bool.{Bool, not}
 use mathlib.Core.List.{List}

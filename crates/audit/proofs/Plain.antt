@@ -1,4 +1,4 @@
--- A slot is the bytes of the peer that is read off it exactly where its tables have their shape. Assumes nothing.
+-- A slot is the bytes of the peer that is read off it exactly where its tables have their shape.
 use mathlib.Core.Path.{_≡_, refl, sym, ap, _∙_}
 use mathlib.Core.Bool.{Bool, true, false, _&&_}
 use mathlib.Core.List.{List, _++_}

@@ -1,4 +1,4 @@
--- The shape of a slot, table by table: what the loops find. Assumes nothing.
+-- The shape of a slot, table by table: what the loops find.
 use mathlib.Core.Path.{_≡_, refl, sym, _∙_}
 use mathlib.Core.Bool.{Bool, true, false, not, _&&_}
 use mathlib.Core.List.{List, [], _∷_}

@@ -1,4 +1,4 @@
--- A slot, and the slots one after the other. Assumes nothing.
+-- A slot, and the slots one after the other.
 use mathlib.Core.Path.{_≡_, refl, sym, _∙_}
 use mathlib.Core.Bool.{Bool, true, false, not, _&&_, and-true, and-false}
 use mathlib.Core.List.{List, [], _∷_}

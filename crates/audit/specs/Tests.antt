@@ -1,5 +1,4 @@
 -- What the test of memory asks of one name and of one pending call of a slot, each a line of `goodNames` and `goodPending`; and of its shape.
--- Assumes nothing: these are definitions.
 use mathlib.Core.Bool.{Bool, not, _&&_}
 use mathlib.Core.List.{List}
 use Prim.Native.Nat.{ℕ, _+_, _-_, _*_}
@@ -39,7 +38,7 @@ callTest m i j =
     && leb 1 (serialAt m i j)
     && not (awaits (calleeAt m i j) (serialAt m i j) (drop (j + 1) (peerAt m i .pending)))
 
--- ---- shape: every place not in use is zero
+-- ---- shape: zeros behind what a slot holds (rule 10.5)
 
 -- a table at a place has at most k things of w bytes, and zeros behind them
 unfoldable pub tableTest : List ℕ → ℕ → ℕ → ℕ → Bool

@@ -153,7 +153,7 @@ fn are_cells_plain(memory: &[u8], i: usize) -> bool
     )
 }
 
-// Every place of slot i that is not in use is zero.
+// Slot i is zero behind what it holds (rule 10.5).
 fn is_shaped(memory: &[u8], i: usize) -> bool
     requires { ⌜ At (now memory) i ⌝ }
     ensures { λ r. ⌜ r ≡ shapeTest (now (memory .entry)) i ⌝ }
@@ -207,7 +207,7 @@ fn is_slot_good(memory: &[u8], i: usize, last: u32) -> bool
     is_peer_good(memory, i, number, last)
 }
 
-// The memory is good: 01's test for answer 51.
+// The memory is good; any other is answered with 51 (rule 10.6).
 pub fn is_good(memory: &[u8]) -> bool
     ensures { λ r. ⌜ r ≡ good (now (memory .entry)) ⌝ }
 {

@@ -8,19 +8,20 @@ use rules::no_connect;
 use rules::no_gone;
 use rules::no_piece;
 ghost use mathlib.Core.Path.{_≡_};
-ghost use Rattle.image.specs.Good.{goodImage};
+ghost use Rattle.image.specs.Good.{imageAnswer};
 ghost use Rattle.memory.specs.Calls.{startOn, connectOn, ownOn, releaseOn, pieceOn, disconnectOn, Did};
 
-fn is_image_good(image: &[u8]) -> bool
-    ensures { λ r. ⌜ r ≡ goodImage (now (image .entry)) ⌝ }
+// What a call that takes this image answers before all else (rules 5.9 and 8.1); 0 where it goes on.
+fn image_answer(image: &[u8]) -> u8
+    ensures { λ r. ⌜ r ≡ imageAnswer (now (image .entry)) ⌝ }
 {
     match image::check(image) {
-        Outcome::Good => true,
-        Outcome::Bad => false,
+        Outcome::Good => 0,
+        Outcome::Bad => 50,
     }
 }
 
-// Writes an empty guard over memory of the right length.
+// Begins anew in memory of the right length (rule 8.2).
 pub fn start(memory: &mut [u8]) -> u8
     ensures { λ r. ⌜ Did (startOn (now (memory .entry))) r (now (memory .exit)) ⌝ }
 {
@@ -31,12 +32,13 @@ pub fn start(memory: &mut [u8]) -> u8
     0
 }
 
-// A new peer, with its uid and gids: its number and slot.
+// A new peer, with its uid and gids: its number and slot (rule 8.3).
 pub fn connect(image: &[u8], memory: &mut [u8], uid: u32, gids: &[u32]) -> Connected
     ensures { λ r. ⌜ Did (connectOn (now (image .entry)) (now (memory .entry)) uid (now (gids .entry))) r (now (memory .exit)) ⌝ }
 {
-    if !is_image_good(image) {
-        return no_connect(50);
+    let answer = image_answer(image);
+    if answer != 0 {
+        return no_connect(answer);
     }
     if !audit::is_good(memory) {
         return no_connect(51);
@@ -44,12 +46,13 @@ pub fn connect(image: &[u8], memory: &mut [u8], uid: u32, gids: &[u32]) -> Conne
     peers::connect(image, memory, uid, gids)
 }
 
-// A peer asks to own a well-known name.
+// A peer asks to own a well-known name (rule 8.4).
 pub fn own(image: &[u8], memory: &mut [u8], peer: u32, name: &[u8]) -> u8
     ensures { λ r. ⌜ Did (ownOn (now (image .entry)) (now (memory .entry)) peer (now (name .entry))) r (now (memory .exit)) ⌝ }
 {
-    if !is_image_good(image) {
-        return 50;
+    let answer = image_answer(image);
+    if answer != 0 {
+        return answer;
     }
     if !audit::is_good(memory) {
         return 51;
@@ -57,7 +60,7 @@ pub fn own(image: &[u8], memory: &mut [u8], peer: u32, name: &[u8]) -> u8
     peers::own(image, memory, peer, name)
 }
 
-// A peer gives a name up.
+// A peer gives a name up (rule 8.5).
 pub fn release(memory: &mut [u8], peer: u32, name: &[u8]) -> u8
     ensures { λ r. ⌜ Did (releaseOn (now (memory .entry)) peer (now (name .entry))) r (now (memory .exit)) ⌝ }
 {
@@ -67,12 +70,13 @@ pub fn release(memory: &mut [u8], peer: u32, name: &[u8]) -> u8
     peers::release(memory, peer, name)
 }
 
-// A piece of a peer's stream: at most one message of it is taken and judged.
+// A piece of a peer's stream: at most one message of it is taken and judged (rules 8.6 and 9.2).
 pub fn piece(image: &[u8], memory: &mut [u8], peer: u32, bytes: &[u8]) -> Taken
     ensures { λ r. ⌜ Did (pieceOn (now (image .entry)) (now (memory .entry)) peer (now (bytes .entry))) r (now (memory .exit)) ⌝ }
 {
-    if !is_image_good(image) {
-        return no_piece(50);
+    let answer = image_answer(image);
+    if answer != 0 {
+        return no_piece(answer);
     }
     if !audit::is_good(memory) {
         return no_piece(51);
@@ -80,7 +84,7 @@ pub fn piece(image: &[u8], memory: &mut [u8], peer: u32, bytes: &[u8]) -> Taken
     pieces::piece(image, memory, peer, bytes)
 }
 
-// A peer goes: its names and its pending calls, made and awaited, end.
+// A peer goes: its names and its pending calls, made and awaited, end (rule 8.7).
 pub fn disconnect(memory: &mut [u8], peer: u32) -> Gone
     ensures { λ r. ⌜ Did (disconnectOn (now (memory .entry)) peer) r (now (memory .exit)) ⌝ }
 {

@@ -1,4 +1,4 @@
--- Who answers to a text, and where a message goes. Assumes nothing.
+-- Who answers to a text, and where a message goes.
 use mathlib.Core.Path.{_≡_, sym, ap, _∙_}
 use mathlib.Core.Bool.{Bool, true, false, false≢true}
 use mathlib.Core.List.{List}

@@ -1,4 +1,4 @@
--- Pending calls of a slot written: one more at the end, one taken out. Assumes nothing.
+-- Pending calls of a slot written: one more at the end, one taken out.
 use mathlib.Core.Path.{_≡_, refl, sym, ap, _∙_}
 use mathlib.Core.List.{List, _++_}
 use Prim.Native.Nat.{ℕ, _+_, _-_, _*_, _≤_, _<_}

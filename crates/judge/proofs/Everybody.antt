@@ -1,4 +1,4 @@
--- The mask of a signal's receivers, from the last slot down. Assumes nothing.
+-- The mask of a signal's receivers, from the last slot down.
 use mathlib.Core.Path.{_≡_, sym, ap, _∙_}
 use mathlib.Core.Bool.{Bool, true, false}
 use mathlib.Core.List.{List, map}

@@ -1,4 +1,4 @@
--- A call or a signal to one peer, and replies. Assumes nothing.
+-- A call or a signal to one peer, and replies.
 use mathlib.Core.Path.{_≡_, refl, sym, ap, _∙_}
 use mathlib.Core.Bool.{Bool, true, false, cond, not}
 use mathlib.Core.List.{List}
@@ -53,8 +53,8 @@ module _ {m : List ℕ} {i n : ℕ} (g : Seated m i) (h : n ≡ length (peerAt m
   wait-twice b l q = record { left = λ p x e y. rw (e, y, waits-yes h a l) (left-as-is g b q) }
 
   module _ (l : n ≤ f) where
-    pub wait-full : ((k : ℕ) → Fits w8 (getD m k 0)) → 16 ≤ n → {r : Judgement} → r ≡ refusal 26 → Waits m i c s r m
-    wait-full b k q =
+    pub wait-full : ((k : ℕ) → Fits w8 (getD m k 0)) → {t : ℕ} → t ≤ n → 16 ≤ t → {r : Judgement} → r ≡ refusal 26 → Waits m i c s r m
+    wait-full b k z q =
         let t = le-leb 16 (length (peerAt m i .pending)) (omega arith) in
         record { left = λ p x e y. rw (e, y, waits-no h a l, t) (left-as-is g b q) }
 

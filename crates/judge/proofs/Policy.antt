@@ -1,4 +1,4 @@
--- What policy says, asked of one slot about the names of another's or of the bus. Assumes nothing.
+-- What policy says, asked of one slot about the names of another's or of the bus.
 use mathlib.Core.Path.{_≡_, sym, ap, _∙_}
 use mathlib.Core.Bool.{Bool, true, false, not}
 use mathlib.Core.List.{List, [], _∷_}
@@ -46,18 +46,23 @@ pub ruleset asking-peer = (asks-peer, needs)
 
 pub says-is : (image : List ℕ) (direction : ℕ) (m : List ℕ) (s o : ℕ) (head : List ℕ) (x : Header) → Seated m o → ((j : ℕ) → Fits w8 (getD m j 0))
     → {n : ℕ} → n ≡ length (peerAt m o .names)
+    → {end : ℕ} → end ≡ 4 + 3292 * o + 212 + 256 * n
     → {r : Bool}
-    → Asks image direction m s (take (4 + 3292 * o + 212 + 256 * n - (4 + 3292 * o + 212)) (drop (4 + 3292 * o + 212) m)) head x r
+    → Asks image direction m s (take (end - (4 + 3292 * o + 212)) (drop (4 + 3292 * o + 212) m)) head x r
     → Says image direction m s o head x r
-says-is image direction m s o head x p b {n} e a =
+says-is image direction m s o head x p b {n} e t a =
     let h : o < 16 = p .below in
     let l : length m ≡ 52676 = p .sized in
     let c = held-counted m o (p .held) h (p .some) in
     let q : namesIn (take (256 * n) (drop (4 + 3292 * o + 212) m)) ≡ peerAt m o .names
     = names-in m (4 + 3292 * o) n (λ j. b j .fits) (omega arith) (e ∙ c .names) (omega (arith, c .names, c .fewNames)) in
-    record { is = a .is ∙ rw (cut-at (4 + 3292 * o + 212) (256 * n) m, q) }
+    record { is = a .is ∙ rw (t, cut-at (4 + 3292 * o + 212) (256 * n) m, q) }
 
-pub ruleset saying = (says-is, needs)
+-- the cells' length, whichever factor comes first
+pub cells-end : (a n : ℕ) → a + n * 256 ≡ a + 256 * n
+cells-end a n = omega arith
+
+pub ruleset saying = (says-is, cells-end, needs)
 
 -- ---- the bus
 

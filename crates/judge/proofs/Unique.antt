@@ -1,4 +1,4 @@
--- The unique name of a number: its digits are written from the last. Assumes nothing.
+-- The unique name of a number: its digits are written from the last.
 use mathlib.Core.Path.{_≡_, refl, sym, ap, _∙_}
 use mathlib.Core.Bool.{Bool, true, false, not, _&&_}
 use mathlib.Core.List.{List, [], _∷_, _++_, append-assoc}

@@ -1,4 +1,4 @@
--- A message by its destination, and the judgement of a whole message. Assumes nothing.
+-- A message by its destination, and the judgement of a whole message.
 use mathlib.Core.Path.{_≡_, subst}
 use mathlib.Core.Bool.{Bool, true, false, cond}
 use mathlib.Core.List.{List, [], _∷_}

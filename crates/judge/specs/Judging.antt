@@ -1,4 +1,4 @@
--- What a judgement requires and ensures. Assumes nothing: these are definitions.
+-- What a judgement requires and ensures.
 use mathlib.Core.Path.{_≡_}
 use mathlib.Core.List.{List}
 use Prim.Native.Nat.{ℕ}
@@ -25,6 +25,6 @@ pub record Left (j : Judged Tail) (r : Judgement) (m : List ℕ) : Type 0 where
   pub judgement : r ≡ j .judgement
   pub memory : m ≡ memoryOf (j .state)
 
--- the judgement is 01's, and memory is the bytes of the state that it leaves
+-- the judgement is that of the rules (rule 7.11), and memory is the bytes of the state that it leaves
 abbrev pub Judges : List ℕ → List ℕ → ℕ → List ℕ → Header → Judgement → List ℕ → Type 0
 Judges image m i head x r m′ = Left (judged image (stateOf m) i (peerAt m i) head x) r m′

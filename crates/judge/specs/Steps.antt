@@ -1,4 +1,4 @@
--- What the private functions of a judgement require and ensure, each in the terms of a part of `judged`. Assumes nothing: these are definitions.
+-- What the private functions of a judgement require and ensure, each in the terms of a part of `judged`.
 use mathlib.Core.Path.{_≡_}
 use mathlib.Core.Bool.{Bool, cond}
 use mathlib.Core.List.{List, [], _∷_, _++_}

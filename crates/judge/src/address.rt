@@ -17,7 +17,7 @@ pub struct Text {
     pub from: usize,
 }
 
-// Who is meant by a destination field: it is absent, the bus, the peer of a slot, or nobody.
+// Who is meant by a destination field: it is absent, the bus, the peer of a slot, or nobody (rule 7.3).
 pub enum Destination {
     Absent,
     Bus,
@@ -25,7 +25,7 @@ pub enum Destination {
     Unknown,
 }
 
-// `:1.N`, decimal, no leading zeros: the digits from the last, then the prefix.
+// The unique name of a peer (rule 7.2), written from its last digit on, and then the prefix.
 fn unique_name(number: u32) -> Text
     ensures { λ r. ⌜ Spelled number r ⌝ }
 {

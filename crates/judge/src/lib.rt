@@ -24,7 +24,7 @@ ghost use Rattle.slots.specs.Slots.{At, Seated};
 ghost use Rattle.judge.specs.Judging.{Message, Judges};
 ghost use Rattle.judge.specs.Steps.{Stands, Asks, Says, ToBus, Reaches, ToAll, Waits, Delivers, Answer, ToPeer, RepliesTo, Replies, Directs};
 
-// "Types: 1 call, 2 return, 3 error, 4 signal."
+// The types of messages (rule 2.2).
 const CALL: u8 = 1;
 
 const RETURN: u8 = 2;
@@ -101,7 +101,7 @@ fn may(
 
 // ---- judgements
 
-// "Only send is judged; nothing waits."
+// To the bus: only send is asked, and no call becomes pending (rule 7.5).
 fn to_bus(image: &[u8], memory: &[u8], i: usize, head: &[u8], header: Header) -> Judgement
     requires { ⌜ (Asked (now image) (now head) header) × (Seated (now memory) i) ⌝ }
     ensures { λ r. ⌜ ToBus (now (image .entry)) (now (memory .entry)) i (now (head .entry)) header r ⌝ }
@@ -116,7 +116,7 @@ fn to_bus(image: &[u8], memory: &[u8], i: usize, head: &[u8], header: Header) ->
     }
 }
 
-// Slot k is a peer's for whom send and receive both allow.
+// Slot k is a peer's, and policy lets the signal of slot i out and in (rule 7.6).
 fn reaches(image: &[u8], memory: &[u8], i: usize, k: usize, head: &[u8], header: Header) -> bool
     requires { ⌜ (Asked (now image) (now head) header) × (Seated (now memory) i) × (k < 16) ⌝ }
     ensures { λ r. ⌜ Reaches (now (image .entry)) (now (memory .entry)) i k (now (head .entry)) header r ⌝ }
@@ -138,7 +138,7 @@ fn below(mask: u16, reached: bool) -> u16
     if reached { 1 + 2 * mask } else { 2 * mask }
 }
 
-// A signal to everybody: bit k of the mask is slot k.
+// A signal to everybody: bit k of the mask is slot k (rule 7.6).
 fn to_all(image: &[u8], memory: &[u8], i: usize, head: &[u8], header: Header) -> Judgement
     requires { ⌜ (Asked (now image) (now head) header) × (Seated (now memory) i) ⌝ }
     ensures { λ r. ⌜ ToAll (now (image .entry)) (now (memory .entry)) i (now (head .entry)) header r ⌝ }
@@ -157,7 +157,7 @@ fn to_all(image: &[u8], memory: &[u8], i: usize, head: &[u8], header: Header) ->
 
 // ---- to one peer
 
-// A call of slot i that expects a reply of the callee to this serial: 25, then 26.
+// A call of slot i that expects a reply of the callee to this serial: 25, then 26 (rule 7.8).
 fn wait(memory: &mut [u8], i: usize, callee: u32, serial: u32) -> Judgement
     requires { ⌜ Seated (now memory) i ⌝ }
     ensures { λ r. ⌜ Waits (now (memory .entry)) i callee serial r (now (memory .exit)) ⌝ }
@@ -176,7 +176,7 @@ fn wait(memory: &mut [u8], i: usize, callee: u32, serial: u32) -> Judgement
     }
 }
 
-// A call or a signal of slot i that may pass to the peer of slot j: it waits where a reply is expected.
+// A call or a signal of slot i that may pass to the peer of slot j: it becomes pending where a reply is expected (rule 7.8).
 fn deliver(memory: &mut [u8], i: usize, j: usize, header: Header) -> Judgement
     requires { ⌜ (Seated (now memory) i) × (Seated (now memory) j) ⌝ }
     ensures { λ r. ⌜ Delivers (now (memory .entry)) i j header r (now (memory .exit)) ⌝ }
@@ -191,7 +191,7 @@ fn deliver(memory: &mut [u8], i: usize, j: usize, header: Header) -> Judgement
     }
 }
 
-// What policy answers to a call or a signal of slot i to the peer of slot j: 22, 23, or 0.
+// What policy answers to a call or a signal of slot i to the peer of slot j: 22, 23, or 0 (rule 7.7).
 fn answer_to(image: &[u8], memory: &[u8], i: usize, j: usize, head: &[u8], header: Header) -> u8
     requires { ⌜ (Asked (now image) (now head) header) × (Seated (now memory) i) × (Seated (now memory) j) ⌝ }
     ensures { λ r. ⌜ Answer (now (image .entry)) (now (memory .entry)) i j (now (head .entry)) header r ⌝ }
@@ -226,7 +226,7 @@ fn to_peer(
 
 // ---- replies
 
-// A return or error of slot i to the peer of slot j, which must await it.
+// A return or error of slot i to the peer of slot j, which must await it (rule 7.9).
 fn reply_to(memory: &mut [u8], i: usize, j: usize, header: Header) -> Judgement
     requires { ⌜ (Seated (now memory) i) × (Seated (now memory) j) ⌝ }
     ensures { λ r. ⌜ RepliesTo (now (memory .entry)) i j header r (now (memory .exit)) ⌝ }
@@ -245,7 +245,7 @@ fn reply_to(memory: &mut [u8], i: usize, j: usize, header: Header) -> Judgement
     }
 }
 
-// "A reply to the bus or with no destination never does."
+// A return or error by its destination: only one to a peer can be awaited (rule 7.9).
 fn reply(memory: &mut [u8], i: usize, to: Destination, header: Header) -> Judgement
     requires { ⌜ (Seated (now memory) i) × (Stands (now memory) to) ⌝ }
     ensures { λ r. ⌜ Replies (now (memory .entry)) i to header r (now (memory .exit)) ⌝ }
@@ -285,7 +285,7 @@ fn direct(
     }
 }
 
-// The judgement of a whole message of the peer in slot i. Other types are 20; returns and errors are replies.
+// The judgement of a whole message of the peer in slot i. Types above 4 are 20 (rule 7.10).
 pub fn judge(image: &[u8], memory: &mut [u8], i: usize, head: &[u8], header: Header) -> Judgement
     requires { ⌜ Message (now image) (now memory) i (now head) header ⌝ }
     ensures { λ r. ⌜ Judges (now (image .entry)) (now (memory .entry)) i (now (head .entry)) header r (now (memory .exit)) ⌝ }

@@ -1,4 +1,4 @@
--- What the tables of a good slot hold is read back from their bytes. Assumes nothing.
+-- What the tables of a good slot hold is read back from their bytes.
 use mathlib.Core.Bool.{Bool, true, not, _&&_}
 use mathlib.Core.List.{List, [], _∷_, map}
 use mathlib.Core.Path.{_≡_, refl, ap₂}

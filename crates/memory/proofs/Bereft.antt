@@ -1,4 +1,4 @@
--- The bytes of a slot after a callee has gone, and of all slots after a peer has disconnected. Assumes nothing.
+-- The bytes of a slot after a callee has gone, and of all slots after a peer has disconnected.
 use mathlib.Core.List.{List, _++_}
 use mathlib.Core.Path.{_≡_, refl, sym, ap, _∙_}
 use Prim.Native.Nat.{ℕ}

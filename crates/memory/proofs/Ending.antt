@@ -1,4 +1,4 @@
--- A table of pending calls from which those of one callee are taken out, call by call. Assumes nothing.
+-- A table of pending calls from which those of one callee are taken out, call by call.
 use mathlib.Core.List.{List, [], _++_, map, append-nil, _∷_}
 use mathlib.Core.Path.{_≡_, refl, sym, ap, ap₂, _∙_}
 use Prim.Native.Nat.{ℕ, zero, suc, _+_, _-_, _*_, _≤_, _<_, min}

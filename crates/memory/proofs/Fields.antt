@@ -1,4 +1,4 @@
--- The fields of a peer in its slot's bytes: each is put at its place, and the rest stays. Assumes nothing.
+-- The fields of a peer in its slot's bytes: each is put at its place, and the rest stays.
 use mathlib.Core.List.{List, [], _++_, map, append-assoc, append-nil}
 use mathlib.Core.Path.{_≡_, sym, ap, _∙_}
 use Prim.Native.Nat.{ℕ, _+_, _*_, _≤_, _<_}

@@ -1,4 +1,4 @@
--- Searching the slots by the number that stands in each: the first free one, and the peer of a number. Assumes nothing.
+-- Searching the slots by the number that stands in each: the first free one, and the peer of a number.
 use mathlib.Core.Bool.{Bool, true, false≢true}
 use mathlib.Core.List.{List}
 use mathlib.Core.Path.{_≡_, refl, sym, ap, _∙_}

@@ -1,4 +1,4 @@
--- Slots in bytes: each is 3,292 long, so that a slot is put by its bytes alone, and the others stay. Assumes nothing.
+-- Slots in bytes: each is 3,292 long, so that a slot is put by its bytes alone, and the others stay.
 use mathlib.Core.List.{List, _++_, append-assoc}
 use mathlib.Core.Path.{_≡_, refl, ap₂, _∙_}
 use Prim.Native.Nat.{ℕ, _+_, _*_, _<_}

@@ -1,4 +1,4 @@
--- Good memory: it is the bytes of the state that is read off it, and that state is sound. Assumes nothing.
+-- Good memory: it is the bytes of the state that is read off it, and that state is sound.
 use mathlib.Core.Bool.{Bool, true, false, cond, _&&_}
 use mathlib.Core.List.{List, [], _∷_, _++_, map}
 use mathlib.Core.Path.{_≡_, refl, sym, ap, ap₂, _∙_}

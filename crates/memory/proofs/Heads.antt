@@ -1,4 +1,4 @@
--- A head in bytes is a table of single bytes, so that the laws of tables are its laws too. Assumes nothing.
+-- A head in bytes is a table of single bytes, so that the laws of tables are its laws too.
 use mathlib.Core.List.{List, [], _∷_, map}
 use mathlib.Core.Path.{_≡_, refl, sym, ap}
 use Prim.Native.Nat.{ℕ, zero, suc, _≤_, _<_, min}

@@ -1,4 +1,4 @@
--- In good memory the bytes of each slot are those of the slot that is read off them, and counts are what they say. Assumes nothing.
+-- In good memory the bytes of each slot are those of the slot that is read off them, and counts are what they say.
 use mathlib.Core.Bool.{true}
 use mathlib.Core.List.{List, [], _∷_}
 use mathlib.Core.Path.{_≡_, sym, ap, _∙_}

@@ -1,3 +1,4 @@
+pub mod Bench
 pub mod Octets
 pub mod Frame
 pub mod Fields

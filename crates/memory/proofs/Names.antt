@@ -1,4 +1,4 @@
--- A peer's names as a region of memory: the cells in use, as the policy's functions take them. Assumes nothing.
+-- A peer's names as a region of memory: the cells in use, as the policy's functions take them.
 use mathlib.Core.List.{List, map, _∷_}
 use mathlib.Core.Path.{_≡_, refl, sym, ap, ap₂, _∙_}
 use Prim.Native.Nat.{ℕ, zero, suc, _+_, _*_, _/_, _≤_, _<_, min}

@@ -1,4 +1,4 @@
--- The bytes of a peer that has just connected: its number, its uid and its gids, and zeros. Assumes nothing.
+-- The bytes of a peer that has just connected: its number, its uid and its gids, and zeros.
 use mathlib.Core.List.{List, [], _++_, append-assoc}
 use mathlib.Core.Path.{_≡_, ap, ap₂, _∙_}
 use Prim.Native.Nat.{ℕ, _+_, _-_, _*_, _≤_}

@@ -1,4 +1,4 @@
--- Numbers below a bound, as a test and by place; and the head in a slot of bytes is one of bytes. Assumes nothing.
+-- Numbers below a bound, as a test and by place; and the head in a slot of bytes is one of bytes.
 use mathlib.Core.Path.{_≡_, refl}
 use mathlib.Core.Bool.{Bool, true, false, cond, _&&_}
 use mathlib.Core.List.{List, [], _∷_, _++_}

@@ -1,4 +1,4 @@
--- The parts of a good peer, each by itself; whose number it is. Assumes nothing.
+-- The parts of a good peer, each by itself; whose number it is.
 use mathlib.Core.Logic.{_⊎_, inl, inr}
 use mathlib.Core.Bool.{true, _&&_, false≢true}
 use mathlib.Core.List.{List, [], _∷_}

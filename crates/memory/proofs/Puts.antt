@@ -1,5 +1,5 @@
 -- A peer of good memory changed: the bytes that a state with other names, pending calls or stream has, by the old bytes; and the writes that make
--- them. Assumes nothing.
+-- them.
 use mathlib.Core.List.{List, [], _∷_, _++_, append-nil}
 use mathlib.Core.Path.{_≡_, sym, ap, _∙_}
 use Prim.Native.Nat.{ℕ, _+_, _-_, _*_, _≤_, _<_}

@@ -1,4 +1,4 @@
--- What memory says: where each slot stands, and each field of it, by its place in memory. Assumes nothing.
+-- What memory says: where each slot stands, and each field of it, by its place in memory.
 use mathlib.Core.List.{List, [], _∷_}
 use mathlib.Core.Path.{_≡_, refl, sym, ap, _∙_}
 use Prim.Native.Nat.{ℕ, _+_, _*_, _<_, min}

@@ -1,4 +1,4 @@
--- The names and pending calls without one of them, or without all of one callee, as a loop over their places makes them. Assumes nothing.
+-- The names and pending calls without one of them, or without all of one callee, as a loop over their places makes them.
 use mathlib.Core.Bool.{Bool, true, false, cond}
 use mathlib.Core.List.{List, [], _∷_, _++_, append-nil}
 use mathlib.Core.Path.{_≡_, refl, sym, ap, _∙_}

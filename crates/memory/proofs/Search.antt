@@ -1,4 +1,4 @@
--- The first slot that passes a test, as a loop finds it: what is left to look at says the answer. Assumes nothing.
+-- The first slot that passes a test, as a loop finds it: what is left to look at says the answer.
 use mathlib.Core.Bool.{Bool, true, false, cond}
 use mathlib.Core.List.{List, [], _∷_}
 use mathlib.Core.Path.{_≡_, refl, sym, _∙_}

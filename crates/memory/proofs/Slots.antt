@@ -1,4 +1,4 @@
--- A slot that fits its bytes is read back from them. Assumes nothing.
+-- A slot that fits its bytes is read back from them.
 use mathlib.Core.List.{List, map}
 use mathlib.Core.Path.{_≡_, refl, sym, ap, _∙_}
 use Prim.Native.Nat.{ℕ, _≤_, _<_, min}

@@ -1,5 +1,4 @@
 -- A sound state is read back from its bytes, and these are good memory: memory is good exactly where it is the bytes of a sound state.
--- Assumes nothing.
 use mathlib.Core.Bool.{true, _&&_}
 use mathlib.Core.Logic.{_↔_}
 use mathlib.Core.List.{List, [], _∷_, map, append-nil}

@@ -1,4 +1,4 @@
--- Bytes written in memory are read back as a slot put; a loop that changes each slot in turn. Assumes nothing.
+-- Bytes written in memory are read back as a slot put; a loop that changes each slot in turn.
 use mathlib.Core.List.{List, [], _∷_, _++_, map, append-assoc}
 use mathlib.Core.Path.{_≡_, refl, sym, ap, ap₂, _∙_}
 use Prim.Native.Nat.{ℕ, zero, suc, _+_, _-_, _*_, _≤_, _<_}

@@ -1,4 +1,4 @@
--- What a state is in bytes, and what bytes say. Each part has its length whatever the state is. Assumes nothing: these are definitions.
+-- What a state is in bytes, and what bytes say (rule 10.2). Each part has its length whatever the state is.
 use mathlib.Core.Bool.{cond}
 use mathlib.Core.List.{List, _++_, map}
 use Prim.Native.Nat.{ℕ, _+_, min}
@@ -13,11 +13,12 @@ use Rattle.stream.specs.Tail.{Tail}
 use Rattle.rules.specs.State.{Pending, Peer, Slot, free, peer, State}
 use Rattle.memory.specs.Layout.{gidsAt, pendingAt, namesAt, takenAt, headAt, slotLength}
 
--- ---- what a state is in bytes
+-- ---- what a state is in bytes (rule 10.2)
 
 abbrev pub pendingBytes : Pending → List ℕ
 pendingBytes w = wordBytes (w .callee) ++ wordBytes (w .serial)
 
+-- a head has room for the longest that passes, 2,048 bytes
 unfoldable pub headBytes : List ℕ → List ℕ
 headBytes h = wordBytes (length h) ++ pad 2048 h
 
@@ -32,6 +33,7 @@ peerBytes p =
     ++ (tableBytes 8 16 pendingBytes (p .pending)
     ++ (tableBytes 256 4 cellOf (p .names) ++ streamBytes (p .stream)))))
 
+-- a free slot is zeros (rule 10.5)
 unfoldable pub slotBytes : Slot Tail → List ℕ
 slotBytes free = replicate slotLength 0
 slotBytes (peer p) = peerBytes p
@@ -39,7 +41,7 @@ slotBytes (peer p) = peerBytes p
 unfoldable pub memoryOf : State Tail → List ℕ
 memoryOf s = wordBytes (s .last) ++ cells slotBytes (s .slots)
 
--- ---- what bytes say
+-- ---- what bytes say (rule 10.2)
 
 abbrev pub wordOf : List ℕ → ℕ
 wordOf b = wordAt Little b 0
@@ -62,7 +64,7 @@ peerOf b =
       stream = tailOf b;
     }
 
--- a slot whose number is 0 is free
+-- a slot whose number is 0 is free (rule 10.2)
 unfoldable pub slotOf : List ℕ → Slot Tail
 slotOf b = cond (eqb (wordAt Little b 0) 0) free (peer (peerOf b))
 

@@ -1,5 +1,5 @@
--- Good memory (01, "Answer numbers"): "it has that length, its slots, numbers, names and waits keep the rules above, each open stream's count and head
--- bytes fit .., and every place not in use is zero". Assumes nothing: these are definitions.
+-- Good memory: its length is right, what it says keeps the rules, and no byte stands where none belongs (rules 10.3, 10.4 and 10.5). Any other is refused
+-- with 51, and good memory stays good (rule 10.6).
 use mathlib.Core.Bool.{Bool, true, not, _&&_}
 use mathlib.Core.List.{List, [], _∷_}
 use Prim.Native.Nat.{ℕ}
@@ -20,15 +20,15 @@ use Rattle.memory.specs.Encoding.{slotBytes, slotOf, stateOf}
 abbrev pub nobody : (Slot Tail → Bool) → List (Slot Tail) → Bool
 nobody t slots = not (any t slots)
 
--- each name is one that a peer may own, stands once among these, and in none of the slots after its own
+-- each name can be owned, stands once among these, and in none of the slots after its own (rule 10.3)
 unfoldable pub goodNames : List (List ℕ) → List (Slot Tail) → Bool
 goodNames names later = distinct (λ x. ownable x && nobody (isOwner x) later) (λ x y. same y x) names
 
--- a wait's callee is connected, its serial is not 0, and no triple stands twice
+-- the callee of each pending call is connected, its serial is not 0, and none stands twice with its caller (rule 10.3)
 unfoldable pub goodPending : List (Slot Tail) → List Pending → Bool
 goodPending all ws = distinct (λ w. any (isPeer (w .callee)) all && leb 1 (w .serial)) sameCall ws
 
--- numbers are distinct, not 0 and not above the last number given; at most 16 gids, 16 waits and 4 names
+-- its number is 1 to the last one given and no later slot's; its counts are within the limits (rules 1.1 and 10.3); its stream is good (rule 10.4)
 unfoldable pub goodPeer : List (Slot Tail) → ℕ → Peer Tail → List (Slot Tail) → Bool
 goodPeer all last p later =
     leb 1 (p .number)
@@ -41,20 +41,22 @@ goodPeer all last p later =
     && goodNames (p .names) later
     && goodTail (p .stream)
 
+-- a free slot keeps the rules (rule 10.3)
 abbrev pub goodSlot : List (Slot Tail) → ℕ → Slot Tail → List (Slot Tail) → Bool
 goodSlot all last free later = true
 goodSlot all last (peer p) later = goodPeer all last p later
 
--- each slot, beside those after it
+-- each slot, beside those after it, so that what may stand once is looked for once (rule 10.3)
 unfoldable pub goodSlots : List (Slot Tail) → ℕ → List (Slot Tail) → Bool
 goodSlots all last [] = true
 goodSlots all last (x ∷ later) = goodSlot all last x later && goodSlots all last later
 
--- each part is the bytes of the slot that is read off it: every place not in use is zero
+-- each part is the bytes of the slot that is read off it, so that unused places are zero (rule 10.5)
 unfoldable pub plain : List (List ℕ) → Bool
 plain [] = true
 plain (b ∷ r) = same (slotBytes (slotOf b)) b && plain r
 
+-- the test that 51 is about (rules 10.3 and 10.6)
 unfoldable pub good : List ℕ → Bool
 good m =
     eqb (length m) memoryLength

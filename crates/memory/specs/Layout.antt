@@ -1,18 +1,19 @@
--- Where things stand in the guard's memory: the last number, then sixteen slots of one size. Assumes nothing: these are definitions.
+-- Where things stand in the guard's memory: the last number, then sixteen slots of one size (rule 10.1).
 use Prim.Native.Nat.{ℕ, _+_, _*_}
 
+-- all of it has one length (rule 10.1)
 abbrev pub memoryLength : ℕ
 memoryLength = 52676
 
 abbrev pub slotLength : ℕ
 slotLength = 3292
 
--- where slot i stands
+-- where slot i stands (rule 10.1)
 abbrev pub slotStart : ℕ → ℕ
 slotStart i = 4 + 3292 * i
 
 -- of a slot: number, uid, gids (a count and 16 of 4 bytes), pending calls (a count and 16 of 8), names (a count and 4 of 256), bytes taken of the
--- unfinished message, and its head (a count and 2,048 bytes)
+-- unfinished message, and its head (a count and 2,048 bytes) (rule 10.1)
 abbrev pub gidsAt : ℕ
 gidsAt = 8
 

@@ -4,3 +4,4 @@ pub mod Places
 pub mod Good
 pub mod Sound
 pub mod Calls
+pub mod Bench

@@ -1,5 +1,5 @@
--- A good state as a fact: sixteen slots that keep the rules, numbers of 32 bits and bytes of 8. Memory is good exactly where it is the bytes of a sound state.
--- Assumes nothing: these are definitions.
+-- A good state as a fact: sixteen slots that keep the rules, numbers of 32 bits and bytes of 8. Memory is good exactly where it is the bytes of a sound
+-- state, and every call leaves one (rule 10.6).
 use mathlib.Core.Bool.{Bool, true, _&&_}
 use mathlib.Core.List.{List}
 use mathlib.Core.Path.{_≡_}

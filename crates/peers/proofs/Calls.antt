@@ -1,4 +1,4 @@
--- Ending the calls to a callee: in a slot, in every slot. Assumes nothing.
+-- Ending the calls to a callee: in a slot, in every slot.
 use mathlib.Core.Path.{_≡_, refl, sym, ap, _∙_}
 use mathlib.Core.List.{List, _++_}
 use Prim.Native.Nat.{ℕ, _+_, _-_, _*_, _≤_, _<_}

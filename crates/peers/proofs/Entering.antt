@@ -1,4 +1,4 @@
--- Each way through connect. Assumes nothing.
+-- Each way through connect.
 use mathlib.Core.Path.{_≡_, refl, sym, ap, _∙_}
 use mathlib.Core.Bool.{Bool, true, false, not}
 use mathlib.Core.List.{List, _++_, append-assoc}

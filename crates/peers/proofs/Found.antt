@@ -1,4 +1,4 @@
--- The slot that a call speaks of, and what a refused call leaves. Assumes nothing.
+-- The slot that a call speaks of, and what a refused call leaves.
 use mathlib.Core.Path.{_≡_, refl, sym}
 use mathlib.Core.List.{List}
 use Prim.Native.Nat.{ℕ, _+_, _*_, _≤_, _<_}

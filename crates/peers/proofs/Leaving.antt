@@ -1,4 +1,4 @@
--- Each way through disconnect. Assumes nothing.
+-- Each way through disconnect.
 use mathlib.Core.Path.{_≡_, refl, sym, ap, _∙_}
 use mathlib.Core.List.{List, _++_}
 use Prim.Native.Nat.{ℕ, _+_, _-_, _*_, _<_}

@@ -1,4 +1,4 @@
--- The bytes of a peer that connects, as they are written. Assumes nothing.
+-- The bytes of a peer that connects, as they are written.
 use mathlib.Core.Path.{_≡_, ap, _∙_}
 use mathlib.Core.List.{List, _++_, append-assoc}
 use Prim.Native.Nat.{ℕ, _+_, _*_, _≤_, _<_}

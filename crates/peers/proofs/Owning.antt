@@ -1,4 +1,4 @@
--- Each way through own. Assumes nothing.
+-- Each way through own.
 use mathlib.Core.Path.{_≡_, refl, sym, ap, _∙_}
 use mathlib.Core.Bool.{Bool, true, false, not}
 use mathlib.Core.List.{List, [], _∷_, _++_, append-assoc}
@@ -139,26 +139,20 @@ module _ (m : List ℕ) (f : Octets m) (i : ℕ) (g : Seated m i) (name : List �
 
 pub ruleset granting = (grant-full, grant-done, needs)
 
--- ---- own's tests of names: b is whether slot i has the name, j who has it
+-- ---- 33: j is who has the name
 
-module _ (m : List ℕ) (f : Octets m) (i : ℕ) (g : Seated m i) (name : List ℕ) (b : Bool) (e : b ≡ owns (peerAt m i .names) name) where
-  pub claim-own : b ≡ true → Did (stored (claimed m i name)) 0 m
+module _ (m : List ℕ) (f : Octets m) (i : ℕ) (g : Seated m i) (name : List ℕ) (j : ℕ) (o : Found (isOwner name) m 0 j) where
+  pub claim-granted : 16 ≤ j → (r : ℕ) (m₁ : List ℕ) → Did (stored (granted m i name)) r m₁ → Did (stored (claimed m i name)) r m₁
+  unfolding claimed granted
+  claim-granted h r m₁ d = rw (found-first (isOwner name) m j o, sixteen m, le-ltb j 16 h) d
+
+  pub claim-other : j < 16 → Did (stored (claimed m i name)) 33 m
   unfolding claimed
-  claim-own q = did-stay m f (g .held) 0 (claimed m i name) (rw (← e, q))
+  claim-other h = did-stay m f (g .held) 33 (claimed m i name) (rw (found-first (isOwner name) m j o, sixteen m, lt-ltb j 16 h))
 
-  module _ (q : b ≡ false) (j : ℕ) (o : Found (isOwner name) m 0 j) where
-    pub claim-granted : 16 ≤ j → (r : ℕ) (m₁ : List ℕ) → Did (stored (granted m i name)) r m₁ → Did (stored (claimed m i name)) r m₁
-    unfolding claimed granted
-    claim-granted h r m₁ d = rw (← e, q, found-first (isOwner name) m j o, sixteen m, le-ltb j 16 h) d
+pub ruleset claiming = (claim-granted, claim-other, needs)
 
-    pub claim-other : j < 16 → Did (stored (claimed m i name)) 33 m
-    unfolding claimed
-    claim-other h =
-        did-stay m f (g .held) 33 (claimed m i name) (rw (← e, q, found-first (isOwner name) m j o, sixteen m, lt-ltb j 16 h))
-
-pub ruleset claiming = (claim-own, claim-granted, claim-other, needs)
-
--- ---- 30, 31, 32
+-- ---- 30, 31, 32, and 0 for a name that the peer has
 
 pub own-short : (name : List ℕ) (b : Bool) → b ≡ ownable name → not b ≡ false → length name ≤ 255
 own-short name b e t = ownable-short name (sym e ∙ not-false b t)
@@ -181,9 +175,16 @@ module _ (image m : List ℕ) (f : Octets m) (g : Held m) (n i : ℕ) (e : Found
           did-stay m f g 32 (own image (stateOf m) n name)
           (rw (peer-place n m i e q, peer-some n m i e q, ← eb, not-false b t, ← ed, not-true d s))
 
-      pub own-claimed : not d ≡ false → (r : ℕ) (m₁ : List ℕ) → Did (stored (claimed m i name)) r m₁
-          → Did (stored (own image (stateOf m) n name)) r m₁
-      unfolding own claimed
-      own-claimed s r m₁ x = rw (peer-place n m i e q, peer-some n m i e q, ← eb, not-false b t, ← ed, not-false d s) x
+      module _ (k : not d ≡ false) (h : Bool) (eh : h ≡ owns (peerAt m i .names) name) where
+        pub own-mine : h ≡ true → Did (stored (own image (stateOf m) n name)) 0 m
+        unfolding own
+        own-mine s =
+            did-stay m f g 0 (own image (stateOf m) n name)
+            (rw (peer-place n m i e q, peer-some n m i e q, ← eb, not-false b t, ← ed, not-false d k, ← eh, s))
 
-pub ruleset owning = (own-none, own-bad, own-denied, own-claimed, own-short, peer-seated, needs)
+        pub own-claimed : h ≡ false → (r : ℕ) (m₁ : List ℕ) → Did (stored (claimed m i name)) r m₁
+            → Did (stored (own image (stateOf m) n name)) r m₁
+        unfolding own claimed
+        own-claimed s r m₁ x = rw (peer-place n m i e q, peer-some n m i e q, ← eb, not-false b t, ← ed, not-false d k, ← eh, s) x
+
+pub ruleset owning = (own-none, own-bad, own-denied, own-mine, own-claimed, own-short, peer-seated, needs)

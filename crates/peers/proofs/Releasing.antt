@@ -1,4 +1,4 @@
--- Each way through release. Assumes nothing.
+-- Each way through release.
 use mathlib.Core.Path.{_≡_, refl, sym, ap, _∙_}
 use mathlib.Core.Bool.{Bool, true, false, not}
 use mathlib.Core.List.{List, _++_}

@@ -1,4 +1,4 @@
--- Zeros in memory, in front of which something is written. Assumes nothing.
+-- Zeros in memory, in front of which something is written.
 use mathlib.Core.Path.{_≡_, sym, ap, _∙_}
 use mathlib.Core.List.{List, _++_}
 use Prim.Native.Nat.{ℕ, _+_, _-_, _≤_}

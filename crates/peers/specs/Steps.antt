@@ -1,4 +1,4 @@
--- The steps of the calls over memory: what each function is asked, and what it leaves. Assumes nothing: these are definitions.
+-- The steps of the calls over memory: what each function is asked, and what it leaves.
 use mathlib.Core.Path.{_≡_}
 use mathlib.Core.Bool.{cond}
 use mathlib.Core.List.{List, [], _∷_, _++_, map}
@@ -69,10 +69,9 @@ granted m i name =
     cond (leb 4 (length (peerAt m i .names))) (stays (stateOf m) 34)
     (stays (putSlot (stateOf m) i (peer (withNames (peerAt m i) (peerAt m i .names ++ (name ∷ []))))) 0)
 
--- own's tests of the names that peers have, and its change
+-- own's last two tests, and its change
 unfoldable pub claimed : List ℕ → ℕ → List ℕ → Step Tail ℕ
-claimed m i name =
-    cond (owns (peerAt m i .names) name) (stays (stateOf m) 0) (ownNew (stateOf m) i (peerAt m i) name)
+claimed m i name = ownNew (stateOf m) i (peerAt m i) name
 
 -- release's last test, and its change
 unfoldable pub givenUp : List ℕ → ℕ → List ℕ → Step Tail ℕ

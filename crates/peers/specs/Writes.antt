@@ -1,4 +1,4 @@
--- Bytes as the calls write them. Assumes nothing: these are definitions.
+-- Bytes as the calls write them.
 use mathlib.Core.Path.{_≡_}
 use mathlib.Core.List.{List, _∷_, _++_}
 use Prim.Native.Nat.{ℕ, _+_, _≤_}

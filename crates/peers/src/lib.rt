@@ -76,7 +76,7 @@ fn enter(memory: &mut [u8], uid: u32, gids: &[u32]) -> Connected
     }
 }
 
-// Connects a peer: 37, 36, 38, 39.
+// Connects a peer: 37, 36, 38, 39 (rule 8.3).
 pub fn connect(image: &[u8], memory: &mut [u8], uid: u32, gids: &[u32]) -> Connected
     requires { ⌜ (GoodImage (now image)) × (Held (now memory)) ⌝ }
     ensures { λ r. ⌜ Did (stored (connect tails (now (image .entry)) (stateOf (now (memory .entry))) uid (now (gids .entry)))) r (now (memory .exit)) ⌝ }
@@ -146,7 +146,7 @@ fn leave(memory: &mut [u8], i: usize, number: u32)
     end_all(memory, number);
 }
 
-// Disconnects a peer: 30.
+// Disconnects a peer: 30 (rule 8.7).
 pub fn disconnect(memory: &mut [u8], peer: u32) -> Gone
     requires { ⌜ Held (now memory) ⌝ }
     ensures { λ r. ⌜ Did (stored (disconnect tails (stateOf (now (memory .entry))) peer)) r (now (memory .exit)) ⌝ }
@@ -211,21 +211,18 @@ fn grant(memory: &mut [u8], i: usize, name: &[u8]) -> u8
     0
 }
 
-// Gives the name to the peer of slot i, unless it has it: 33, 34.
+// Gives the name, which is not its own, to the peer of slot i: 33, 34.
 fn claim(memory: &mut [u8], i: usize, name: &[u8]) -> u8
     requires { ⌜ (Seated (now memory) i) × (length (now name) ≤ 255) ⌝ }
     ensures { λ r. ⌜ Did (stored (claimed (now (memory .entry)) i (now (name .entry)))) r (now (memory .exit)) ⌝ }
 {
-    if slots::owns_name(memory, i, name, 0) {
-        return 0;
-    }
     if 16 <= slots::find_owner(memory, name, 0) {
         return grant(memory, i, name);
     }
     33
 }
 
-// Gives a peer a name: 30, 31, 32, 33, 34.
+// Gives a peer a name: 30, 31, 32, 0 where it has it, 33, 34 (rule 8.4).
 pub fn own(image: &[u8], memory: &mut [u8], peer: u32, name: &[u8]) -> u8
     requires { ⌜ (GoodImage (now image)) × (Held (now memory)) ⌝ }
     ensures { λ r. ⌜ Did (stored (own (now (image .entry)) (stateOf (now (memory .entry))) peer (now (name .entry)))) r (now (memory .exit)) ⌝ }
@@ -239,6 +236,9 @@ pub fn own(image: &[u8], memory: &mut [u8], peer: u32, name: &[u8]) -> u8
     }
     if !may_own_at(image, memory, i, name) {
         return 32;
+    }
+    if slots::owns_name(memory, i, name, 0) {
+        return 0;
     }
     claim(memory, i, name)
 }
@@ -267,7 +267,7 @@ fn give_up(memory: &mut [u8], i: usize, name: &[u8]) -> u8
     0
 }
 
-// Takes a name from a peer: 30, 31, 35.
+// Takes a name from a peer: 30, 31, 35 (rule 8.5).
 pub fn release(memory: &mut [u8], peer: u32, name: &[u8]) -> u8
     requires { ⌜ Held (now memory) ⌝ }
     ensures { λ r. ⌜ Did (stored (release (stateOf (now (memory .entry))) peer (now (name .entry)))) r (now (memory .exit)) ⌝ }

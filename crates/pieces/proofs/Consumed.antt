@@ -1,4 +1,4 @@
--- A whole message: its head stands in its slot, and memory is good once its stream is cleared. Assumes nothing.
+-- A whole message: its head stands in its slot, and memory is good once its stream is cleared.
 use mathlib.Core.Path.{_≡_, refl, sym, ap, ap₂, subst, _∙_}
 use mathlib.Core.Bool.{true, false}
 use mathlib.Core.List.{List, _++_, append-assoc}

@@ -1,4 +1,4 @@
--- A copy of the head that a slot keeps. Assumes nothing.
+-- A copy of the head that a slot keeps.
 use mathlib.Core.Path.{_≡_, ap, _∙_}
 use mathlib.Core.List.{List, _++_}
 use Prim.Native.Nat.{ℕ, _+_, _-_, _*_, _≤_, _<_}

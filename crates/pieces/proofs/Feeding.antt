@@ -1,4 +1,4 @@
--- The bytes of a stream in its slot: its counts, its head, zeros; and what an offer leaves of them. Assumes nothing.
+-- The bytes of a stream in its slot: its counts, its head, zeros; and what an offer leaves of them.
 use mathlib.Core.Path.{_≡_, sym, ap, subst, _∙_}
 use mathlib.Core.List.{List, [], _++_, append-nil}
 use Prim.Native.Nat.{ℕ, _≤_, _<_, min}

@@ -1,4 +1,4 @@
--- What a piece comes to, case by case. Assumes nothing.
+-- What a piece comes to, case by case.
 use mathlib.Core.Path.{_≡_, sym, ap, _∙_}
 use mathlib.Core.Bool.{Bool, true, false}
 use mathlib.Core.List.{List}

@@ -1,4 +1,4 @@
--- The stream of a slot, in good memory. Assumes nothing.
+-- The stream of a slot, in good memory.
 use mathlib.Core.Path.{_≡_, refl, sym, ap, subst, _∙_}
 use mathlib.Core.Bool.{Bool, false}
 use mathlib.Core.List.{List, _++_, append-assoc}

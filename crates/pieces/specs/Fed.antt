@@ -1,4 +1,4 @@
--- What the functions on a slot's stream require and ensure. Assumes nothing: these are definitions.
+-- What the functions on a slot's stream require and ensure.
 use mathlib.Core.Path.{_≡_}
 use mathlib.Core.Bool.{true, false}
 use mathlib.Core.List.{List, _++_}

@@ -1,5 +1,4 @@
--- The names and the pending calls of a slot, as the code reads them; and whether a name is one of them, by the place at which a search ended. Assumes
--- nothing.
+-- The names and the pending calls of a slot, as the code reads them; and whether a name is one of them, by the place at which a search ended.
 use mathlib.Core.Path.{_≡_, sym, _∙_}
 use mathlib.Core.List.{List, _∷_}
 use Prim.Native.Nat.{ℕ, _+_, _-_, _*_, _<_, min}

@@ -1,4 +1,4 @@
--- The gids of a slot, copied in front of a list of sixteen. Assumes nothing.
+-- The gids of a slot, copied in front of a list of sixteen.
 use mathlib.Core.Path.{_≡_, refl, sym, ap, _∙_}
 use mathlib.Core.List.{List, [], _∷_, _++_, append-nil}
 use Prim.Native.Nat.{ℕ, _+_, _*_, _≤_, _<_, min}

@@ -1,4 +1,4 @@
--- A search for a name among those of a slot, and whose it is. Assumes nothing.
+-- A search for a name among those of a slot, and whose it is.
 use mathlib.Core.Path.{_≡_, refl, sym, _∙_}
 use mathlib.Core.Bool.{Bool, true, false}
 use mathlib.Core.List.{List, _∷_}

@@ -1,4 +1,4 @@
--- A search among the pending calls of a slot. Assumes nothing.
+-- A search among the pending calls of a slot.
 use mathlib.Core.Path.{_≡_, refl, sym, _∙_}
 use mathlib.Core.Bool.{true, false, _&&_}
 use mathlib.Core.List.{List, _∷_}

@@ -1,4 +1,4 @@
--- What stands in slot i of a memory. Assumes nothing: these are definitions.
+-- What stands in slot i of a memory.
 use mathlib.Core.Path.{_≡_}
 use mathlib.Core.List.{List}
 use Prim.Native.Nat.{ℕ, _+_, _*_, _≤_, _<_}

@@ -1,4 +1,4 @@
--- The judgement of a whole message keeps a sound state sound. Assumes nothing.
+-- The judgement of a whole message keeps a sound state sound.
 use mathlib.Core.Path.{_≡_, refl}
 use mathlib.Core.Bool.{true, cond, _||_}
 use mathlib.Core.List.{List, [], _∷_, _++_}

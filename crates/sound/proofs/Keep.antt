@@ -1,4 +1,4 @@
--- "an empty guard is good and every call keeps good memory good": each call keeps a sound state sound. Assumes nothing.
+-- An empty guard is sound, and each call keeps a sound state sound (rule 10.6).
 use mathlib.Core.Path.{_≡_, refl, _∙_}
 use mathlib.Core.Bool.{true, cond}
 use mathlib.Core.List.{List, [], _∷_, _++_}

@@ -1,4 +1,4 @@
--- Good slots by place: each good by itself, a number and a name in one slot at most, and each callee in some slot. Assumes nothing.
+-- Good slots by place: each good by itself, a number and a name in one slot at most, and each callee in some slot.
 use mathlib.Core.Path.{_≡_, refl, subst}
 use mathlib.Core.Bool.{true, false, _&&_, false≢true}
 use mathlib.Core.List.{List, [], _∷_}

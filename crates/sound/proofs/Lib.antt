@@ -8,3 +8,7 @@ pub mod Put
 pub mod Renew
 pub mod Judged
 pub mod Keep
+pub mod Numbers
+pub mod Answers
+pub mod Refusals
+pub mod Goodness

@@ -1,5 +1,4 @@
 -- The names that a peer owns, as a list: what is good in it by itself, and what one more and some fewer leave.
--- Assumes nothing.
 use mathlib.Core.Path.{_≡_, sym, subst}
 use mathlib.Core.Logic.{_⊎_, inl, inr}
 use mathlib.Core.Bool.{Bool, true, false, _&&_}

@@ -1,4 +1,4 @@
--- The head that a piece of bytes leaves is one of bytes, and a message that it makes whole is read from such a head. Assumes nothing.
+-- The head that a piece of bytes leaves is one of bytes, and a message that it makes whole is read from such a head.
 use mathlib.Core.Path.{_≡_, refl, sym, ap, _∙_}
 use mathlib.Core.Bool.{Bool, true, false, cond}
 use mathlib.Core.List.{List, [], _∷_, _++_}

@@ -1,4 +1,4 @@
--- Good pending calls are good by themselves and have connected callees; and serials of 32 bits. Assumes nothing.
+-- Good pending calls are good by themselves and have connected callees; and serials of 32 bits.
 use mathlib.Core.Path.{_≡_, subst}
 use mathlib.Core.Bool.{Bool, true, _&&_}
 use mathlib.Core.List.{List, [], _∷_, _++_}

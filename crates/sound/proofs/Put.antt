@@ -1,4 +1,4 @@
--- What a slot put anew leaves of good slots: one law over what changed, and its cases. Assumes nothing.
+-- What a slot put anew leaves of good slots: one law over what changed, and its cases.
 use mathlib.Core.Path.{_≡_, refl, sym, ap, _∙_, subst}
 use mathlib.Core.Logic.{_⊎_, inl, inr}
 use mathlib.Core.Bool.{Bool, true, false, false≢true}

@@ -1,4 +1,4 @@
--- What the calls change of a peer: a name more or less, its stream, a pending call more or less. Each keeps a sound state sound. Assumes nothing.
+-- What the calls change of a peer: a name more or less, its stream, a pending call more or less. Each keeps a sound state sound.
 use mathlib.Core.Path.{_≡_, refl, sym, ap, _∙_, subst}
 use mathlib.Core.Logic.{_⊎_, inl, inr}
 use mathlib.Core.Bool.{true, false}

@@ -1,5 +1,4 @@
 -- What the rules keep of messages: the serial of a whole head of bytes is a number of 32 bits and not 0, and an offer leaves an open stream good.
--- Assumes nothing.
 use mathlib.Core.Bool.{true, false}
 use mathlib.Core.List.{List}
 use mathlib.Core.Path.{_≡_}

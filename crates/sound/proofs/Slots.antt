@@ -1,5 +1,4 @@
 -- Lists of slots by place, where a place past the last is free: what a test that refuses free slots says of them, and what setting a slot changes.
--- Assumes nothing.
 use mathlib.Core.Path.{_≡_, refl, sym, ap, _∙_}
 use mathlib.Core.Logic.{_⊎_, inl, inr}
 use mathlib.Core.Bool.{Bool, true, false, _&&_, false≢true}

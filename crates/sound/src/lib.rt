@@ -1,1 +1,1 @@
-// Every call keeps good memory good: proofs about states, and no code.
+// What every call keeps of memory, and of what it refuses: proofs about states, and no code.

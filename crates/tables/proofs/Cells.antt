@@ -1,5 +1,4 @@
 -- Things of one width, over the width and the encoding: where each stands, what putting one leaves, and that what was put is read back.
--- Assumes nothing.
 use mathlib.Core.List.{List, [], _∷_, _++_, map, append-assoc, append-nil}
 use mathlib.Core.Path.{_≡_, refl, sym, ap, ap₂, _∙_}
 use Prim.Native.Nat.{ℕ, zero, suc, _+_, _-_, _*_, _≤_, _<_}

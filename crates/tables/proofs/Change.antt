@@ -1,4 +1,4 @@
--- Tables changed in their bytes: a thing put at the end; a thing taken out, the later ones moved down. Assumes nothing.
+-- Tables changed in their bytes: a thing put at the end; a thing taken out, the later ones moved down.
 use mathlib.Core.List.{List, [], _∷_, _++_, map, append-assoc}
 use mathlib.Core.Path.{_≡_, refl, sym, ap, ap₂, _∙_}
 use Prim.Native.Nat.{ℕ, zero, suc, _+_, _-_, _*_, _≤_, _<_}

@@ -1,4 +1,4 @@
--- A cell taken out of a table: the bytes behind it move down, and the last cell is cleared. Assumes nothing.
+-- A cell taken out of a table: the bytes behind it move down, and the last cell is cleared.
 use mathlib.Core.Path.{_≡_, refl, sym, ap, _∙_}
 use mathlib.Core.List.{List, [], _++_, append-assoc, append-nil}
 use Prim.Native.Nat.{ℕ, _+_, _-_, _≤_, _<_}

@@ -1,4 +1,4 @@
--- A row of words written, one after the other. Assumes nothing.
+-- A row of words written, one after the other.
 use mathlib.Core.Path.{_≡_, refl, sym, ap, _∙_}
 use mathlib.Core.List.{List, _++_}
 use Prim.Native.Nat.{ℕ, _+_, _*_, _≤_, _<_}

@@ -1,5 +1,4 @@
 -- Where bytes are those of the table that is read off them: the count is in bounds, each cell is plain, and what follows is zero.
--- Assumes nothing.
 use mathlib.Core.Bool.{Bool, true, false, _&&_}
 use mathlib.Core.List.{List, [], _∷_, _++_, map}
 use mathlib.Core.Path.{_≡_, refl, sym, ap, ap₂, _∙_}

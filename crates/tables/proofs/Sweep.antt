@@ -1,5 +1,4 @@
 -- A loop that changes each part in turn. Its invariant: what is to come out is what stands before part i already, and what the rest comes to.
--- Assumes nothing.
 use Prim.Native.Nat.{ℕ, zero, suc, _+_, _-_, _*_, _<_, _≤_}
 use mathlib.Core.List.{List, _++_, append-assoc}
 use mathlib.Core.Path.{_≡_, sym, _∙_}

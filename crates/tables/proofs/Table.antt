@@ -1,4 +1,4 @@
--- Tables: as long whatever they hold; what a table holds is read back; what the bytes of a table say, cell by cell. Assumes nothing.
+-- Tables: as long whatever they hold; what a table holds is read back; what the bytes of a table say, cell by cell.
 use mathlib.Core.List.{List, [], _∷_, _++_, map, append-assoc}
 use mathlib.Core.Path.{_≡_, ap, _∙_}
 use Prim.Native.Nat.{ℕ, _+_, _-_, _*_, _≤_, _<_, min}

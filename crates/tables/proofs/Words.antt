@@ -1,4 +1,4 @@
--- Numbers in parts of bytes, and bytes below 256. Assumes nothing.
+-- Numbers in parts of bytes, and bytes below 256.
 use mathlib.Core.List.{List, [], _∷_, _++_}
 use mathlib.Core.Path.{_≡_, sym, ap, _∙_}
 use Prim.Native.Nat.{ℕ, zero, suc, _+_, _≤_, _<_}

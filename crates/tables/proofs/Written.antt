@@ -1,4 +1,4 @@
--- A table changed where it stands in longer bytes, write by write, as code changes it: its cell, then its count. Assumes nothing.
+-- A table changed where it stands in longer bytes, write by write, as code changes it: its cell, then its count.
 use mathlib.Core.List.{List, [], _∷_, _++_, append-assoc}
 use mathlib.Core.Path.{_≡_, refl, sym, ap, _∙_}
 use Prim.Native.Nat.{ℕ, suc, _+_, _-_, _*_, _≤_, _<_}

@@ -1,4 +1,4 @@
--- Bytes cut out of others. Assumes nothing: these are definitions.
+-- Bytes cut out of others, as a thing is taken out of a table (rule 10.2).
 use mathlib.Core.List.{List, _++_}
 use Prim.Native.Nat.{ℕ, _+_, _≤_}
 use lib.ListN.{length, take, drop, replicate}

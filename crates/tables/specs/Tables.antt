@@ -1,5 +1,5 @@
--- Things of one width in bytes, one after the other; and a table: a count, then so many things, then zeros up to the room for k of them. A table is as
--- long whatever it holds, so that putting one changes nothing else. Assumes nothing: these are definitions.
+-- Things of one width in bytes, one after the other; and tables of them (rule 10.2). A table is as long whatever it holds, so that putting one changes
+-- nothing else.
 use mathlib.Core.Bool.{Bool, _&&_}
 use mathlib.Core.List.{List, [], _∷_, _++_, map}
 use Prim.Native.Nat.{ℕ, zero, suc, _*_, min}
@@ -17,11 +17,11 @@ unfoldable pub parts : ℕ → ℕ → List ℕ → List (List ℕ)
 parts w zero m = []
 parts w (suc n) m = take w m ∷ parts w n (drop w m)
 
--- a table with room for k things of w bytes
+-- a table with room for k things of w bytes: a count, that many things, and zeros (rule 10.2)
 unfoldable pub tableBytes : {A : Type 0} → ℕ → ℕ → (A → List ℕ) → List A → List ℕ
 tableBytes w k enc xs = wordBytes (length xs) ++ pad (w * k) (cells enc xs)
 
--- what the bytes of a table say
+-- what the bytes of a table say: as many things as its count, and at most k (rule 10.2)
 unfoldable pub tableOf : {A : Type 0} → ℕ → ℕ → (List ℕ → A) → List ℕ → List A
 tableOf w k dec b = map dec (parts w (min (wordAt Little b 0) k) (drop 4 b))
 

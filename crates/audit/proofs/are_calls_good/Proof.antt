@@ -1,4 +1,4 @@
--- `audit::are_calls_good` meets its contract. Assumes nothing.
+-- `audit::are_calls_good` meets its contract.
 use Prim.Native.Nat.{_-_}
 use Rattle.audit.proofs.Calls.{Calling, calling}
 use Rattle.audit.proofs.are_calls_good.Statement.{statement}

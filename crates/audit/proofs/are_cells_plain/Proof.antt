@@ -1,4 +1,4 @@
--- `audit::are_cells_plain` meets its contract. Assumes nothing.
+-- `audit::are_cells_plain` meets its contract.
 use Prim.Native.Nat.{_-_}
 use Rattle.audit.proofs.Shape.{Celling, celling}
 use Rattle.audit.proofs.are_cells_plain.Statement.{statement}

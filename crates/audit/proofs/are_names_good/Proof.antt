@@ -1,4 +1,4 @@
--- `audit::are_names_good` meets its contract. Assumes nothing.
+-- `audit::are_names_good` meets its contract.
 use Prim.Native.Nat.{_-_}
 use Rattle.audit.proofs.Names.{Naming, naming}
 use Rattle.audit.proofs.are_names_good.Statement.{statement}

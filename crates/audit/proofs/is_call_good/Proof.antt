@@ -1,4 +1,4 @@
--- `audit::is_call_good` meets its contract. Assumes nothing.
+-- `audit::is_call_good` meets its contract.
 use Rattle.audit.proofs.Calls.{call-tests}
 use Rattle.audit.proofs.is_call_good.Statement.{statement}
 use Rattle.audit.proofs.is_call_good.Tie as tie

@@ -1,4 +1,4 @@
--- `audit::is_cell_plain` meets its contract. Assumes nothing.
+-- `audit::is_cell_plain` meets its contract.
 use Rattle.audit.proofs.Shape.{cell-tests}
 use Rattle.audit.proofs.is_cell_plain.Statement.{statement}
 use Rattle.audit.proofs.is_cell_plain.Tie as tie

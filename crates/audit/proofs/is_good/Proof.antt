@@ -1,4 +1,4 @@
--- `audit::is_good` meets its contract. Assumes nothing.
+-- `audit::is_good` meets its contract.
 use Prim.Native.Nat.{_-_}
 use Rattle.audit.proofs.Slots.{Auditing, auditing}
 use Rattle.audit.proofs.is_good.Statement.{statement}

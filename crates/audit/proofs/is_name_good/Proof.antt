@@ -1,4 +1,4 @@
--- `audit::is_name_good` meets its contract. Assumes nothing.
+-- `audit::is_name_good` meets its contract.
 use Rattle.audit.proofs.Names.{name-tests}
 use Rattle.audit.proofs.is_name_good.Statement.{statement}
 use Rattle.audit.proofs.is_name_good.Tie as tie

@@ -1,4 +1,4 @@
--- `audit::is_ownable` meets its contract. Assumes nothing.
+-- `audit::is_ownable` meets its contract.
 use Rattle.audit.proofs.Names.{ownables}
 use Rattle.audit.proofs.is_ownable.Statement.{statement}
 use Rattle.audit.proofs.is_ownable.Tie as tie

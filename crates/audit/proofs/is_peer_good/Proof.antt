@@ -1,4 +1,4 @@
--- `audit::is_peer_good` meets its contract. Assumes nothing.
+-- `audit::is_peer_good` meets its contract.
 use Rattle.audit.proofs.Slots.{peers}
 use Rattle.audit.proofs.is_peer_good.Statement.{statement}
 use Rattle.audit.proofs.is_peer_good.Tie as tie

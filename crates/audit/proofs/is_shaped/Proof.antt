@@ -1,4 +1,4 @@
--- `audit::is_shaped` meets its contract. Assumes nothing.
+-- `audit::is_shaped` meets its contract.
 use Rattle.audit.proofs.Slots.{shapes}
 use Rattle.audit.proofs.is_shaped.Statement.{statement}
 use Rattle.audit.proofs.is_shaped.Tie as tie

@@ -1,4 +1,4 @@
--- `audit::is_slot_good` meets its contract. Assumes nothing.
+-- `audit::is_slot_good` meets its contract.
 use Rattle.audit.proofs.Slots.{slot-tests}
 use Rattle.audit.proofs.is_slot_good.Statement.{statement}
 use Rattle.audit.proofs.is_slot_good.Tie as tie

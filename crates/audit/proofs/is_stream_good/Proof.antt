@@ -1,4 +1,4 @@
--- `audit::is_stream_good` meets its contract. Assumes nothing.
+-- `audit::is_stream_good` meets its contract.
 use Rattle.audit.proofs.Slots.{streams}
 use Rattle.audit.proofs.is_stream_good.Statement.{statement}
 use Rattle.audit.proofs.is_stream_good.Tie as tie

@@ -1,4 +1,4 @@
--- `audit::is_table` meets its contract. Assumes nothing.
+-- `audit::is_table` meets its contract.
 use Rattle.audit.proofs.Shape.{tables}
 use Rattle.audit.proofs.is_table.Statement.{statement}
 use Rattle.audit.proofs.is_table.Tie as tie

@@ -1,4 +1,4 @@
--- `audit::scaled` meets its contract. Assumes nothing.
+-- `audit::scaled` meets its contract.
 use Rattle.audit.proofs.Shape.{scaling}
 use Rattle.audit.proofs.scaled.Statement.{statement}
 use Rattle.audit.proofs.scaled.Tie as tie

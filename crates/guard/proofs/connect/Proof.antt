@@ -1,4 +1,4 @@
--- `guard::connect` meets its contract. Assumes nothing.
+-- `guard::connect` meets its contract.
 use Rattle.memory.specs.Calls.{connectOn}
 use Rattle.guard.proofs.Tested.{passed-image, passed-memory, calls}
 use Rattle.guard.proofs.connect.Statement.{statement}

@@ -1,4 +1,4 @@
--- `guard::disconnect` meets its contract. Assumes nothing.
+-- `guard::disconnect` meets its contract.
 use Rattle.memory.specs.Calls.{disconnectOn}
 use Rattle.guard.proofs.Tested.{calls}
 use Rattle.guard.proofs.disconnect.Statement.{statement}

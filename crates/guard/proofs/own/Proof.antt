@@ -1,4 +1,4 @@
--- `guard::own` meets its contract. Assumes nothing.
+-- `guard::own` meets its contract.
 use Rattle.memory.specs.Calls.{ownOn}
 use Rattle.guard.proofs.Tested.{passed-image, passed-memory, calls}
 use Rattle.guard.proofs.own.Statement.{statement}

@@ -1,4 +1,4 @@
--- `guard::piece` meets its contract. Assumes nothing.
+-- `guard::piece` meets its contract.
 use Rattle.memory.specs.Calls.{pieceOn}
 use Rattle.guard.proofs.Tested.{passed-image, passed-memory, calls}
 use Rattle.guard.proofs.piece.Statement.{statement}

@@ -1,4 +1,4 @@
--- `guard::release` meets its contract. Assumes nothing.
+-- `guard::release` meets its contract.
 use Rattle.memory.specs.Calls.{releaseOn}
 use Rattle.guard.proofs.Tested.{calls}
 use Rattle.guard.proofs.release.Statement.{statement}

@@ -1,4 +1,4 @@
--- `guard::start` meets its contract. Assumes nothing.
+-- `guard::start` meets its contract.
 use Rattle.guard.proofs.Tested.{starting}
 use Rattle.guard.proofs.start.Statement.{statement}
 use Rattle.guard.proofs.start.Tie as tie

@@ -1,4 +1,4 @@
--- `judge::answer_to` meets its contract. Assumes nothing.
+-- `judge::answer_to` meets its contract.
 use Rattle.judge.proofs.Peers.{answers}
 use Rattle.judge.proofs.answer_to.Statement.{statement}
 use Rattle.judge.proofs.answer_to.Tie as tie

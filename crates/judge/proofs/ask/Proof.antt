@@ -1,4 +1,4 @@
--- `judge::ask` meets its contract. Assumes nothing.
+-- `judge::ask` meets its contract.
 use Rattle.judge.proofs.Policy.{asking}
 use Rattle.judge.proofs.ask.Statement.{statement}
 use Rattle.judge.proofs.ask.Tie as tie

@@ -1,4 +1,4 @@
--- `judge::ask_peer` meets its contract. Assumes nothing.
+-- `judge::ask_peer` meets its contract.
 use Rattle.judge.proofs.Policy.{asking-peer}
 use Rattle.judge.proofs.ask_peer.Statement.{statement}
 use Rattle.judge.proofs.ask_peer.Tie as tie

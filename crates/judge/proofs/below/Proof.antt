@@ -1,4 +1,4 @@
--- `judge::below` meets its contract. Assumes nothing.
+-- `judge::below` meets its contract.
 use Rattle.judge.proofs.Everybody.{one-more}
 use Rattle.judge.proofs.below.Statement.{statement}
 use Rattle.judge.proofs.below.Tie as tie

@@ -1,4 +1,4 @@
--- `judge::deliver` meets its contract. Assumes nothing.
+-- `judge::deliver` meets its contract.
 use Rattle.judge.proofs.Peers.{delivering}
 use Rattle.judge.proofs.deliver.Statement.{statement}
 use Rattle.judge.proofs.deliver.Tie as tie

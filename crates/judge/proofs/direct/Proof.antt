@@ -1,4 +1,4 @@
--- `judge::direct` meets its contract. Assumes nothing.
+-- `judge::direct` meets its contract.
 use Rattle.judge.proofs.Whole.{directing}
 use Rattle.judge.proofs.direct.Statement.{statement}
 use Rattle.judge.proofs.direct.Tie as tie

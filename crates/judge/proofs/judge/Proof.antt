@@ -1,4 +1,4 @@
--- `judge::judge` meets its contract. Assumes nothing.
+-- `judge::judge` meets its contract.
 use Rattle.judge.proofs.Whole.{judging}
 use Rattle.judge.proofs.judge.Statement.{statement}
 use Rattle.judge.proofs.judge.Tie as tie

@@ -1,4 +1,4 @@
--- `judge::may` meets its contract. Assumes nothing.
+-- `judge::may` meets its contract.
 use Rattle.judge.proofs.Policy.{saying}
 use Rattle.judge.proofs.may.Statement.{statement}
 use Rattle.judge.proofs.may.Tie as tie

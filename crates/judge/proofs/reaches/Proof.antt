@@ -1,4 +1,4 @@
--- `judge::reaches` meets its contract. Assumes nothing.
+-- `judge::reaches` meets its contract.
 use Rattle.judge.proofs.Policy.{reaching}
 use Rattle.judge.proofs.reaches.Statement.{statement}
 use Rattle.judge.proofs.reaches.Tie as tie

@@ -1,4 +1,4 @@
--- `judge::reply` meets its contract. Assumes nothing.
+-- `judge::reply` meets its contract.
 use Rattle.judge.proofs.Whole.{replying}
 use Rattle.judge.proofs.reply.Statement.{statement}
 use Rattle.judge.proofs.reply.Tie as tie

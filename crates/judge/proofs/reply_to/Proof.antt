@@ -1,4 +1,4 @@
--- `judge::reply_to` meets its contract. Assumes nothing.
+-- `judge::reply_to` meets its contract.
 use Rattle.judge.proofs.Peers.{replying-to}
 use Rattle.judge.proofs.reply_to.Statement.{statement}
 use Rattle.judge.proofs.reply_to.Tie as tie

@@ -1,4 +1,4 @@
--- `judge::to_all` meets its contract. Assumes nothing.
+-- `judge::to_all` meets its contract.
 use Rattle.judge.proofs.Everybody.{Masking, masking}
 use Rattle.judge.proofs.to_all.Statement.{statement}
 use Rattle.judge.proofs.to_all.Tie as tie

@@ -1,4 +1,4 @@
--- `judge::to_bus` meets its contract. Assumes nothing.
+-- `judge::to_bus` meets its contract.
 use Rattle.judge.proofs.Policy.{to-bus}
 use Rattle.judge.proofs.to_bus.Statement.{statement}
 use Rattle.judge.proofs.to_bus.Tie as tie

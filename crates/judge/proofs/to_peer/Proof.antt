@@ -1,4 +1,4 @@
--- `judge::to_peer` meets its contract. Assumes nothing.
+-- `judge::to_peer` meets its contract.
 use Rattle.judge.proofs.Peers.{to-peer}
 use Rattle.judge.proofs.to_peer.Statement.{statement}
 use Rattle.judge.proofs.to_peer.Tie as tie

@@ -1,4 +1,4 @@
--- `judge::wait` meets its contract. Assumes nothing.
+-- `judge::wait` meets its contract.
 use Rattle.judge.proofs.Peers.{waiting}
 use Rattle.judge.proofs.wait.Statement.{statement}
 use Rattle.judge.proofs.wait.Tie as tie

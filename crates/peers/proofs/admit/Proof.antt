@@ -1,4 +1,4 @@
--- `peers::admit` meets its contract. Assumes nothing.
+-- `peers::admit` meets its contract.
 use Rattle.peers.proofs.Entering.{admitting}
 use Rattle.peers.proofs.admit.Statement.{statement}
 use Rattle.peers.proofs.admit.Tie as tie

@@ -1,4 +1,4 @@
--- `peers::claim` meets its contract. Assumes nothing.
+-- `peers::claim` meets its contract.
 use Rattle.peers.proofs.Owning.{claiming}
 use Rattle.peers.proofs.claim.Statement.{statement}
 use Rattle.peers.proofs.claim.Tie as tie
@@ -7,11 +7,8 @@ pub claim-spec : {M : Type 1} → statement M
 claim-spec =
     tie.close
     (tie.spec
-    (λ c κs. search claiming)
     (λ c. search claiming)
     (λ c. search claiming)
-    (λ c κs. search claiming)
-    (λ c κs. search claiming)
     (λ c. search claiming)
     (λ c. search claiming)
     (λ c. search claiming)

@@ -1,4 +1,4 @@
--- `peers::connect` meets its contract. Assumes nothing.
+-- `peers::connect` meets its contract.
 use Rattle.peers.proofs.Entering.{connecting}
 use Rattle.peers.proofs.connect.Statement.{statement}
 use Rattle.peers.proofs.connect.Tie as tie
@@ -7,11 +7,11 @@ pub connect-spec : {M : Type 1} → statement M
 connect-spec =
     tie.close
     (tie.spec
-    (λ c κs. search connecting)
     (λ c. search connecting)
-    (λ c κs. search connecting)
-    (λ c κs. search connecting)
     (λ c. search connecting)
-    (λ c κs. search connecting)
+    (λ c. search connecting)
+    (λ c. search connecting)
+    (λ c. search connecting)
+    (λ c. search connecting)
     (λ c. search connecting)
     (λ c. search connecting))

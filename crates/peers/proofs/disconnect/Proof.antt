@@ -1,4 +1,4 @@
--- `peers::disconnect` meets its contract. Assumes nothing.
+-- `peers::disconnect` meets its contract.
 use Rattle.peers.proofs.Leaving.{disconnecting}
 use Rattle.peers.proofs.disconnect.Statement.{statement}
 use Rattle.peers.proofs.disconnect.Tie as tie

@@ -1,4 +1,4 @@
--- `peers::end_all` meets its contract. Assumes nothing.
+-- `peers::end_all` meets its contract.
 use Prim.Native.Nat.{_-_}
 use Rattle.peers.proofs.Calls.{Bereaving, bereaving}
 use Rattle.peers.proofs.end_all.Statement.{statement}

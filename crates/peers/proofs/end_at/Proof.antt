@@ -1,4 +1,4 @@
--- `peers::end_at` meets its contract. Assumes nothing.
+-- `peers::end_at` meets its contract.
 use Rattle.peers.proofs.Calls.{slot-calls}
 use Rattle.peers.proofs.end_at.Statement.{statement}
 use Rattle.peers.proofs.end_at.Tie as tie

@@ -1,4 +1,4 @@
--- `peers::end_calls` meets its contract. Assumes nothing.
+-- `peers::end_calls` meets its contract.
 use Prim.Native.Nat.{_-_}
 use Rattle.tables.specs.Tables.{tableOf}
 use Rattle.memory.specs.Encoding.{pendingOf}

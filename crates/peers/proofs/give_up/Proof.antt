@@ -1,4 +1,4 @@
--- `peers::give_up` meets its contract. Assumes nothing.
+-- `peers::give_up` meets its contract.
 use Rattle.peers.proofs.Releasing.{giving}
 use Rattle.peers.proofs.give_up.Statement.{statement}
 use Rattle.peers.proofs.give_up.Tie as tie

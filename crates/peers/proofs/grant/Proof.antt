@@ -1,4 +1,4 @@
--- `peers::grant` meets its contract. Assumes nothing.
+-- `peers::grant` meets its contract.
 use Rattle.peers.proofs.Owning.{granting}
 use Rattle.peers.proofs.grant.Statement.{statement}
 use Rattle.peers.proofs.grant.Tie as tie

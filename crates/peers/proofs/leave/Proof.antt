@@ -1,4 +1,4 @@
--- `peers::leave` meets its contract. Assumes nothing.
+-- `peers::leave` meets its contract.
 use Rattle.peers.proofs.Leaving.{leaving}
 use Rattle.peers.proofs.leave.Statement.{statement}
 use Rattle.peers.proofs.leave.Tie as tie

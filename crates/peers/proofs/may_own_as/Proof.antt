@@ -1,4 +1,4 @@
--- `peers::may_own_as` meets its contract. Assumes nothing.
+-- `peers::may_own_as` meets its contract.
 use Rattle.peers.proofs.Owning.{asking}
 use Rattle.peers.proofs.may_own_as.Statement.{statement}
 use Rattle.peers.proofs.may_own_as.Tie as tie

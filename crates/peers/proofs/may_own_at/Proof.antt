@@ -1,4 +1,4 @@
--- `peers::may_own_at` meets its contract. Assumes nothing.
+-- `peers::may_own_at` meets its contract.
 use Rattle.peers.proofs.Owning.{asking}
 use Rattle.peers.proofs.may_own_at.Statement.{statement}
 use Rattle.peers.proofs.may_own_at.Tie as tie

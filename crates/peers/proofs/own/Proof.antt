@@ -1,4 +1,4 @@
--- `peers::own` meets its contract. Assumes nothing.
+-- `peers::own` meets its contract.
 use Rattle.peers.proofs.Owning.{owning}
 use Rattle.peers.proofs.own.Statement.{statement}
 use Rattle.peers.proofs.own.Tie as tie
@@ -7,6 +7,9 @@ pub own-spec : {M : Type 1} → statement M
 own-spec =
     tie.close
     (tie.spec
+    (λ c κs. search owning)
+    (λ c. search owning)
+    (λ c. search owning)
     (λ c κs. search owning)
     (λ c. search owning)
     (λ c. search owning)

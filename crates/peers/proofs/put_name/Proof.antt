@@ -1,4 +1,4 @@
--- `peers::put_name` meets its contract. Assumes nothing.
+-- `peers::put_name` meets its contract.
 use Rattle.peers.proofs.Owning.{naming}
 use Rattle.peers.proofs.put_name.Statement.{statement}
 use Rattle.peers.proofs.put_name.Tie as tie

@@ -1,4 +1,4 @@
--- `peers::release` meets its contract. Assumes nothing.
+-- `peers::release` meets its contract.
 use Rattle.peers.proofs.Releasing.{releasing}
 use Rattle.peers.proofs.release.Statement.{statement}
 use Rattle.peers.proofs.release.Tie as tie

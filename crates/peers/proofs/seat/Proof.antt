@@ -1,4 +1,4 @@
--- `peers::seat` meets its contract. Assumes nothing.
+-- `peers::seat` meets its contract.
 use Rattle.peers.proofs.Newcomers.{seating}
 use Rattle.peers.proofs.seat.Statement.{statement}
 use Rattle.peers.proofs.seat.Tie as tie

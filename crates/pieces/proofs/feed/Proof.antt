@@ -1,4 +1,4 @@
--- `pieces::feed` meets its contract. Assumes nothing.
+-- `pieces::feed` meets its contract.
 use Rattle.pieces.proofs.Feeding.{fed, feeding}
 use mathlib.Core.Path.{refl}
 use Rattle.pieces.proofs.feed.Statement.{statement}

@@ -1,4 +1,4 @@
--- `pieces::feed_at` meets its contract. Assumes nothing.
+-- `pieces::feed_at` meets its contract.
 use Rattle.pieces.proofs.Seats.{seats}
 use Rattle.pieces.proofs.feed_at.Statement.{statement}
 use Rattle.pieces.proofs.feed_at.Tie as tie

@@ -1,4 +1,4 @@
--- `pieces::head_of` meets its contract. Assumes nothing.
+-- `pieces::head_of` meets its contract.
 use Rattle.pieces.proofs.Copied.{copying}
 use Rattle.pieces.proofs.head_of.Statement.{statement}
 use Rattle.pieces.proofs.head_of.Tie as tie

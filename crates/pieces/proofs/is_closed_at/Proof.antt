@@ -1,4 +1,4 @@
--- `pieces::is_closed_at` meets its contract. Assumes nothing.
+-- `pieces::is_closed_at` meets its contract.
 use Rattle.pieces.proofs.Seats.{seats}
 use Rattle.pieces.proofs.is_closed_at.Statement.{statement}
 use Rattle.pieces.proofs.is_closed_at.Tie as tie

@@ -1,4 +1,4 @@
--- `pieces::judge_at` meets its contract. Assumes nothing.
+-- `pieces::judge_at` meets its contract.
 use Rattle.pieces.proofs.Offered.{judging}
 use Rattle.pieces.proofs.judge_at.Statement.{statement}
 use Rattle.pieces.proofs.judge_at.Tie as tie

@@ -1,4 +1,4 @@
--- `pieces::piece` meets its contract. Assumes nothing.
+-- `pieces::piece` meets its contract.
 use mathlib.Core.Path.{sym, _∙_}
 use Rattle.pieces.proofs.Offered.{piecing}
 use Rattle.pieces.proofs.piece.Statement.{statement}

@@ -1,4 +1,4 @@
--- `pieces::piece_at` meets its contract. Assumes nothing.
+-- `pieces::piece_at` meets its contract.
 use Rattle.pieces.proofs.Offered.{offering}
 use Rattle.pieces.proofs.piece_at.Statement.{statement}
 use Rattle.pieces.proofs.piece_at.Tie as tie

@@ -1,4 +1,4 @@
--- `pieces::settle_at` meets its contract. Assumes nothing.
+-- `pieces::settle_at` meets its contract.
 use Rattle.pieces.proofs.Seats.{seats}
 use Rattle.pieces.proofs.settle_at.Statement.{statement}
 use Rattle.pieces.proofs.settle_at.Tie as tie

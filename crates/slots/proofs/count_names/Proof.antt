@@ -1,4 +1,4 @@
--- `slots::count_names` meets its contract. Assumes nothing.
+-- `slots::count_names` meets its contract.
 use Rattle.slots.proofs.Cells.{counting}
 use Rattle.slots.proofs.count_names.Statement.{statement}
 use Rattle.slots.proofs.count_names.Tie as tie

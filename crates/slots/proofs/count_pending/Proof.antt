@@ -1,4 +1,4 @@
--- `slots::count_pending` meets its contract. Assumes nothing.
+-- `slots::count_pending` meets its contract.
 use Rattle.slots.proofs.Cells.{counting}
 use Rattle.slots.proofs.count_pending.Statement.{statement}
 use Rattle.slots.proofs.count_pending.Tie as tie

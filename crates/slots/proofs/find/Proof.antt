@@ -1,4 +1,4 @@
--- `slots::find` meets its contract. Assumes nothing.
+-- `slots::find` meets its contract.
 use Prim.Native.Nat.{_-_}
 use Rattle.rules.specs.State.{isPeer}
 use Rattle.memory.proofs.Search.{Looking}

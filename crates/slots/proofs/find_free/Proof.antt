@@ -1,4 +1,4 @@
--- `slots::find_free` meets its contract. Assumes nothing.
+-- `slots::find_free` meets its contract.
 use Prim.Native.Nat.{_-_}
 use Rattle.rules.specs.State.{isFree}
 use Rattle.memory.proofs.Search.{Looking}

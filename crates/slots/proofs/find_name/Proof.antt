@@ -1,4 +1,4 @@
--- `slots::find_name` meets its contract. Assumes nothing.
+-- `slots::find_name` meets its contract.
 use Prim.Native.Nat.{_-_}
 use Rattle.slots.proofs.Owned.{Looking, looking}
 use Rattle.slots.proofs.find_name.Statement.{statement}

@@ -1,4 +1,4 @@
--- `slots::find_owner` meets its contract. Assumes nothing.
+-- `slots::find_owner` meets its contract.
 use Prim.Native.Nat.{_-_}
 use Rattle.rules.specs.Calls.{isOwner}
 use Rattle.memory.proofs.Search.{Looking}

@@ -1,4 +1,4 @@
--- `slots::find_pending` meets its contract. Assumes nothing.
+-- `slots::find_pending` meets its contract.
 use Prim.Native.Nat.{_-_}
 use Rattle.slots.proofs.Waiting.{Seeking, seeking}
 use Rattle.slots.proofs.find_pending.Statement.{statement}

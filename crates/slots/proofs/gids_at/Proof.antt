@@ -1,4 +1,4 @@
--- `slots::gids_at` meets its contract. Assumes nothing.
+-- `slots::gids_at` meets its contract.
 use Prim.Native.Nat.{_-_}
 use Rattle.slots.proofs.Groups.{Gathering, gathering}
 use Rattle.slots.proofs.gids_at.Statement.{statement}

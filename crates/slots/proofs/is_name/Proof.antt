@@ -1,4 +1,4 @@
--- `slots::is_name` meets its contract. Assumes nothing.
+-- `slots::is_name` meets its contract.
 use Rattle.slots.proofs.Owned.{naming}
 use Rattle.slots.proofs.is_name.Statement.{statement}
 use Rattle.slots.proofs.is_name.Tie as tie

@@ -1,4 +1,4 @@
--- `slots::is_owner` meets its contract. Assumes nothing.
+-- `slots::is_owner` meets its contract.
 use Rattle.slots.proofs.Owned.{owners}
 use Rattle.slots.proofs.is_owner.Statement.{statement}
 use Rattle.slots.proofs.is_owner.Tie as tie

@@ -1,4 +1,4 @@
--- `slots::last_of` meets its contract. Assumes nothing.
+-- `slots::last_of` meets its contract.
 use borrow.Author.Needs.{needs}
 use mathlib.Core.Path.{_≡_, sym, _∙_}
 use mathlib.Core.List.{List}

@@ -1,4 +1,4 @@
--- `slots::owns_name` meets its contract. Assumes nothing.
+-- `slots::owns_name` meets its contract.
 use Rattle.slots.proofs.Owned.{owned}
 use Rattle.slots.proofs.owns_name.Statement.{statement}
 use Rattle.slots.proofs.owns_name.Tie as tie

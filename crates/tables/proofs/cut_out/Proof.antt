@@ -1,4 +1,4 @@
--- `tables::cut_out` meets its contract. Assumes nothing.
+-- `tables::cut_out` meets its contract.
 use Rattle.tables.proofs.Cutting.{cutting}
 use Rattle.tables.proofs.cut_out.Statement.{statement}
 use Rattle.tables.proofs.cut_out.Tie as tie

@@ -1,4 +1,4 @@
--- `tables::put_words` meets its contract. Assumes nothing.
+-- `tables::put_words` meets its contract.
 use Prim.Native.Nat.{_-_}
 use lib.ListN.{length}
 use Rattle.tables.proofs.Row.{Putting, putting}

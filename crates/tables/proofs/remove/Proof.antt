@@ -1,4 +1,4 @@
--- `tables::remove` meets its contract. Assumes nothing.
+-- `tables::remove` meets its contract.
 use Rattle.tables.proofs.Cutting.{removing}
 use Rattle.tables.proofs.remove.Statement.{statement}
 use Rattle.tables.proofs.remove.Tie as tie

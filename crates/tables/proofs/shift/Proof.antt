@@ -1,4 +1,4 @@
--- `tables::shift` meets its contract. Assumes nothing.
+-- `tables::shift` meets its contract.
 use Prim.Native.Nat.{_-_}
 use Rattle.tables.proofs.Cutting.{Shifting, shifting}
 use Rattle.tables.proofs.shift.Statement.{statement}

@@ -1,4 +1,4 @@
--- `judge::address::answers_to` meets its contract. Assumes nothing.
+-- `judge::address::answers_to` meets its contract.
 use Rattle.judge.proofs.Addresses.{answering}
 use Rattle.judge.proofs.address.answers_to.Statement.{statement}
 use Rattle.judge.proofs.address.answers_to.Tie as tie

@@ -1,4 +1,4 @@
--- `judge::address::find_addressee` meets its contract. Assumes nothing.
+-- `judge::address::find_addressee` meets its contract.
 use Prim.Native.Nat.{_-_}
 use Rattle.rules.specs.Addresses.{answersTo}
 use Rattle.memory.proofs.Search.{Looking}

@@ -1,4 +1,4 @@
--- `judge::address::has_unique_name` meets its contract. Assumes nothing.
+-- `judge::address::has_unique_name` meets its contract.
 use Rattle.judge.proofs.Unique.{uniques}
 use Rattle.judge.proofs.address.has_unique_name.Statement.{statement}
 use Rattle.judge.proofs.address.has_unique_name.Tie as tie

@@ -1,4 +1,4 @@
--- `judge::address::resolve` meets its contract. Assumes nothing.
+-- `judge::address::resolve` meets its contract.
 use Rattle.judge.proofs.Addresses.{resolving}
 use Rattle.judge.proofs.address.resolve.Statement.{statement}
 use Rattle.judge.proofs.address.resolve.Tie as tie

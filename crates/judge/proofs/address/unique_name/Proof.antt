@@ -1,4 +1,4 @@
--- `judge::address::unique_name` meets its contract. Assumes nothing.
+-- `judge::address::unique_name` meets its contract.
 use Rattle.judge.proofs.Unique.{Spelling, spelling}
 use Rattle.judge.proofs.address.unique_name.Statement.{statement}
 use Rattle.judge.proofs.address.unique_name.Tie as tie

@@ -1,4 +1,4 @@
--- `judge::pending::begin_call` meets its contract. Assumes nothing.
+-- `judge::pending::begin_call` meets its contract.
 use Rattle.judge.proofs.Calls.{beginning}
 use Rattle.judge.proofs.pending.begin_call.Statement.{statement}
 use Rattle.judge.proofs.pending.begin_call.Tie as tie

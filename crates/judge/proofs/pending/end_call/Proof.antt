@@ -1,4 +1,4 @@
--- `judge::pending::end_call` meets its contract. Assumes nothing.
+-- `judge::pending::end_call` meets its contract.
 use Rattle.judge.proofs.Calls.{ending}
 use Rattle.judge.proofs.pending.end_call.Statement.{statement}
 use Rattle.judge.proofs.pending.end_call.Tie as tie

@@ -1,0 +1,16 @@
+-- The worked examples hold of the calls: one statement, which antt computes.
+use mathlib.Core.Path.{_≡_, refl}
+use mathlib.Core.Bool.{true}
+use Prim.Native.Nat.{ℕ}
+use lib.Dec.{eqb}
+use Rattle.wire.specs.Lists.{agrees}
+use Rattle.wire.specs.Words.{wordAt, wordBytes}
+use Rattle.image.specs.Good.{goodHeader, goodImage, outcomeOf, imageAnswer}
+use Rattle.memory.specs.Encoding.{peerBytes, peerOf}
+use Rattle.memory.specs.Good.{good}
+use Rattle.memory.specs.Calls.{startOn, connectOn, ownOn, releaseOn, pieceOn, disconnectOn}
+use Rattle.memory.specs.Bench.{table}
+
+pub table-agrees : agrees (λ (given : ℕ). given) eqb table ≡ true
+unfolding wordAt wordBytes goodHeader goodImage outcomeOf imageAnswer peerBytes peerOf good startOn connectOn ownOn releaseOn pieceOn disconnectOn
+table-agrees = refl

@@ -1,0 +1,21 @@
+-- Worked examples: an image and a memory of no bytes at all, which are both bad, and what each call answers to them (rules 8.1 and 8.2); and a peer's fields,
+-- read back from its slot's bytes (rule 10.2).
+use mathlib.Core.List.{List, [], _∷_}
+use Prim.Native.Nat.{ℕ}
+use Rattle.stream.specs.Tail.{tails}
+use Rattle.rules.specs.Calls.{newcomer}
+use Rattle.memory.specs.Encoding.{peerBytes, peerOf}
+use Rattle.memory.specs.Calls.{startOn, connectOn, ownOn, releaseOn, pieceOn, disconnectOn}
+
+-- what is given, and what it is to be
+abbrev pub table : List (ℕ × ℕ)
+table =
+    (startOn [] .result, 51)
+    ∷ (connectOn [] [] 0 [] .result .answer, 50)
+    ∷ (ownOn [] [] 1 [] .result, 50)
+    ∷ (releaseOn [] 1 [] .result, 51)
+    ∷ (pieceOn [] [] 1 [] .result .judgement .answer, 50)
+    ∷ (disconnectOn [] 1 .result .answer, 51)
+    ∷ (peerOf (peerBytes (newcomer tails 1 1000 [])) .number, 1)
+    ∷ (peerOf (peerBytes (newcomer tails 1 1000 [])) .uid, 1000)
+    ∷ []
