@@ -1,3 +1,4 @@
+pub mod Table
 pub mod Heads
 pub mod Offers
 pub mod Good
