@@ -1,4 +1,4 @@
-pub mod Table
+pub mod Examples
 pub mod Front
 pub mod Readings
 mod Numbers

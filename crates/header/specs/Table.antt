@@ -66,9 +66,7 @@ replySerial o n = 5 ∷ 1 ∷ byte "u" ∷ 0 ∷ number o n
 -- faults of the fixed part, and heads that have not come whole
 abbrev fixedLines : Order → List Line
 fixedLines o =
-    (callC o, 0)
-    ∷ (callC o ++ bytes "body", 0)  -- bytes behind the head do not matter
-    ∷ (take 15 (callC o), 10)
+    (take 15 (callC o), 10)
     ∷ (take 15 (set (callC o) 0 76), 10)  -- 1 is not found before byte 16
     ∷ (take 47 (callC o), 10)
     ∷ (take 47 (set (callC o) 31 1), 10)  -- nor 7 before the head's last byte
@@ -105,23 +103,30 @@ arrayLines o =
 -- each field that a type requires, absent alone
 abbrev requiredLines : Order → List Line
 requiredLines o =
-    (message o call (member o), 9)
+    (message o return [], 9)
+    ∷ (message o call (member o), 9)
     ∷ (message o call (path o), 9)
-    ∷ (message o call (path o ++ member o), 0)
-    ∷ (message o return [], 9)
-    ∷ (message o return (replySerial o 7), 0)
     ∷ (message o error (replySerial o 7), 9)
     ∷ (message o error (errorName o), 9)
-    ∷ (message o error (errorName o ++ replySerial o 7), 0)
     ∷ (message o signal (interface o ++ member o), 9)
     ∷ (message o signal (path o ++ member o), 9)
     ∷ (message o signal (path o ++ interface o), 9)
+    ∷ []
+
+-- heads without a fault
+abbrev goodLines : Order → List Line
+goodLines o =
+    (message o 5 [], 0)  -- types 5 and up require none
+    ∷ (callC o, 0)
+    ∷ (callC o ++ bytes "body", 0)  -- bytes behind the head do not matter
+    ∷ (message o return (replySerial o 7), 0)
+    ∷ (message o call (path o ++ member o), 0)
+    ∷ (message o error (errorName o ++ replySerial o 7), 0)
     ∷ (message o signal (path o ++ (interface o ++ member o)), 0)
-    ∷ (message o 5 [], 0)  -- types 5 and up require none
     ∷ []
 
 abbrev lines : Order → List Line
-lines o = fixedLines o ++ (arrayLines o ++ requiredLines o)
+lines o = fixedLines o ++ (arrayLines o ++ (requiredLines o ++ goodLines o))
 
 abbrev pub table : List Line
 table = lines Little ++ lines Big

@@ -1,4 +1,4 @@
-pub mod Table
+pub mod Examples
 pub mod Heads
 pub mod Offers
 pub mod Good
