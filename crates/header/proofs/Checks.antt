@@ -1,4 +1,4 @@
--- The values and the required fields, way by way. Assumes nothing.
+-- The values and the required fields, way by way.
 use mathlib.Core.Path.{_≡_, refl, _∙_}
 use mathlib.Core.Bool.{Bool, true, false, cond, not, _&&_, and-true, and-assoc}
 use mathlib.Core.List.{List}

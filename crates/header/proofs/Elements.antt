@@ -1,4 +1,4 @@
--- One element of the array, way by way. Assumes nothing.
+-- One element of the array, way by way.
 use mathlib.Core.Path.{_≡_, refl, _∙_}
 use mathlib.Core.Bool.{Bool, true, false, cond, not, _&&_}
 use mathlib.Core.List.{List, [], _∷_}

@@ -1,4 +1,4 @@
--- The fixed part of a head depends on its first 16 bytes alone, and what it says where it has none of 1 to 6. Assumes nothing.
+-- The fixed part of a head depends on its first 16 bytes alone, and what it says where it has none of 1 to 6.
 use mathlib.Core.Path.{_≡_, refl, sym, ap, _∙_}
 use mathlib.Core.Bool.{Bool, true, false, cond, not}
 use mathlib.Core.List.{List, _++_}

@@ -1,6 +1,6 @@
+pub mod Examples
 pub mod Front
 pub mod Readings
-pub mod Table
 mod Numbers
 mod Elements
 mod Checks

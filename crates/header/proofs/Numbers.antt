@@ -1,4 +1,4 @@
--- The fixed part, way by way: what the code has tested gives the definition's answer. Assumes nothing.
+-- The fixed part, way by way: what the code has tested gives the definition's answer.
 use mathlib.Core.Path.{_≡_, _∙_}
 use mathlib.Core.Bool.{true, false, not}
 use mathlib.Core.List.{List}

@@ -1,4 +1,4 @@
--- The laws of a reading that callers go by. Assumes nothing.
+-- The laws of a reading that callers go by.
 use mathlib.Core.Path.{_≡_, refl, sym, ap, subst, _∙_}
 use mathlib.Core.Bool.{Bool, true, false, cond, not}
 use mathlib.Core.List.{List, _++_}
@@ -16,11 +16,11 @@ use Rattle.header.specs.declared.Fixed.{Fixed}
 use Rattle.header.specs.declared.Fixed.the-variants as fixed
 use Rattle.header.specs.declared.Reading.{Reading}
 use Rattle.header.specs.declared.Reading.the-variants.{Short, Broken, Whole}
-use Rattle.header.specs.Fixed.{orderOf, kindOf, bodyLength, serialOf, arrayLength, headLength, messageLength, fixedPart}
+use Rattle.header.specs.Fixed.{orderOf, kindOf, bodyLength, serialOf, arrayLength, headLength, messageLength, fixedPart, fixedAnswer}
 use Rattle.header.specs.Fields.{Fields, placeOf, noFields, walk, fieldsOf}
 use Rattle.header.specs.Values.{goodValues}
 use Rattle.header.specs.Required.{hasRequired}
-use Rattle.header.specs.Header.{headerOf, judged, orSeven, readHead, readHeader}
+use Rattle.header.specs.Header.{headerOf, judged, orSeven, readHead, readHeader, readingAnswer}
 use Rattle.header.specs.Reader.{Head, Fits}
 use Rattle.header.proofs.Front.{word-in-front, head-front, head-low, fixed-front, fixed-append, Good, fixed-good}
 use Rattle.header.proofs.Walk.{fits-none, walk-fits}
@@ -42,6 +42,14 @@ module _ (s : List ℕ) (k : 16 ≤ length s) where
     pub read-whole : head ≤ length s → readHeader s ≡ readHead (take head s)
     unfolding readHeader
     read-whole h = rw (le-ltb (length s) 16 k, e, le-ltb (length s) head h)
+
+-- a fault of the fixed part is the answer of the whole head
+pub fixed-answers : (s : List ℕ) → 16 ≤ length s → 0 < fixedAnswer (fixedPart s) → readingAnswer (readHeader s) ≡ fixedAnswer (fixedPart s)
+fixed-answers s k l = go (fixedPart s) refl l
+  where
+    go : (f : Fixed) → fixedPart s ≡ f → 0 < fixedAnswer f → readingAnswer (readHeader s) ≡ fixedAnswer f
+    go (fixed.Broken n) e m = ap readingAnswer (read-broken s k e)
+    go (fixed.Sizes head message) e m = absurd (omega arith)
 
 -- ---- a head that has come whole is decided: 7, 8, 9 or none
 

@@ -1,4 +1,4 @@
--- The walk over the array: where an element stands, and what is left of the walk. Assumes nothing.
+-- The walk over the array: where an element stands, and what is left of the walk.
 use mathlib.Core.Path.{_≡_, refl, sym, subst, _∙_}
 use mathlib.Core.Bool.{Bool, true, false, cond, not, _&&_}
 use mathlib.Core.List.{List, [], _∷_}

@@ -1,4 +1,4 @@
--- A whole head and any bytes, way by way. Assumes nothing.
+-- A whole head and any bytes, way by way.
 use mathlib.Core.Path.{_≡_, sym, _∙_}
 use mathlib.Core.Bool.{Bool, true, false, not}
 use mathlib.Core.List.{List}

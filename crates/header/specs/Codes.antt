@@ -1,4 +1,4 @@
--- The table of header fields (01, "Message head"). Assumes nothing: these are definitions.
+-- The table of header fields (rule 2.7).
 use mathlib.Core.Bool.{cond}
 use mathlib.Core.List.{List, [], _∷_}
 use Prim.Native.Nat.{ℕ}
@@ -7,14 +7,14 @@ use Rattle.wire.specs.Bytes.{byte}
 use Rattle.names.specs.declared.Form.{Form}
 use Rattle.names.specs.declared.Form.the-variants.{Interface, BusName, Member, Path}
 
--- what a field's value must be: a name of a form, a serial, a signature, or anything
+-- what a field's value must be: a name of a form, a serial, a signature, or anything (rule 2.7)
 pub data Rule : Type 0 where
   name : Form → Rule
   serial : Rule
   signature : Rule
   free : Rule
 
--- "Types: 1 call, 2 return, 3 error, 4 signal."
+-- the types of message (rule 2.2)
 abbrev pub call : ℕ
 call = 1
 
@@ -37,7 +37,7 @@ codeOf l = l .0
 abbrev pub requiredIn : Line → List ℕ
 requiredIn l = l .3
 
--- path, interface, member, error name, reply serial, destination, sender, signature, descriptors
+-- path, interface, member, error name, reply serial, destination, sender, signature, descriptors (rule 2.7)
 abbrev pub table : List Line
 table =
     (1, byte "o", name Path, call ∷ signal ∷ [])
@@ -59,7 +59,7 @@ abbrev pub ruleIn : List Line → ℕ → Rule
 ruleIn [] code = free
 ruleIn (l ∷ ls) code = cond (eqb code (codeOf l)) (l .2) (ruleIn ls code)
 
--- the letter of a code, 0 where no field has the code
+-- the letter of a code, 0 where no field has the code (rule 2.7)
 unfoldable pub letterOf : ℕ → ℕ
 letterOf code = letterIn table code
 

@@ -1,4 +1,4 @@
--- The array of header fields and its answer 7 (01, "Message head" and "Answer numbers"). Assumes nothing: these are definitions.
+-- The array of header fields and its answer 7 (rules 2.5, 2.6 and 2.8).
 use mathlib.Core.Bool.{Bool, true, false, cond, not, _&&_}
 use mathlib.Core.List.{List}
 use mathlib.Core.Option.{Option, none, some}
@@ -19,7 +19,7 @@ use Rattle.header.specs.Codes.{letterOf}
 abbrev pub absent : Place
 absent = record { at = 0; len = 0 }
 
--- no value can start at byte 0
+-- no value can start at byte 0, so a place there says that the field is absent (rule 2.12)
 abbrev pub present : Place → Bool
 present p = not (eqb (p .at) 0)
 
@@ -39,17 +39,17 @@ noFields = replicate 10 absent
 
 -- ---- one element, in an array that ends at `end`
 
--- a text of `len` bytes from `at` on, and the zero behind it
+-- a text of `len` bytes from `at` on, and the zero behind it (rules 2.6 and 2.8)
 unfoldable pub textIn : List ℕ → ℕ → ℕ → ℕ → ℕ → Element
 textIn h end code at len = cond (ltb (at + len) end && eqb (getD h (at + len) 0) 0) (At code at len (at + len + 1)) Bad
 
--- "`o`, `s`: u32 length, bytes, zero. `g`: one length byte, bytes, zero."
+-- the value at `at`: only a signature has its length in one byte (rule 2.6)
 unfoldable pub valueAt : Order → List ℕ → ℕ → ℕ → ℕ → ℕ → Element
 valueAt o h end code letter at =
     cond (eqb letter (byte "g")) (textIn h end code (at + 1) (getD h at 0))
     (cond (eqb letter (byte "u")) (cond (leb (at + 4) end) (At code at 4 (at + 4)) Bad) (textIn h end code (at + 4) (wordAt o h at)))
 
--- "code, 1, one type letter, zero": a code of the table with its letter
+-- the four bytes in front of a value: a code of the table with its letter (rule 2.5)
 unfoldable pub framed : List ℕ → ℕ → Bool
 framed h at =
     not (eqb (letterOf (getD h at 0)) 0)
@@ -57,7 +57,7 @@ framed h at =
     && eqb (getD h (at + 2) 0) (letterOf (getD h at 0))
     && eqb (getD h (at + 3) 0) 0
 
--- the element behind the padding that starts at `from`: "each at a multiple of 8: code, 1, one type letter, zero, value"
+-- the element behind the padding that starts at `from`, which is zero (rules 2.5 and 2.8)
 unfoldable pub elementAt : Order → List ℕ → ℕ → ℕ → Element
 elementAt o h end from =
     cond (allZero (take (roundUp8 from - from) (drop from h)) && framed h (roundUp8 from))
@@ -66,8 +66,8 @@ elementAt o h end from =
 
 -- ---- all elements
 
--- the fields of the elements from `from` on, beside those of `fs`: the last one ends at `end`, and no code is repeated. An element has more
--- than one byte, so a fuel of one more than the array's length is enough
+-- the fields of the elements from `from` on, beside those of `fs`: the last one ends at `end`, and no code is repeated (rule 2.8). An element has
+-- more than one byte, so a fuel of one more than the array's length is enough
 unfoldable pub walk : ℕ → Order → List ℕ → ℕ → ℕ → Fields → Option Fields
 walk zero o h end from fs = none
 walk (suc fuel) o h end from fs =
@@ -84,7 +84,7 @@ walk (suc fuel) o h end from fs =
           ]
     ]
 
--- the fields of the head h, or none where the array is malformed: "non-zero padding, also after the array"
+-- the fields of the head h, or none where the array is malformed; what stands behind the array is padding (rule 2.8)
 unfoldable pub fieldsOf : List ℕ → Option Fields
 fieldsOf h =
     cond (allZero (drop (16 + arrayLength h) h)) (walk (arrayLength h + 1) (orderOf h) h (16 + arrayLength h) 16 noFields) none

@@ -1,5 +1,4 @@
--- The fixed part of a head, bytes 0 to 15 (01, "Message head"), and its answers 1 to 6 (01, "Answer numbers").
--- Assumes nothing: these are definitions.
+-- The fixed part of a head, bytes 0 to 15 (rules 2.1, 2.2 and 2.3), and its answers 1 to 6 (rule 2.4).
 use mathlib.Core.Bool.{Bool, cond, not, _||_}
 use mathlib.Core.List.{List}
 use Prim.Native.Nat.{ℕ, _+_}
@@ -12,14 +11,14 @@ use Rattle.wire.specs.declared.Order.the-variants.{Little, Big}
 use Rattle.header.specs.declared.Fixed.{Fixed}
 use Rattle.header.specs.declared.Fixed.the-variants.{Broken, Sizes}
 
--- "Byte 0: `l` (6c) little-endian or `B` (42) big."
+-- the order that byte 0 names (rule 2.1); where it names none, `fixedPart` has answered 1 before a number is read
 unfoldable pub orderOf : List ℕ → Order
 orderOf s = cond (eqb (getD s 0 0) (byte "B")) Big Little
 
 abbrev pub isOrder : ℕ → Bool
 isOrder b = eqb b (byte "l") || eqb b (byte "B")
 
--- "Byte 1 type, 2 flags (bit 0: no reply expected; others ignored), 3 version 1. Then u32 body length, u32 serial, u32 field array length."
+-- where the parts stand (rule 2.2)
 abbrev pub kindOf : List ℕ → ℕ
 kindOf s = getD s 1 0
 
@@ -38,23 +37,28 @@ serialOf s = wordAt (orderOf s) s 8
 abbrev pub arrayLength : List ℕ → ℕ
 arrayLength s = wordAt (orderOf s) s 12
 
--- "Head length is 16 plus the array length rounded up to 8; the whole message is head plus body."
+-- the head has its padding, and the message its body (rule 2.3)
 unfoldable pub headLength : List ℕ → ℕ
 headLength s = 16 + roundUp8 (arrayLength s)
 
 unfoldable pub messageLength : List ℕ → ℕ
 messageLength s = headLength s + bodyLength s
 
--- 4 to 6: the numbers
+-- 4 to 6: the numbers (rule 2.4)
 unfoldable pub sizesOf : List ℕ → Fixed
 sizesOf s =
     cond (eqb (serialOf s) 0) (Broken 4)
     (cond (ltb 2032 (arrayLength s)) (Broken 5)
     (cond (ltb 134217728 (messageLength s)) (Broken 6) (Sizes (headLength s) (messageLength s))))
 
--- "1 to 6 are tested in that order once 16 bytes have come"
+-- once 16 bytes have come, tested in this order (rule 2.4)
 unfoldable pub fixedPart : List ℕ → Fixed
 fixedPart s =
     cond (not (isOrder (getD s 0 0))) (Broken 1)
     (cond (not (eqb (versionOf s) 1)) (Broken 2)
     (cond (eqb (kindOf s) 0) (Broken 3) (sizesOf s)))
+
+-- the answer number of each case: 0 says that the fixed part has none of 1 to 6 (rule 2.4)
+abbrev pub fixedAnswer : Fixed → ℕ
+fixedAnswer (Broken n) = n
+fixedAnswer (Sizes head message) = 0

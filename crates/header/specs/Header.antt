@@ -1,4 +1,4 @@
--- A head as a whole (01, "Message head" and "Answer numbers"): for any bytes, what a reader of them answers. Assumes nothing: these are definitions.
+-- A head as a whole: for any bytes, what a reader of them answers (rules 2.11 and 2.12).
 use mathlib.Core.Bool.{cond, not}
 use mathlib.Core.List.{List}
 use mathlib.Core.Option.{Option, none, some}
@@ -15,7 +15,7 @@ use Rattle.header.specs.Fields.{Fields, placeOf, textAt, fieldsOf}
 use Rattle.header.specs.Values.{numberIn, goodValues}
 use Rattle.header.specs.Required.{hasRequired}
 
--- the header of the head h with the fields fs
+-- the header of the head h with the fields fs; the sender is not among them (rule 2.12)
 unfoldable pub headerOf : List ℕ → Fields → Header
 headerOf h fs =
     record {
@@ -32,7 +32,7 @@ headerOf h fs =
       destination = placeOf fs 6;
     }
 
--- 8, then 9
+-- 8, then 9 (rules 2.9, 2.10 and 2.11)
 unfoldable pub judged : List ℕ → Fields → Reading
 judged h fs = cond (not (goodValues (orderOf h) h fs)) (Broken 8) (cond (not (hasRequired (kindOf h) fs)) (Broken 9) (Whole (headerOf h fs)))
 
@@ -40,11 +40,11 @@ abbrev pub orSeven : List ℕ → Option Fields → Reading
 orSeven h none = Broken 7
 orSeven h (some fs) = judged h fs
 
--- "7, then 8, then 9 once the head is whole", over exactly the bytes of the head
+-- 7 before both, over exactly the bytes of the head (rule 2.11)
 unfoldable pub readHead : List ℕ → Reading
 readHead h = orSeven h (fieldsOf h)
 
--- the head in front of s, where s is long enough
+-- the head in front of s, where s is long enough: 7 to 9 wait for its last byte (rule 2.11)
 abbrev pub afterFixed : List ℕ → Fixed → Reading
 afterFixed s (fixed.Broken n) = Broken n
 afterFixed s (fixed.Sizes head message) = cond (ltb (length s) head) Short (readHead (take head s))

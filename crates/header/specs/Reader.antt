@@ -1,4 +1,4 @@
--- What the reader's functions require and ensure among themselves, in the terms of the definitions. Assumes nothing: these are definitions.
+-- What the reader's functions require and ensure among themselves, in the terms of the definitions.
 use mathlib.Core.Bool.{cond}
 use mathlib.Core.List.{List}
 use mathlib.Core.Option.{Option, none, some}

@@ -1,4 +1,4 @@
--- The fields that a type of message requires, and their answer 9 (01, "Message head"). Assumes nothing: these are definitions.
+-- The fields that a type of message requires, and their answer 9 (rule 2.10).
 use mathlib.Core.Bool.{Bool, not, _||_}
 use Prim.Native.Nat.{ℕ}
 use lib.Dec.{eqb}
@@ -6,6 +6,6 @@ use Rattle.wire.specs.Lists.{every, any}
 use Rattle.header.specs.Codes.{codeOf, requiredIn, table}
 use Rattle.header.specs.Fields.{Fields, placeOf, present}
 
--- each line is not required in the type, or its field is present; none is required in types 5 and up, which skip 9
+-- each line is not required in the type, or its field is present; types 5 and up stand in no line (rule 2.10)
 unfoldable pub hasRequired : ℕ → Fields → Bool
 hasRequired kind fs = every (λ l. not (any (eqb kind) (requiredIn l)) || present (placeOf fs (codeOf l))) table

@@ -1,12 +1,16 @@
--- Worked examples of heads, T5 to T7 of 01's "Bench table" among them, as a table: bytes, and 01's number for what a reader answers.
--- 10 says that the head has not come whole, 0 that it has none of the faults. Assumes nothing: these are definitions.
+-- Worked examples of heads, T5 to T7 among them, as a table: bytes, and the number of what a reader answers.
+-- 10 says that the head has not come whole, 0 that it has none of the faults.
 use mathlib.Core.List.{List, [], _∷_, _++_, reverse}
 use Prim.Native.Nat.{ℕ}
-use lib.ListN.{take, set}
+use Prim.Native.Char.{Char}
+use Prim.Native.String.{String}
+use lib.ListN.{length, take, drop, set}
 use Rattle.wire.specs.Bytes.{byte, bytes}
 use Rattle.wire.specs.Words.{wordBytes}
 use Rattle.wire.specs.declared.Order.{Order}
 use Rattle.wire.specs.declared.Order.the-variants.{Little, Big}
+use Rattle.header.specs.Fixed.{fixedPart, fixedAnswer}
+use Rattle.header.specs.Codes.{call, return, error, signal}
 use Rattle.header.specs.Header.{readHeader, readingAnswer}
 
 abbrev pub Line : Type 0
@@ -24,20 +28,48 @@ number Big n = reverse (wordBytes n)
 abbrev first : Order → ℕ → ℕ → ℕ → ℕ → ℕ → List ℕ
 first o kind version body serial array = mark o ∷ kind ∷ 0 ∷ version ∷ (number o body ++ (number o serial ++ number o array))
 
--- 01's call C, in either order: path `/` at byte 24, member `M` at byte 40
-abbrev callC : Order → List ℕ
+-- the call C, in either order: path `/` at byte 24, member `M` at byte 40
+abbrev pub callC : Order → List ℕ
 callC o =
     first o 1 1 0 1 26
     ++ ((1 ∷ 1 ∷ byte "o" ∷ 0 ∷ number o 1)
     ++ ((byte "/" ∷ 0 ∷ 0 ∷ 0 ∷ 0 ∷ 0 ∷ 0 ∷ 0 ∷ [])
     ++ ((3 ∷ 1 ∷ byte "s" ∷ 0 ∷ number o 1) ++ (byte "M" ∷ 0 ∷ 0 ∷ 0 ∷ 0 ∷ 0 ∷ 0 ∷ 0 ∷ []))))
 
-abbrev lines : Order → List Line
-lines o =
-    (callC o, 0)
-    ∷ (callC o ++ bytes "body", 0)  -- bytes behind the head do not matter
-    ∷ (take 15 (callC o), 10)
+-- the same with another length of the array
+abbrev arrayC : Order → ℕ → List ℕ
+arrayC o n = first o 1 1 0 1 n ++ drop 16 (callC o)
+
+-- a message of a type with these fields
+abbrev message : Order → ℕ → List ℕ → List ℕ
+message o kind fields = first o kind 1 0 1 (length fields) ++ fields
+
+-- a field whose text has 7 bytes, so that no padding follows
+abbrev text : Order → ℕ → Char → String → List ℕ
+text o code letter s = code ∷ 1 ∷ byte letter ∷ 0 ∷ (number o 7 ++ (bytes s ++ (0 ∷ [])))
+
+abbrev path : Order → List ℕ
+path o = text o 1 "o" "/foo/ba"
+
+abbrev interface : Order → List ℕ
+interface o = text o 2 "s" "org.foo"
+
+abbrev member : Order → List ℕ
+member o = text o 3 "s" "GetItem"
+
+abbrev errorName : Order → List ℕ
+errorName o = text o 4 "s" "org.bad"
+
+abbrev replySerial : Order → ℕ → List ℕ
+replySerial o n = 5 ∷ 1 ∷ byte "u" ∷ 0 ∷ number o n
+
+-- faults of the fixed part, and heads that have not come whole
+abbrev fixedLines : Order → List Line
+fixedLines o =
+    (take 15 (callC o), 10)
+    ∷ (take 15 (set (callC o) 0 76), 10)  -- 1 is not found before byte 16
     ∷ (take 47 (callC o), 10)
+    ∷ (take 47 (set (callC o) 31 1), 10)  -- nor 7 before the head's last byte
     ∷ (set (callC o) 0 76, 1)  -- T5: byte 0 as 4c
     ∷ (first o 0 2 0 0 0, 2)  -- 2 before 3 and 4
     ∷ (first o 0 1 0 0 0, 3)
@@ -46,21 +78,68 @@ lines o =
     ∷ (first o 1 1 0 1 2033, 5)
     ∷ (first o 5 1 134217712 1 0, 0)  -- T7
     ∷ (first o 5 1 134217713 1 0, 6)
-    ∷ (set (callC o) 31 1, 7)  -- padding
-    ∷ (set (callC o) 47 1, 7)  -- padding after the array
+    ∷ []
+
+-- faults of the array and of values
+abbrev arrayLines : Order → List Line
+arrayLines o =
+    (set (callC o) 31 1, 7)  -- padding
+    ∷ (set (callC o) 47 1, 7)  -- padding behind the array
     ∷ (set (set (callC o) 32 1) 34 (byte "o"), 7)  -- a repeated code
+    ∷ (set (callC o) 32 0, 7)  -- code 0
     ∷ (set (callC o) 32 10, 7)  -- a code above 9
+    ∷ (set (callC o) 33 2, 7)  -- the length of a signature
     ∷ (set (callC o) 34 (byte "o"), 7)  -- another letter
+    ∷ (set (callC o) 35 1, 7)  -- no zero behind the letter
     ∷ (set (callC o) 41 1, 7)  -- no zero behind the value
+    ∷ (arrayC o 25, 7)  -- a field that runs past the array
+    ∷ (arrayC o 27, 7)  -- an array that ends in padding
+    ∷ (set (set (callC o) 40 (byte ".")) 47 1, 7)  -- 7 before 8
     ∷ (set (callC o) 40 (byte "."), 8)
     ∷ (set (set (callC o) 1 4) 40 (byte "."), 8)  -- 8 before 9
-    ∷ (set (callC o) 1 4, 9)  -- a signal without interface
-    ∷ (set (callC o) 1 2, 9)
-    ∷ (set (callC o) 1 5, 0)  -- types 5 and up skip 9
+    ∷ (message o return (replySerial o 0), 8)
     ∷ []
+
+-- each field that a type requires, absent alone
+abbrev requiredLines : Order → List Line
+requiredLines o =
+    (message o return [], 9)
+    ∷ (message o call (member o), 9)
+    ∷ (message o call (path o), 9)
+    ∷ (message o error (replySerial o 7), 9)
+    ∷ (message o error (errorName o), 9)
+    ∷ (message o signal (interface o ++ member o), 9)
+    ∷ (message o signal (path o ++ member o), 9)
+    ∷ (message o signal (path o ++ interface o), 9)
+    ∷ []
+
+-- heads without a fault
+abbrev goodLines : Order → List Line
+goodLines o =
+    (message o 5 [], 0)  -- types 5 and up require none
+    ∷ (callC o, 0)
+    ∷ (callC o ++ bytes "body", 0)  -- bytes behind the head do not matter
+    ∷ (message o return (replySerial o 7), 0)
+    ∷ (message o call (path o ++ member o), 0)
+    ∷ (message o error (errorName o ++ replySerial o 7), 0)
+    ∷ (message o signal (path o ++ (interface o ++ member o)), 0)
+    ∷ []
+
+abbrev lines : Order → List Line
+lines o = fixedLines o ++ (arrayLines o ++ (requiredLines o ++ goodLines o))
 
 abbrev pub table : List Line
 table = lines Little ++ lines Big
 
 abbrev pub answer : List ℕ → ℕ
 answer s = readingAnswer (readHeader s)
+
+-- what the first 16 bytes answer by themselves
+abbrev fixedOnly : Order → List Line
+fixedOnly o = (callC o, 0) ∷ (set (callC o) 0 76, 1) ∷ (first o 1 1 0 1 2032, 0) ∷ (first o 1 1 0 1 2033, 5) ∷ (first o 5 1 134217713 1 0, 6) ∷ []
+
+abbrev pub fixedTable : List Line
+fixedTable = fixedOnly Little ++ fixedOnly Big
+
+abbrev pub fixedAnswerTo : List ℕ → ℕ
+fixedAnswerTo s = fixedAnswer (fixedPart s)

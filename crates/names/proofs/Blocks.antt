@@ -1,4 +1,4 @@
--- The scan of a long name, block by block: a law for each way through the loops. Assumes nothing.
+-- The scan of a long name, block by block: a law for each way through the loops.
 use mathlib.Core.Path.{_≡_, refl, sym, ap₂, _∙_}
 use mathlib.Core.Bool.{Bool, true, false, not, _&&_}
 use mathlib.Core.List.{List}

@@ -1,4 +1,4 @@
--- Form by form, the tests that the code makes are those of the definition. Assumes nothing.
+-- Form by form, the tests that the code makes are those of the definition.
 use mathlib.Core.Path.{_≡_, refl, _∙_}
 use mathlib.Core.Bool.{Bool, true, false, _&&_, _||_, and-true, and-false}
 use mathlib.Core.List.{List, [], _∷_}

@@ -1,4 +1,4 @@
--- A name and a prefix: the same length, or a dot after the prefix. Assumes nothing.
+-- A name and a prefix: the same length, or a dot after the prefix.
 use mathlib.Core.Path.{_≡_, refl, sym, _∙_}
 use mathlib.Core.Bool.{Bool, false, _&&_, and-true, and-false, and-assoc, or-false}
 use mathlib.Core.List.{List, [], _∷_, _++_}

@@ -1,4 +1,4 @@
--- The rule of elements, as a rule of neighbours: once for every separator and form. Assumes nothing.
+-- The rule of elements, as a rule of neighbours: once for every separator and form.
 use mathlib.Core.Path.{_≡_, refl, sym, ap, _∙_}
 use mathlib.Core.Bool.{Bool, true, false, cond, not, _&&_, _||_, and-true, and-false, and-assoc, or-false}
 use mathlib.Core.List.{List, [], _∷_}

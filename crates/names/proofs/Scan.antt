@@ -1,5 +1,4 @@
 -- What a scan has still to count, and how a byte changes it. No lemma here is by induction: each computes.
--- Assumes nothing.
 use mathlib.Core.Path.{_≡_, refl, sym, _∙_}
 use mathlib.Core.Bool.{Bool, true, false, cond, not, _&&_, _||_, and-false, false≢true}
 use mathlib.Core.List.{List, _∷_}

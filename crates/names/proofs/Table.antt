@@ -1,4 +1,4 @@
--- The worked examples hold of the name rules: one statement, which antt computes. Assumes nothing.
+-- The worked examples hold of the name rules: one statement, which antt computes.
 use mathlib.Core.Path.{_≡_, refl}
 use mathlib.Core.Bool.{true, Bool·beq}
 use Rattle.names.specs.Names.{startsWith, wellKnown, unique, validName}

@@ -1,5 +1,5 @@
 -- The name rule byte by byte: which byte may follow which. The scanner's own functions cite these, and `proofs/Near.antt` shows that they say what
--- the rule of elements says. Assumes nothing: these are definitions.
+-- the rule of elements says.
 use mathlib.Core.Bool.{Bool, true, not, _&&_, _||_}
 use mathlib.Core.List.{List}
 use Prim.Native.Nat.{ℕ, zero, suc}

@@ -1,4 +1,4 @@
--- Worked examples of the name rules, as a table, with T9 of 01's bench table. Assumes nothing: these are definitions.
+-- Worked examples of the name rules, as a table, with T9.
 use mathlib.Core.Bool.{Bool, true, false}
 use mathlib.Core.List.{List, [], _∷_, _++_}
 use Prim.Native.Nat.{ℕ}
@@ -18,7 +18,7 @@ abbrev pub answer : Question → Bool
 answer (named f s) = validName f s
 answer (under p s) = inNamespace p s
 
--- a question, and its answer by 01
+-- a question, and its answer
 abbrev pub Line : Type 0
 Line = Question × Bool
 
@@ -37,9 +37,11 @@ table =
     ∷ (named Unique (bytes ":1"), false)
     ∷ (named Member (bytes "Get"), true)
     ∷ (named Member (bytes "Get.All"), false)
+    ∷ (named Member (bytes "Get-All"), false)
     ∷ (named Member (bytes ""), false)
     ∷ (named Path (bytes "/"), true)
     ∷ (named Path (bytes "/a/7"), true)
+    ∷ (named Path (bytes "/a-b"), false)
     ∷ (named Path (bytes "/a/"), false)
     ∷ (named Path (bytes ""), false)
     ∷ (under (bytes "org.foo") (bytes "org.foo"), true)

@@ -1,4 +1,4 @@
--- The signature rule's fuel never runs out: two a byte is enough, and more changes nothing. Assumes nothing.
+-- The signature rule's fuel never runs out: two a byte is enough, and more changes nothing.
 use mathlib.Core.Path.{_≡_, refl, ap, subst}
 use mathlib.Core.Bool.{Bool, true, false, _&&_}
 use mathlib.Core.List.{List, [], _∷_}

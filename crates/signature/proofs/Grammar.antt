@@ -1,6 +1,5 @@
 -- What the reader knows of one type and of a row at an index, from what its callees ensure and which variants they returned: a lemma for each way
 -- through the code, whose premises are what the code knows on that way.
--- Assumes nothing.
 use mathlib.Core.Path.{_≡_, refl, subst}
 use mathlib.Core.Bool.{Bool, true, false, _&&_, _||_, false≢true}
 use mathlib.Core.List.{List, _∷_}

@@ -1,4 +1,4 @@
--- The signature rule (01, "Message head"). Assumes nothing: these are definitions.
+-- The signature rule (rules 4.1, 4.2, 4.3 and 4.4).
 use mathlib.Core.Bool.{Bool, true, false, cond, _&&_, _||_}
 use mathlib.Core.List.{List, [], _∷_}
 use mathlib.Core.Option.{Option, none, some}
@@ -9,12 +9,12 @@ use Rattle.wire.specs.Bytes.{byte, oneOf, front}
 use Rattle.signature.specs.declared.Head.{Head}
 use Rattle.signature.specs.declared.Head.the-variants.{Plain, Array, Dict, Paren, None}
 
--- "a basic type (any letter listed but `v`)"
+-- what a dict entry may have for its key (rule 4.3)
 abbrev pub basic : ℕ → Bool
 basic b = oneOf false "ybnqiuxtdsogh" b
 
--- how a type begins, with so many arrays and parentheses open, "at most 32" of each: a basic letter or `v`; a `(`; an `a`, which may start a dict
--- entry with or without a basic key
+-- how a type begins, with so many arrays and parentheses open (rules 4.2 and 4.4): a basic letter or `v`; a `(`; an `a`, which may start a dict
+-- entry with or without a basic key (rule 4.3)
 unfoldable pub headOf : ℕ → ℕ → List ℕ → Head
 headOf arrays parens [] = None
 headOf arrays parens (b ∷ s) =
@@ -31,12 +31,12 @@ closed by well (b ∷ s) = cond (well && eqb b by) (some s) none
 abbrev pub Row : Type 0
 Row = ℕ × List ℕ
 
--- `(` row `)`, of one type or more
+-- `(` row `)`, of one type or more (rule 4.2)
 abbrev pub tuple : Option Row → Option (List ℕ)
 tuple none = none
 tuple (some r) = closed (byte ")") (leb 1 (r .0)) (r .1)
 
--- `{` row `}`, of two types, where the first is `key`, a basic one
+-- `{` row `}`, of two types, where the first is `key`, a basic one (rule 4.3)
 abbrev pub entry : Bool → Option Row → Option (List ℕ)
 entry key none = none
 entry key (some r) = closed (byte "}") (key && eqb (r .0) 2) (r .1)
@@ -50,7 +50,8 @@ whole none = false
 whole (some r) = eqb (length (r .1)) 0
 
 unfoldable mutual
-  -- what is left after the one type in front of s, with so many arrays and parentheses open. The calls go at most `fuel` deep: two a byte is enough
+  -- what is left after the one type in front of s, with so many arrays and parentheses open (rules 4.2 and 4.4); a dict entry opens no parenthesis.
+  -- The calls go at most `fuel` deep: two a byte is enough
   pub one : ℕ → ℕ → ℕ → List ℕ → Option (List ℕ)
   one zero arrays parens s = none
   one (suc fuel) arrays parens s =
@@ -62,7 +63,7 @@ unfoldable mutual
         | None ↦ none
       ]
 
-  -- the types in a row in front of s, up to a `)`, a `}` or the end
+  -- the types in a row in front of s, up to a `)`, a `}` or the end (rule 4.1)
   pub row : ℕ → ℕ → ℕ → List ℕ → Option Row
   row zero arrays parens s = none
   row (suc fuel) arrays parens [] = some (0, [])
@@ -72,6 +73,6 @@ unfoldable mutual
         | false ↦ elim (one fuel arrays parens (b ∷ s)) [ none ↦ none | some r ↦ oneMore (row fuel arrays parens r) ]
       ]
 
--- "Signature, at most 255 bytes, possibly empty: complete types in a row."
+-- a row of no types is a signature too (rule 4.1)
 unfoldable pub validSignature : List ℕ → Bool
 validSignature s = leb (length s) 255 && whole (row (2 * length s + 1) 0 0 s)

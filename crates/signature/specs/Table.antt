@@ -1,4 +1,4 @@
--- T10 and T11 of 01's bench table, as a table. Assumes nothing: these are definitions.
+-- Worked examples of signatures, T10 and T11 first, as a table.
 use mathlib.Core.Bool.{Bool, true, false}
 use mathlib.Core.List.{List, [], _∷_, _++_}
 use Prim.Native.Nat.{ℕ}
@@ -19,4 +19,10 @@ table =
     ∷ (bytes "a{vs}", false)
     ∷ (replicate 32 (byte "a") ++ bytes "y", true)
     ∷ (replicate 33 (byte "a") ++ bytes "y", false)
+    ∷ (bytes "a{s}", false)
+    ∷ (bytes "a{sss}", false)
+    ∷ (replicate 32 (byte "(") ++ (bytes "y" ++ replicate 32 (byte ")")), true)
+    ∷ (replicate 33 (byte "(") ++ (bytes "y" ++ replicate 33 (byte ")")), false)
+    ∷ (replicate 255 (byte "y"), true)
+    ∷ (replicate 256 (byte "y"), false)
     ∷ []

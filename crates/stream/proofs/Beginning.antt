@@ -1,9 +1,10 @@
--- `Stream::advance` up to 16 bytes, way by way, and what its fixed part then says. Assumes nothing.
+-- `Stream::advance` up to 16 bytes, way by way, and what its fixed part then says.
 use mathlib.Core.Path.{_≡_, sym, ap, _∙_}
 use mathlib.Core.List.{List}
 use Prim.Native.Nat.{ℕ, _+_, _-_, _≤_, _<_, min}
 use native.Mathlib.Omega.{arith}
-use native.Mathlib.Nat.{zero-add, sub-zero}
+use native.Mathlib.Nat.{zero-add, sub-zero, lt-of-le-of-lt}
+use borrow.Author.Needs.{needs}
 use lib.ListN.{length, take, drop, length-take}
 use lib.Seq.{length-take-le}
 use native.Mathlib.Decide.{decLt}
@@ -104,6 +105,9 @@ module _ {region : List ℕ} {s : Stream} (o : Open region s) where
 
     pub from-fixed : {r : Advance} {last : List ℕ} → Resumed after (record { taken = s .taken + k; stored = s .stored + k }) piece k r last → Advanced region s piece r last
     from-fixed g = record { gives = same-offer moved-fixed (g .gives) }
+
+-- fewer than 16 bytes, however the code asks for them
+pub ruleset few = (more-fixed, lt-of-le-of-lt, needs)
 
 -- ---- `after_fixed`: 1 to 6, or the lengths
 

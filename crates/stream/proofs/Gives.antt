@@ -1,4 +1,4 @@
--- What the functions on a stream give is what an offer comes to: the ways out that they share. Assumes nothing.
+-- What the functions on a stream give is what an offer comes to: the ways out that they share.
 use mathlib.Core.Path.{_≡_, refl, sym, ap, ap₂, _∙_, subst⁻¹}
 use mathlib.Core.List.{List, _++_}
 use Prim.Native.Nat.{ℕ, _+_, _-_, _≤_, _<_}
@@ -19,9 +19,9 @@ use Rattle.stream.specs.declared.Stream.{Stream}
 use Rattle.stream.specs.declared.Event.{Event}
 use Rattle.stream.specs.declared.Event.the-variants.{More, Broken, Whole}
 use Rattle.stream.specs.declared.Advance.{Advance}
-use Rattle.stream.specs.Stream.{more, broken, whole, Offer, offer}
+use Rattle.stream.specs.Stream.{more, broken, whole, verdictAnswer, Offer, offer}
 use Rattle.stream.specs.Tail.{Tail, judge, tails}
-use Rattle.stream.specs.Contracts.{tailIn, verdictOf, Gives}
+use Rattle.stream.specs.Contracts.{tailIn, verdictOf, eventAnswer, Gives}
 use Rattle.stream.specs.Steps.{Resumed, bumpBy, continued, resumed, allTaken, Room, Stored}
 use Rattle.stream.proofs.Heads.{whole-head, not-short}
 use Rattle.stream.proofs.Good.{kept}
@@ -29,6 +29,12 @@ use Rattle.stream.proofs.Phases.{bump-none, continued-more, counted, en
 use Rattle.stream.proofs.Regions.{fits, head-after}
 
 -- ---- what an offer comes to
+
+-- an event has the number of the verdict that it is
+event-answers : (region : List ℕ) (e : Event) → eventAnswer e ≡ verdictAnswer (verdictOf region e)
+event-answers region More = refl
+event-answers region (Broken a) = refl
+event-answers region (Whole x) = refl
 
 -- r is what o comes to where o is the stream `next` with its event
 pub gives : {o : Offer Tail} (n : ℕ) (region : List ℕ) (next : Stream) (k : ℕ) (e : Event)
@@ -40,6 +46,7 @@ gives n region next k e q p l s w f =
     (record {
       taken = refl;
       verdict = refl;
+      answer = event-answers region e;
       counted = refl;
       kept = sym (length-take-le (next .stored) region (omega arith));
       padded = p;

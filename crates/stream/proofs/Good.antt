@@ -1,4 +1,4 @@
--- Good streams stay good: what an open and a closed stream is, what one byte makes of an open one, and what a piece does. Assumes nothing.
+-- Good streams stay good: what an open and a closed stream is, what one byte makes of an open one, and what a piece does.
 use mathlib.Core.Path.{_≡_, refl, sym, ap, _∙_}
 use mathlib.Core.Bool.{true, false, false≢true}
 use mathlib.Core.List.{List, []}

@@ -1,4 +1,4 @@
--- The five ways in which bytes begin: too few for a fixed part, a broken fixed part, a part of a head, a broken head, a whole head. Assumes nothing.
+-- The five ways in which bytes begin: too few for a fixed part, a broken fixed part, a part of a head, a broken head, a whole head.
 use mathlib.Core.Path.{_≡_, refl, sym, _∙_, subst}
 use mathlib.Core.List.{List}
 use Prim.Native.Nat.{ℕ, _+_, _≤_, _<_}

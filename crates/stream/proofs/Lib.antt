@@ -1,3 +1,4 @@
+pub mod Examples
 pub mod Heads
 pub mod Offers
 pub mod Good

@@ -1,4 +1,4 @@
--- What a piece loses, over any streams (01, "Answer numbers"): "On an open stream a non-empty piece always loses at least one byte". Assumes nothing.
+-- What a piece loses, over any streams: at most all of it, and one byte at least where it has one (rule 9.2).
 use mathlib.Core.List.{List, [], _∷_}
 use mathlib.Core.Path.{_≡_, refl}
 use Prim.Native.Nat.{ℕ, _≤_, _<_}

@@ -1,4 +1,4 @@
--- `Stream::advance` behind the fixed part, way by way: the rest of the head, the head's end, and the body. Assumes nothing.
+-- `Stream::advance` behind the fixed part, way by way: the rest of the head, the head's end, and the body.
 use mathlib.Core.Path.{_≡_, refl, sym, ap, _∙_, subst}
 use mathlib.Core.List.{List}
 use Prim.Native.Nat.{ℕ, _+_, _-_, _≤_, _<_}

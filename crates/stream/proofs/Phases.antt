@@ -1,4 +1,4 @@
--- A piece in bulk: bytes of a head are stored up to a limit, and those of a body are counted. Assumes nothing.
+-- A piece in bulk: bytes of a head are stored up to a limit, and those of a body are counted.
 use mathlib.Core.Path.{_≡_, sym, ap, ap₂, _∙_}
 use mathlib.Core.List.{List, [], _∷_, _++_, append-assoc, append-nil}
 use Prim.Native.Nat.{ℕ, zero, suc, _+_, _-_, _≤_, _<_, min}

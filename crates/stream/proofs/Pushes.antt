@@ -1,4 +1,4 @@
--- What one byte makes of an open stream, and what a piece leaves of a good one. Assumes nothing.
+-- What one byte makes of an open stream, and what a piece leaves of a good one.
 use mathlib.Core.Path.{_≡_, refl, sym, _∙_, subst, subst⁻¹}
 use mathlib.Core.List.{List, [], _∷_, _++_}
 use mathlib.Core.Bool.{true}

@@ -1,4 +1,4 @@
--- A head kept in a region that is zero behind it, and bytes stored behind the head. Assumes nothing.
+-- A head kept in a region that is zero behind it, and bytes stored behind the head.
 use mathlib.Core.Path.{_≡_, sym, ap, ap₂, _∙_}
 use mathlib.Core.List.{List, _++_, append-assoc}
 use Prim.Native.Nat.{ℕ, _+_, _-_, _≤_, min}

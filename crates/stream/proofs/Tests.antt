@@ -1,4 +1,4 @@
--- `is_good` and `is_closed`, way by way. Assumes nothing.
+-- `is_good` and `is_closed`, way by way.
 use mathlib.Core.Path.{_≡_, refl, sym, ap, _∙_}
 use mathlib.Core.Bool.{Bool, true, false, cond, _&&_}
 use mathlib.Core.List.{List}

@@ -1,4 +1,4 @@
--- What the public functions on a stream require and ensure, in the terms of the definitions. Assumes nothing: these are definitions.
+-- What the public functions on a stream require and ensure, in the terms of the definitions.
 use mathlib.Core.Bool.{true}
 use mathlib.Core.List.{List}
 use mathlib.Core.Path.{_≡_}
@@ -9,7 +9,7 @@ use Rattle.stream.specs.declared.Stream.{Stream}
 use Rattle.stream.specs.declared.Event.{Event}
 use Rattle.stream.specs.declared.Event.the-variants.{More, Broken, Whole}
 use Rattle.stream.specs.declared.Advance.{Advance}
-use Rattle.stream.specs.Stream.{Verdict, more, broken, whole, Offer, offer}
+use Rattle.stream.specs.Stream.{Verdict, more, broken, whole, verdictAnswer, Offer, offer}
 use Rattle.stream.specs.Tail.{Tail, judge, tails, goodTail}
 
 -- the stream of which `taken` bytes were taken, and whose head is the first `stored` bytes of a region
@@ -30,6 +30,12 @@ verdictOf region More = more
 verdictOf region (Broken a) = broken a
 verdictOf region (Whole x) = whole (take (x .head) region) x
 
+-- the answer number of each case: a whole message is judged next, and 0 says no more than that (rule 9.1)
+abbrev pub eventAnswer : Event → ℕ
+eventAnswer More = 10
+eventAnswer (Broken a) = a
+eventAnswer (Whole x) = 0
+
 -- a good open stream; the region is zero behind its head
 pub record Open (region : List ℕ) (s : Stream) : Type 0 where
   pub sized : length region ≡ 2048
@@ -43,6 +49,7 @@ pub record Open (region : List ℕ) (s : Stream) : Type 0 where
 pub record Gives (o : Offer Tail) (n : ℕ) (r : Advance) (region : List ℕ) : Type 0 where
   pub taken : r .taken ≡ o .taken
   pub verdict : verdictOf region (r .event) ≡ o .verdict
+  pub answer : eventAnswer (r .event) ≡ verdictAnswer (o .verdict)
   pub counted : r .stream .taken ≡ o .stream .taken
   pub kept : r .stream .stored ≡ length (o .stream .head)
   pub padded : region ≡ pad 2048 (o .stream .head)

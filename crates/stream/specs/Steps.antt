@@ -1,4 +1,4 @@
--- What the functions on a stream require and ensure among themselves. Assumes nothing: these are definitions.
+-- What the functions on a stream require and ensure among themselves.
 use mathlib.Core.List.{List, _++_}
 use mathlib.Core.Path.{_≡_}
 use Prim.Native.Nat.{ℕ, _+_, _-_, _≤_, _<_, min}

@@ -1,11 +1,10 @@
--- What a stream is to the rules, whatever it is made of, and what a piece offered to it does (01, "Answer numbers"): its bytes join one by one, up to
--- and including the first that breaks a head or ends a message. Assumes nothing: these are definitions.
+-- What a stream is to the rules, whatever it is made of, and what a piece offered to it does (rules 9.1 and 9.2).
 use mathlib.Core.Bool.{Bool}
 use mathlib.Core.List.{List, [], _∷_}
 use Prim.Native.Nat.{ℕ, suc}
 use Rattle.header.specs.declared.Header.{Header}
 
--- of a message after its latest byte: unfinished; broken, with 01's number; or whole, with the bytes of its head and what they say
+-- of a message after its latest byte: unfinished; broken, with its answer number; or whole, with the bytes of its head and what they say (rule 9.1)
 pub data Verdict : Type 0 where
   more : Verdict
   broken : ℕ → Verdict
@@ -17,6 +16,7 @@ verdictAnswer more = 10
 verdictAnswer (broken a) = a
 verdictAnswer (whole h x) = 0
 
+-- what the rules ask of a stream (rule 9.1)
 pub record Streams (S : Type 0) : Type 0 where
   -- no byte taken
   pub fresh : S
@@ -30,7 +30,7 @@ pub record Streams (S : Type 0) : Type 0 where
   -- bytes taken of the unfinished or broken message
   pub count : S → ℕ
 
--- what became of a piece: the verdict, the bytes taken, and the stream with them
+-- what became of a piece: the verdict, the bytes taken, and the stream with them (rules 9.1 and 9.2)
 pub record Offer (S : Type 0) : Type 0 where
   pub verdict : Verdict
   pub taken : ℕ
@@ -40,7 +40,7 @@ pub record Offer (S : Type 0) : Type 0 where
 abbrev pub bump : {S : Type 0} → Offer S → Offer S
 bump o = record { verdict = o .verdict; taken = suc (o .taken); stream = o .stream }
 
--- "A piece's bytes join an open stream up to and including the first that breaks a head or ends a message. .. Where there is no such byte, all join."
+-- byte by byte: the first one that settles the message is the last one taken (rules 9.1 and 9.2)
 unfoldable pub offer : {S : Type 0} → Streams S → S → List ℕ → Offer S
 offer O s [] = record { verdict = more; taken = 0; stream = s }
 offer O s (b ∷ p) =
@@ -50,7 +50,7 @@ offer O s (b ∷ p) =
       | whole h x ↦ record { verdict = whole h x; taken = 1; stream = O .push s b }
     ]
 
--- the stream that an offer leaves: a whole message is consumed
+-- the stream that an offer leaves: a whole message is consumed (rule 9.1)
 abbrev pub settled : {S : Type 0} → Streams S → Verdict → S → S
 settled O more s = s
 settled O (broken a) s = s

@@ -1,5 +1,4 @@
--- The guard's streams: of the unfinished or broken message, how many bytes were taken and those of them that are its head.
--- Assumes nothing: these are definitions.
+-- The guard's streams: of the unfinished or broken message, how many bytes were taken and those of them that are its head (rule 9.4).
 use mathlib.Core.Bool.{Bool, true, false, cond, _&&_}
 use mathlib.Core.List.{List, [], _∷_, _++_}
 use Prim.Native.Nat.{ℕ, _+_, min}
@@ -25,42 +24,45 @@ finished n h (Whole x) = cond (ltb n (x .head + x .body)) more (whole (take (x .
 abbrev pub verdict : ℕ → List ℕ → Verdict
 verdict n h = finished n h (readHeader h)
 
+-- a broken head closes the stream (rule 9.3)
 abbrev pub isBroken : Verdict → Bool
 isBroken more = false
 isBroken (broken a) = true
 isBroken (whole h x) = false
 
--- how long the head is: its fixed part until that has come, and then what the fixed part says
+-- how long the head is: its fixed part until that has come, and then what the fixed part says (rule 9.4)
 abbrev pub headEnd : List ℕ → ℕ
 headEnd h = cond (ltb (length h) 16) 16 (headLength h)
 
 abbrev pub fresh : Tail
 fresh = record { taken = 0; head = [] }
 
+-- a byte of the body is counted and not kept (rule 9.4)
 abbrev pub push : Tail → ℕ → Tail
 push t b = record { taken = t .taken + 1; head = cond (ltb (length (t .head)) (headEnd (t .head))) (t .head ++ (b ∷ [])) (t .head) }
 
 abbrev pub judge : Tail → Verdict
 judge t = verdict (t .taken) (t .head)
 
+-- nothing can join a closed stream, so it stays closed (rule 9.3)
 abbrev pub closed : Tail → Bool
 closed t = isBroken (judge t)
 
 abbrev pub tails : Streams Tail
 tails = record { fresh = fresh; push = push; judge = judge; next = λ t. fresh; closed = closed; count = λ t. t .taken }
 
--- ---- good streams (01, "Answer numbers", good memory)
+-- ---- good streams (rule 10.4)
 
--- where a head is broken by an answer: 1 to 6 are found at byte 16, and 7 to 9 once the head is whole
+-- where a head is broken by an answer: 1 to 6 are found at byte 16, and 7 to 9 once the head is whole (rule 10.4)
 abbrev pub brokenAt : ℕ → List ℕ → ℕ
 brokenAt a h = cond (leb a 6) 16 (headLength h)
 
--- "each open stream's count and head bytes fit a message unfinished (or unbegun) and not yet broken, each closed one's a head broken at its last byte"
+-- an open stream is not yet broken; a closed one has no byte behind the one that broke it (rule 10.4)
 abbrev pub fitting : Verdict → ℕ → List ℕ → Bool
 fitting more n h = true
 fitting (broken a) n h = eqb n (brokenAt a h)
 fitting (whole x y) n h = false
 
--- the bytes kept are those of the head among the bytes taken
+-- the bytes kept are those of the head among the bytes taken (rule 10.4)
 unfoldable pub goodTail : Tail → Bool
 goodTail t = eqb (length (t .head)) (min (t .taken) (headEnd (t .head))) && fitting (judge t) (t .taken) (t .head)

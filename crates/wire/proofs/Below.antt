@@ -1,4 +1,4 @@
--- Tests in a row, and a test of each number below n: what they say of one, and how a loop that counts down makes them. Assumes nothing.
+-- Tests in a row, and a test of each number below n: what they say of one, and how a loop that counts down makes them.
 use mathlib.Core.Path.{_≡_, refl, sym, _∙_}
 use mathlib.Core.Logic.{⊎-elim}
 use mathlib.Core.Bool.{Bool, true, false, not, _&&_, and-true, and-false}

@@ -1,4 +1,4 @@
--- Runs of zeros and equal texts, block by block: a law for each way through the loops. Assumes nothing.
+-- Runs of zeros and equal texts, block by block: a law for each way through the loops.
 use mathlib.Core.Path.{_≡_, refl, sym, ap, ap₂, _∙_}
 use mathlib.Core.Bool.{Bool, true, false, not, _&&_, and-true}
 use mathlib.Core.List.{List, _++_}

@@ -1,4 +1,4 @@
--- A test of the number in four or eight bytes is the test of each of the bytes. Assumes nothing.
+-- A test of the number in four or eight bytes is the test of each of the bytes.
 use mathlib.Core.Path.{_≡_, refl, sym, ap, ap₂, _∙_}
 use mathlib.Core.Bool.{true, _&&_}
 use mathlib.Core.List.{List, [], _∷_, _++_}

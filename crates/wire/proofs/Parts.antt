@@ -1,4 +1,4 @@
--- Lists cut and put together: what stands past a part of known length, a part put at its place, zeros. Assumes nothing.
+-- Lists cut and put together: what stands past a part of known length, a part put at its place, zeros.
 use mathlib.Core.List.{List, [], _∷_, _++_, append-assoc}
 use mathlib.Core.Path.{_≡_, refl, sym, ap, ap₂, _∙_}
 use Prim.Native.Nat.{ℕ, zero, suc, _+_, _-_, _≤_}

@@ -1,5 +1,5 @@
 -- A test of every element from one index up to another, made block by block. The laws hold of any test of a range that a cut divides in two: a run
--- of zeros, equal texts, a name's bytes. Assumes nothing.
+-- of zeros, equal texts, a name's bytes.
 use mathlib.Core.Path.{_≡_, refl, sym, _∙_}
 use mathlib.Core.Bool.{Bool, true, false, _&&_, and-false}
 use Prim.Native.Nat.{ℕ, _≤_}

@@ -1,4 +1,4 @@
--- Loops over bytes: each invariant says what is left to do, and there is a law for each way through the loop. Assumes nothing.
+-- Loops over bytes: each invariant says what is left to do, and there is a law for each way through the loop.
 use mathlib.Core.Path.{_≡_, refl, sym, _∙_}
 use mathlib.Core.Bool.{true, false}
 use mathlib.Core.List.{List, _++_, append-nil}

@@ -1,4 +1,4 @@
--- What the tests of runs of bytes say. Assumes nothing.
+-- What the tests of runs of bytes say.
 use mathlib.Core.Path.{_≡_, refl, sym, ap, ap₂}
 use mathlib.Core.Logic.{_⊎_, inl, inr}
 use mathlib.Core.Bool.{Bool, true, false, _&&_, _||_, and-assoc, false≢true}

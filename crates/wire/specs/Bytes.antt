@@ -1,4 +1,4 @@
--- Texts as bytes, and tests of runs of bytes. Assumes nothing: these are definitions.
+-- Texts as bytes, and tests of runs of bytes.
 use mathlib.Core.Bool.{Bool, true, false, _&&_, _||_}
 use mathlib.Core.List.{List, [], _∷_, _++_}
 use Prim.Native.Nat.{ℕ}

@@ -1,4 +1,4 @@
--- Tests of each element of a list and of each number below a bound, and of a table of worked examples. Assumes nothing: these are definitions.
+-- Tests of each element of a list and of each number below a bound, and of a table of worked examples.
 use mathlib.Core.Bool.{Bool, true, false, not, _&&_, _||_}
 use mathlib.Core.List.{List, [], _∷_}
 use Prim.Native.Nat.{ℕ, zero, suc}

@@ -1,4 +1,4 @@
--- Numbers of four bytes in either byte order, and alignment. Assumes nothing: these are definitions.
+-- Numbers of four bytes in either byte order, and alignment.
 use mathlib.Core.List.{List, [], _∷_}
 use Prim.Native.Nat.{ℕ, _+_, _*_, _/_, _%_}
 use lib.ListN.{getD}
@@ -9,7 +9,7 @@ use Rattle.wire.specs.declared.Order.the-variants.{Little, Big}
 abbrev pub joined : ℕ → ℕ → ℕ → ℕ → ℕ
 joined a b c d = a + 256 * b + 65536 * c + 16777216 * d
 
--- the number in the four bytes at `at`; big-endian has the highest first
+-- the number in the four bytes at `at`; big-endian has the highest first (rule 2.1)
 unfoldable pub wordAt : Order → List ℕ → ℕ → ℕ
 wordAt Little s at = joined (getD s at 0) (getD s (at + 1) 0) (getD s (at + 2) 0) (getD s (at + 3) 0)
 wordAt Big s at = joined (getD s (at + 3) 0) (getD s (at + 2) 0) (getD s (at + 1) 0) (getD s at 0)
@@ -22,6 +22,6 @@ longAt s at = wordAt Little s at + 4294967296 * wordAt Little s (at + 4)
 unfoldable pub wordBytes : ℕ → List ℕ
 wordBytes n = n % 256 ∷ n / 256 % 256 ∷ n / 256 / 256 % 256 ∷ n / 256 / 256 / 256 % 256 ∷ []
 
--- the least multiple of 8 that is not below n
+-- the least multiple of 8 that is not below n: where padding ends (rule 2.3)
 abbrev pub roundUp8 : ℕ → ℕ
 roundUp8 n = (n + 7) / 8 * 8

@@ -1,4 +1,4 @@
--- `header::element_at` meets its contract. Assumes nothing.
+-- `header::element_at` meets its contract.
 use Rattle.header.proofs.Elements.{elements}
 use Rattle.header.proofs.element_at.Statement.{statement}
 use Rattle.header.proofs.element_at.Tie as tie

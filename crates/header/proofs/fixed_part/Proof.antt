@@ -1,4 +1,4 @@
--- `header::fixed_part` meets its contract. Assumes nothing.
+-- `header::fixed_part` meets its contract.
 use Rattle.header.proofs.Numbers.{numbers}
 use Rattle.header.proofs.fixed_part.Statement.{statement}
 use Rattle.header.proofs.fixed_part.Tie as tie

@@ -1,4 +1,4 @@
--- `header::header_of` meets its contract. Assumes nothing.
+-- `header::header_of` meets its contract.
 use Rattle.header.proofs.Whole.{a-header, judging}
 use Rattle.header.proofs.header_of.Statement.{statement}
 use Rattle.header.proofs.header_of.Tie as tie

@@ -1,4 +1,4 @@
--- `header::is_framed` meets its contract. Assumes nothing.
+-- `header::is_framed` meets its contract.
 use Rattle.header.proofs.Elements.{elements}
 use Rattle.header.proofs.is_framed.Statement.{statement}
 use Rattle.header.proofs.is_framed.Tie as tie

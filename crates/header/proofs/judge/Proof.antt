@@ -1,4 +1,4 @@
--- `header::judge` meets its contract. Assumes nothing.
+-- `header::judge` meets its contract.
 use Rattle.header.proofs.Whole.{judging}
 use Rattle.header.proofs.judge.Statement.{statement}
 use Rattle.header.proofs.judge.Tie as tie

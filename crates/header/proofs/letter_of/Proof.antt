@@ -1,4 +1,4 @@
--- `header::letter_of` meets its contract. Assumes nothing.
+-- `header::letter_of` meets its contract.
 use Rattle.header.proofs.Elements.{texts}
 use Rattle.header.proofs.letter_of.Statement.{statement}
 use Rattle.header.proofs.letter_of.Tie as tie

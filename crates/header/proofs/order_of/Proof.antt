@@ -1,4 +1,4 @@
--- `header::order_of` meets its contract. Assumes nothing.
+-- `header::order_of` meets its contract.
 use Rattle.header.proofs.Numbers.{numbers}
 use Rattle.header.proofs.order_of.Statement.{statement}
 use Rattle.header.proofs.order_of.Tie as tie

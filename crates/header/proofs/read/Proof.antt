@@ -1,4 +1,4 @@
--- `header::read` meets its contract. Assumes nothing.
+-- `header::read` meets its contract.
 use Rattle.header.proofs.Whole.{bytes}
 use Rattle.header.proofs.read.Statement.{statement}
 use Rattle.header.proofs.read.Tie as tie

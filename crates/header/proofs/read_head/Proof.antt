@@ -1,4 +1,4 @@
--- `header::read_head` meets its contract. Assumes nothing.
+-- `header::read_head` meets its contract.
 use Rattle.header.proofs.Whole.{heads}
 use Rattle.header.proofs.read_head.Statement.{statement}
 use Rattle.header.proofs.read_head.Tie as tie

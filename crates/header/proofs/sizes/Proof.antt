@@ -1,4 +1,4 @@
--- `header::sizes` meets its contract. Assumes nothing.
+-- `header::sizes` meets its contract.
 use Rattle.header.proofs.Numbers.{numbers}
 use Rattle.header.proofs.sizes.Statement.{statement}
 use Rattle.header.proofs.sizes.Tie as tie

@@ -1,4 +1,4 @@
--- `header::text_in` meets its contract. Assumes nothing.
+-- `header::text_in` meets its contract.
 use Rattle.header.proofs.Elements.{texts}
 use Rattle.header.proofs.text_in.Statement.{statement}
 use Rattle.header.proofs.text_in.Tie as tie

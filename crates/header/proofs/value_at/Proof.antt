@@ -1,4 +1,4 @@
--- `header::value_at` meets its contract. Assumes nothing.
+-- `header::value_at` meets its contract.
 use Rattle.header.proofs.Elements.{values}
 use Rattle.header.proofs.value_at.Statement.{statement}
 use Rattle.header.proofs.value_at.Tie as tie

@@ -1,4 +1,4 @@
--- `header::walk_all` meets its contract. Assumes nothing.
+-- `header::walk_all` meets its contract.
 use Prim.Native.Nat.{_-_}
 use Rattle.header.specs.Fixed.{orderOf}
 use Rattle.header.proofs.Walk.{Walking, walking}

@@ -1,4 +1,4 @@
--- `names::in_namespace` meets its contract. Assumes nothing.
+-- `names::in_namespace` meets its contract.
 use Rattle.names.proofs.Namespace.{under}
 use borrow.Author.Needs.{needs}
 use Rattle.names.proofs.in_namespace.Statement.{statement}

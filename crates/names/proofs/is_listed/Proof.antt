@@ -1,4 +1,4 @@
--- `names::is_listed` meets its contract. Assumes nothing.
+-- `names::is_listed` meets its contract.
 use Rattle.names.proofs.Blocks.{blocks}
 use borrow.Author.Needs.{needs}
 use Rattle.names.proofs.is_listed.Statement.{statement}

@@ -1,4 +1,4 @@
--- `names::is_parted` meets its contract. Assumes nothing.
+-- `names::is_parted` meets its contract.
 use Prim.Native.Nat.{_-_}
 use lib.ListN.{length}
 use Rattle.names.proofs.Blocks.{Apart, apart}

@@ -1,4 +1,4 @@
--- `names::is_path` meets its contract. Assumes nothing.
+-- `names::is_path` meets its contract.
 use Rattle.names.proofs.Forms.{forms}
 use borrow.Author.Needs.{needs}
 use Rattle.names.proofs.is_path.Statement.{statement}

@@ -1,4 +1,4 @@
--- `names::is_unique` meets its contract. Assumes nothing.
+-- `names::is_unique` meets its contract.
 use Rattle.names.proofs.Forms.{forms}
 use borrow.Author.Needs.{needs}
 use Rattle.names.proofs.is_unique.Statement.{statement}

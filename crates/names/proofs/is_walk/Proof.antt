@@ -1,4 +1,4 @@
--- `names::is_walk` meets its contract. Assumes nothing.
+-- `names::is_walk` meets its contract.
 use Rattle.names.proofs.Forms.{forms}
 use borrow.Author.Needs.{needs}
 use Rattle.names.proofs.is_walk.Statement.{statement}

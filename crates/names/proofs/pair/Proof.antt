@@ -1,4 +1,4 @@
--- `names::pair` meets its contract. Assumes nothing.
+-- `names::pair` meets its contract.
 use mathlib.Core.Path.{_≡_}
 use mathlib.Core.Bool.{Bool, not, _&&_, _||_}
 use Prim.Native.Nat.{ℕ}

@@ -1,4 +1,4 @@
--- `names::pair_blocks` meets its contract. Assumes nothing.
+-- `names::pair_blocks` meets its contract.
 use Prim.Native.Nat.{_-_}
 use Rattle.names.proofs.Blocks.{Passed, blocks}
 use Rattle.names.proofs.pair_blocks.Statement.{statement}

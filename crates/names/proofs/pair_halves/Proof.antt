@@ -1,4 +1,4 @@
--- `names::pair_halves` meets its contract. Assumes nothing.
+-- `names::pair_halves` meets its contract.
 use Rattle.names.proofs.Blocks.{blocks}
 use borrow.Author.Needs.{needs}
 use Rattle.names.proofs.pair_halves.Statement.{statement}

@@ -1,4 +1,4 @@
--- `names::pair_run` meets its contract. Assumes nothing.
+-- `names::pair_run` meets its contract.
 use Prim.Native.Nat.{_-_}
 use Rattle.names.proofs.Blocks.{Run, blocks}
 use Rattle.names.proofs.pair_run.Statement.{statement}

@@ -1,4 +1,4 @@
--- `signature::close` meets its contract. Assumes nothing.
+-- `signature::close` meets its contract.
 use mathlib.Core.Path.{_≡_}
 use mathlib.Core.Bool.{Bool, true, false, _&&_}
 use mathlib.Core.List.{List}

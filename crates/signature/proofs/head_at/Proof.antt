@@ -1,5 +1,4 @@
 -- `signature::head_at` meets its contract: the tests that led to each `return` say which case of `headOf` holds.
--- Assumes nothing.
 use mathlib.Core.Path.{_≡_}
 use mathlib.Core.Bool.{Bool, true, false, _&&_, _||_}
 use mathlib.Core.List.{List}

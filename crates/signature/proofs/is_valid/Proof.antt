@@ -1,4 +1,4 @@
--- `signature::is_valid` meets its contract: a row that ends at the slice's end is a signature. Assumes nothing.
+-- `signature::is_valid` meets its contract: a row that ends at the slice's end is a signature.
 use mathlib.Core.Path.{_≡_, refl, sym, _∙_}
 use mathlib.Core.Bool.{Bool, true, false}
 use mathlib.Core.List.{List}

@@ -1,4 +1,4 @@
--- `stream::is_closed` meets its contract: a good stream is closed where its head is broken. Assumes nothing.
+-- `stream::is_closed` meets its contract: a good stream is closed where its head is broken.
 use borrow.Author.Needs.{needs}
 use Rattle.stream.proofs.Tests.{closed-body, closed-broken, closed-few, closed-short, closed-whole}
 use Rattle.stream.proofs.is_closed.Statement.{statement}

@@ -1,4 +1,4 @@
--- `stream::is_good` meets its contract: by how much of the head has come. Assumes nothing.
+-- `stream::is_good` meets its contract: by how much of the head has come.
 use borrow.Author.Needs.{needs}
 use Rattle.stream.proofs.Tests.{good-below, good-fault, good-few, good-part, good-past, good-whole, long-head}
 use Rattle.stream.proofs.is_good.Statement.{statement}

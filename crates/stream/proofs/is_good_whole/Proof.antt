@@ -1,4 +1,4 @@
--- `stream::is_good_whole` meets its contract: by what the whole head reads as. Assumes nothing.
+-- `stream::is_good_whole` meets its contract: by what the whole head reads as.
 use borrow.Author.Needs.{needs}
 use Rattle.stream.proofs.Tests.{whole-body, whole-broken, whole-short}
 use Rattle.stream.proofs.is_good_whole.Statement.{statement}

@@ -1,4 +1,4 @@
--- `stream::store` meets its contract: the part of the piece stands in the part of the head. Assumes nothing.
+-- `stream::store` meets its contract: the part of the piece stands in the part of the head.
 use borrow.Author.Needs.{needs}
 use Rattle.stream.proofs.Regions.{same-lengths, stores}
 use Rattle.stream.proofs.store.Statement.{statement}

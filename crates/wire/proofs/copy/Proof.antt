@@ -1,4 +1,4 @@
--- `wire::copy` meets its contract. Assumes nothing.
+-- `wire::copy` meets its contract.
 use Prim.Native.Nat.{_-_}
 use lib.ListN.{length}
 use Rattle.wire.proofs.Runs.{Copying, copying}

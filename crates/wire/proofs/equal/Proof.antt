@@ -1,4 +1,4 @@
--- `wire::equal` meets its contract. Assumes nothing.
+-- `wire::equal` meets its contract.
 use Rattle.wire.proofs.Blocks.{equal}
 use borrow.Author.Needs.{needs}
 use Rattle.wire.proofs.equal.Statement.{statement}

@@ -1,4 +1,4 @@
--- `wire::equal_few` meets its contract. Assumes nothing.
+-- `wire::equal_few` meets its contract.
 use Prim.Native.Nat.{_-_}
 use lib.ListN.{length}
 use Rattle.wire.proofs.Runs.{Alike, alike}

@@ -1,4 +1,4 @@
--- `wire::equal_short` meets its contract. Assumes nothing.
+-- `wire::equal_short` meets its contract.
 use Rattle.wire.proofs.Blocks.{equal}
 use borrow.Author.Needs.{needs}
 use Rattle.wire.proofs.equal_short.Statement.{statement}

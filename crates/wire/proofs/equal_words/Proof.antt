@@ -1,4 +1,4 @@
--- `wire::equal_words` meets its contract. Assumes nothing.
+-- `wire::equal_words` meets its contract.
 use Prim.Native.Nat.{_-_}
 use lib.ListN.{length}
 use Rattle.wire.proofs.Blocks.{Equals, equal}

@@ -1,4 +1,4 @@
--- `wire::peek` meets its contract. Assumes nothing.
+-- `wire::peek` meets its contract.
 use mathlib.Core.Path.{_≡_, sym, ap}
 use mathlib.Core.List.{List}
 use Prim.Native.Nat.{ℕ, _≤_}

@@ -1,4 +1,4 @@
--- `wire::put_u32` meets its contract. Assumes nothing.
+-- `wire::put_u32` meets its contract.
 use Rattle.wire.proofs.Words.{stored}
 use lib.ListN.{length-set}
 use native.Mathlib.Omega.{arith}

@@ -1,4 +1,4 @@
--- `wire::u32_at` meets its contract. Assumes nothing.
+-- `wire::u32_at` meets its contract.
 use mathlib.Core.Path.{_≡_}
 use mathlib.Core.List.{List}
 use Prim.Native.Nat.{ℕ, _+_}

@@ -1,4 +1,4 @@
--- `wire::wipe` meets its contract. Assumes nothing.
+-- `wire::wipe` meets its contract.
 use Prim.Native.Nat.{_-_}
 use lib.ListN.{length}
 use Rattle.wire.proofs.Runs.{Wiping, wiping}

@@ -1,4 +1,4 @@
--- `wire::zero_4` meets its contract. Assumes nothing.
+-- `wire::zero_4` meets its contract.
 use Rattle.wire.proofs.Loads.{loads}
 use borrow.Author.Needs.{needs}
 use Rattle.wire.proofs.zero_4.Statement.{statement}

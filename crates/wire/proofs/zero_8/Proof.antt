@@ -1,4 +1,4 @@
--- `wire::zero_8` meets its contract. Assumes nothing.
+-- `wire::zero_8` meets its contract.
 use Rattle.wire.proofs.Loads.{loads}
 use borrow.Author.Needs.{needs}
 use Rattle.wire.proofs.zero_8.Statement.{statement}

@@ -1,4 +1,4 @@
--- `wire::zero_blocks` meets its contract. Assumes nothing.
+-- `wire::zero_blocks` meets its contract.
 use Prim.Native.Nat.{_-_}
 use Rattle.wire.proofs.Blocks.{Zeros, zeros}
 use Rattle.wire.proofs.zero_blocks.Statement.{statement}

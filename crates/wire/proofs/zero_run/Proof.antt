@@ -1,4 +1,4 @@
--- `wire::zero_run` meets its contract. Assumes nothing.
+-- `wire::zero_run` meets its contract.
 use Prim.Native.Nat.{_-_}
 use Rattle.wire.proofs.Blocks.{Seen, zeros}
 use Rattle.wire.proofs.zero_run.Statement.{statement}

@@ -1,4 +1,4 @@
--- `wire::zero_short` meets its contract. Assumes nothing.
+-- `wire::zero_short` meets its contract.
 use Rattle.wire.proofs.Blocks.{zeros}
 use borrow.Author.Needs.{needs}
 use Rattle.wire.proofs.zero_short.Statement.{statement}

@@ -1,4 +1,4 @@
--- `header::reader::element_in` meets its contract. Assumes nothing.
+-- `header::reader::element_in` meets its contract.
 use Rattle.header.proofs.Elements.{in-order}
 use borrow.Author.Needs.{needs}
 use Rattle.header.proofs.reader.element_in.Statement.{statement}

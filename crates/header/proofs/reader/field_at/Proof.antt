@@ -1,7 +1,6 @@
 -- `header::reader::field_at` meets its contract: a walk of its MIR, by hand. A `FieldReader` that one call returns is held in a local and passed to the
 -- next: all that the proof knows of `new` and of `next` is that each meets its contract. In a local of a body MIR erases the lifetime
 -- of the struct's type, so the value is shown to have the type at `erased`: what the struct owns does not say the lifetime's name.
--- Assumes nothing.
 use mathlib.Core.Path.{_≡_, refl}
 use Prim.Native.Nat.{ℕ, _<_, _^_}
 use mathlib.Core.List.{List, [], _∷_}

@@ -1,6 +1,5 @@
 -- `header::reader::new` meets its contract: a walk of its MIR, by hand. A `FieldReader` is made of the head and the two numbers passed, in the
 -- result's local. A `&[u8]` is Copy, so what it owns is had twice: once for head at exit, and once inside the result, beside the numbers' facts.
--- Assumes nothing.
 use mathlib.Core.Path.{refl}
 use Prim.Native.Nat.{ℕ, _<_, _^_}
 use mathlib.Core.List.{List, [], _∷_}

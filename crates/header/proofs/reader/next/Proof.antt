@@ -1,7 +1,6 @@
 -- `header::reader::next` meets its contract: a walk of its MIR, by hand. The struct is taken apart, and `element_in` is called on the slice and the
 -- numbers: all that the proof knows of it is that it meets its contract. The struct is Copy: what it owns is had twice, one copy is kept whole for
 -- the exit, and what the fields of the other own goes to the callee, which takes them in their order, beside the lifetime's token, which comes back.
--- Assumes nothing.
 use mathlib.Core.Path.{_≡_, refl}
 use mathlib.Core.List.{[], _∷_}
 use lib.Dec.{T as Holds}

@@ -1,4 +1,4 @@
--- `header::values::are_good` meets its contract. Assumes nothing.
+-- `header::values::are_good` meets its contract.
 use Rattle.header.proofs.Checks.{Checking, checking}
 use Rattle.header.proofs.values.are_good.Statement.{statement}
 use Rattle.header.proofs.values.are_good.Tie as tie

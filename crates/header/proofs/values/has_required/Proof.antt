@@ -1,4 +1,4 @@
--- `header::values::has_required` meets its contract. Assumes nothing.
+-- `header::values::has_required` meets its contract.
 use Rattle.header.proofs.Checks.{required}
 use Rattle.header.proofs.values.has_required.Statement.{statement}
 use Rattle.header.proofs.values.has_required.Tie as tie

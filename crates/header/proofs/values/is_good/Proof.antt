@@ -1,4 +1,4 @@
--- `header::values::is_good` meets its contract. Assumes nothing.
+-- `header::values::is_good` meets its contract.
 use Rattle.header.proofs.Checks.{field}
 use Rattle.header.proofs.values.is_good.Statement.{statement}
 use Rattle.header.proofs.values.is_good.Tie as tie

@@ -1,4 +1,4 @@
--- `header::values::is_good_value` meets its contract. Assumes nothing.
+-- `header::values::is_good_value` meets its contract.
 use Rattle.header.proofs.Checks.{value}
 use Rattle.header.proofs.values.is_good_value.Statement.{statement}
 use Rattle.header.proofs.values.is_good_value.Tie as tie

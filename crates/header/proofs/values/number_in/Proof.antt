@@ -1,4 +1,4 @@
--- `header::values::number_in` meets its contract. Assumes nothing.
+-- `header::values::number_in` meets its contract.
 use Rattle.header.proofs.Checks.{number}
 use Rattle.header.proofs.values.number_in.Statement.{statement}
 use Rattle.header.proofs.values.number_in.Tie as tie

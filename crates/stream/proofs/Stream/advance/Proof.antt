@@ -1,6 +1,6 @@
--- `stream::Stream::advance` meets its contract: up to 16 bytes are stored, and then the fixed part is read. Assumes nothing.
+-- `stream::Stream::advance` meets its contract: up to 16 bytes are stored, and then the fixed part is read.
 use borrow.Author.Needs.{needs}
-use Rattle.stream.proofs.Beginning.{begun-fixed, begun-open, from-fixed, from-open, more-fixed, room-fixed}
+use Rattle.stream.proofs.Beginning.{begun-fixed, begun-open, few, from-fixed, from-open, room-fixed}
 use Rattle.stream.proofs.Stream.advance.Statement.{statement}
 use Rattle.stream.proofs.Stream.advance.Tie as tie
 
@@ -16,7 +16,7 @@ advance-spec =
     (λ c. search needs)
     (λ c. search needs)
     (λ c. search needs)
-    (λ c. search more-fixed)
+    (λ c. search few)
     (λ c κs. search begun-fixed)
     (λ c. search needs)
     (λ c. search from-fixed))

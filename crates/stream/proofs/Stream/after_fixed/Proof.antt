@@ -1,4 +1,4 @@
--- `stream::Stream::after_fixed` meets its contract: the fixed part is broken, or says where the head and the message end. Assumes nothing.
+-- `stream::Stream::after_fixed` meets its contract: the fixed part is broken, or says where the head and the message end.
 use borrow.Author.Needs.{needs}
 use Rattle.stream.proofs.Beginning.{long-fixed, broken-fixed, sizes-fixed}
 use Rattle.stream.proofs.Stream.after_fixed.Statement.{statement}

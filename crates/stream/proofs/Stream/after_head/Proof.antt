@@ -1,4 +1,4 @@
--- `stream::Stream::after_head` meets its contract: a whole head is broken, or its body is counted to the message's end. Assumes nothing.
+-- `stream::Stream::after_head` meets its contract: a whole head is broken, or its body is counted to the message's end.
 use borrow.Author.Needs.{needs}
 use Rattle.stream.proofs.Onward.{broken-end, more-end, never-short, whole-end}
 use Rattle.stream.proofs.Stream.after_head.Statement.{statement}

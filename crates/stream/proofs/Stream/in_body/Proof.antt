@@ -1,4 +1,4 @@
--- `stream::Stream::in_body` meets its contract: bytes of the body are counted. Assumes nothing.
+-- `stream::Stream::in_body` meets its contract: bytes of the body are counted.
 use borrow.Author.Needs.{needs}
 use Rattle.stream.proofs.Onward.{end-body, more-body}
 use Rattle.stream.proofs.Stream.in_body.Statement.{statement}

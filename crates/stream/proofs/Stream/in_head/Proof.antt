@@ -1,4 +1,4 @@
--- `stream::Stream::in_head` meets its contract: bytes are stored up to the head's end. Assumes nothing.
+-- `stream::Stream::in_head` meets its contract: bytes are stored up to the head's end.
 use borrow.Author.Needs.{needs}
 use Rattle.stream.proofs.Onward.{end-head, from-head, more-head, past-head, room-head}
 use Rattle.stream.proofs.Stream.in_head.Statement.{statement}

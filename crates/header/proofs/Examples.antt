@@ -1,4 +1,4 @@
--- The worked examples hold of the definition of a head: one statement, which antt computes. Assumes nothing.
+-- The worked examples hold of the definition of a head: one statement, which antt computes.
 use mathlib.Core.Path.{_≡_, refl}
 use mathlib.Core.Bool.{true}
 use lib.Dec.{eqb}
@@ -12,8 +12,13 @@ use Rattle.header.specs.Fields.{textIn, valueAt, framed, elementAt, walk
 use Rattle.header.specs.Values.{numberIn, goodValue, goodField, goodValues}
 use Rattle.header.specs.Required.{hasRequired}
 use Rattle.header.specs.Header.{headerOf, judged, readHead, readHeader}
-use Rattle.header.specs.Table.{table, answer}
+use Rattle.header.specs.Table.{table, answer, fixedTable, fixedAnswerTo}
 
 pub table-agrees : agrees answer eqb table ≡ true
 unfolding allZero wordAt wordBytes startsWith wellKnown unique validName orderOf headLength messageLength sizesOf fixedPart letterOf textIn valueAt framed elementAt walk fieldsOf numberIn goodValue goodField goodValues hasRequired headerOf judged readHead readHeader
 table-agrees = refl
+
+-- and of its fixed part alone
+pub fixed-agrees : agrees fixedAnswerTo eqb fixedTable ≡ true
+unfolding wordAt wordBytes orderOf headLength messageLength sizesOf fixedPart
+fixed-agrees = refl
