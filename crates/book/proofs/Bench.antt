@@ -17,7 +17,7 @@ use Rattle.header.specs.Values.{numberIn, goodValue, goodField, goodValues}
 use Rattle.header.specs.Required.{hasRequired}
 use Rattle.header.specs.Header.{headerOf, judged as judgedHead, readHead, readHeader}
 use Rattle.image.specs.Good.{goodCounts, goodSections, goodHeader, goodString, goodOrAny, goodOwned, goodConnectRule, goodOwnRule, goodStrings, goodTransactionRule}
-use Rattle.image.specs.Good.{goodConnect, goodOwn, goodTransaction, goodImage}
+use Rattle.image.specs.Good.{goodConnect, goodOwn, goodTransaction, goodImage, outcomeOf, imageAnswer}
 use Rattle.policy.specs.Subjects.{inGroups, subjectFits}
 use Rattle.policy.specs.Names.{owns}
 use Rattle.policy.specs.Precedence.{deciding}
@@ -36,7 +36,7 @@ use Rattle.book.specs.Bench.{asks, lastOf, answer, table}
 use Rattle.book.proofs.List.{list-claim}
 
 pub table-agrees : agrees answer same table ≡ true
-unfolding allZero same wordAt wordBytes startsWith wellKnown unique validName inNamespace headOf closed one row validSignature orderOf headLength messageLength sizesOf fixedPart letterOf textIn valueAt framed elementAt walk fieldsOf numberIn goodValue goodField goodValues hasRequired headerOf judgedHead readHead readHeader goodCounts goodSections goodHeader goodString goodOrAny goodOwned goodConnectRule goodOwnRule goodStrings goodTransactionRule goodConnect goodOwn goodTransaction goodImage inGroups subjectFits owns deciding connectFits ownedFits ownFits messageOf partFits interfaceFits partsFit nameFits transactionFits transactionMatches connectDecides mayConnect ownDecides mayOwn transactionDecides mayTransact offer firstBy digits uniqueName answersTo resolve awaits maskOf countOf judged connect own piece cut entry answers
+unfolding allZero same wordAt wordBytes startsWith wellKnown unique validName inNamespace headOf closed one row validSignature orderOf headLength messageLength sizesOf fixedPart letterOf textIn valueAt framed elementAt walk fieldsOf numberIn goodValue goodField goodValues hasRequired headerOf judgedHead readHead readHeader goodCounts goodSections goodHeader goodString goodOrAny goodOwned goodConnectRule goodOwnRule goodStrings goodTransactionRule goodConnect goodOwn goodTransaction goodImage outcomeOf imageAnswer inGroups subjectFits owns deciding connectFits ownedFits ownFits messageOf partFits interfaceFits partsFit nameFits transactionFits transactionMatches connectDecides mayConnect ownDecides mayOwn transactionDecides mayTransact offer firstBy digits uniqueName answersTo resolve awaits maskOf countOf judged connect own piece cut entry answers
 table-agrees = refl
 
 -- and so of the guard: over any memory of the right length, the last of these calls shows what the table's question is answered with

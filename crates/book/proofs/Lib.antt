@@ -1,6 +1,7 @@
 pub mod Cut
 pub mod Tails
 pub mod Numbers
+pub mod Images
 pub mod Never
 pub mod List
 pub mod Bytewise

@@ -9,7 +9,7 @@ use lib.Dec.{eqb, ltb, leb}
 use lib.ListN.{length}
 use borrow.Author.Tests.{eqb-true, leb-true}
 use Rattle.wire.proofs.Texts.{both-second, either}
-use Rattle.image.specs.Good.{goodImage}
+use Rattle.image.specs.Good.{imageAnswer}
 use Rattle.policy.specs.Names.{owns}
 use Rattle.policy.specs.Decisions.{mayConnect, mayOwn}
 use Rattle.stream.specs.Stream.{Verdict, more, broken, whole, Streams, Offer, offer, settled}
@@ -26,6 +26,7 @@ use Rattle.rules.specs.declared.Gone.{Gone}
 use Rattle.rules.proofs.Tests.{choice}
 use Rattle.book.specs.Book.{current, books}
 use Rattle.book.specs.Lists.{Call, starts, connects, claims, releases, offers, leaves, entry, answers, numberOf, Never51}
+use Rattle.book.proofs.Images.{image-refuses}
 use Rattle.book.proofs.Numbers.{isJudged, judged-proper, broken-number}
 
 -- ---- a piece, over any streams whose faults are 1 to 9
@@ -139,14 +140,15 @@ never : (b : State (List ℕ)) (c : Call) → numberOf (entry b c .answer) ≡ 5
 unfolding entry
 never b starts = λ e. omega arith
 never b (connects image uid gids) =
-    choice (λ (z : Step (List ℕ) Connected). z .result .answer ≡ 51 → ⊥) (goodImage image) (connect books image b uid gids) (stays b (noConnect 50))
-    (λ a. connect-never books b image uid gids) (λ a e. omega arith)
+    choice (λ (z : Step (List ℕ) Connected). z .result .answer ≡ 51 → ⊥) (eqb (imageAnswer image) 0) (connect books image b uid gids)
+    (stays b (noConnect (imageAnswer image))) (λ a. connect-never books b image uid gids) (λ a. image-refuses image a .not51)
 never b (claims image n name) =
-    choice (λ (z : Step (List ℕ) ℕ). z .result ≡ 51 → ⊥) (goodImage image) (own image b n name) (stays b 50) (λ a. own-never b image n name) (λ a e. omega arith)
+    choice (λ (z : Step (List ℕ) ℕ). z .result ≡ 51 → ⊥) (eqb (imageAnswer image) 0) (own image b n name) (stays b (imageAnswer image))
+    (λ a. own-never b image n name) (λ a. image-refuses image a .not51)
 never b (releases n name) = release-never b n name
 never b (offers image n bytes) =
-    choice (λ (z : Step (List ℕ) Taken). z .result .judgement .answer ≡ 51 → ⊥) (goodImage image) (piece books image b n bytes) (stays b (noPiece 50))
-    (λ a. piece-never books book-faults image b n bytes) (λ a e. omega arith)
+    choice (λ (z : Step (List ℕ) Taken). z .result .judgement .answer ≡ 51 → ⊥) (eqb (imageAnswer image) 0) (piece books image b n bytes)
+    (stays b (noPiece (imageAnswer image))) (λ a. piece-never books book-faults image b n bytes) (λ a. image-refuses image a .not51)
 never b (leaves n) = leave-never books b n
 
 pub nevers : (b : State (List ℕ)) (cs : List Call) → Never51 (answers b cs)

@@ -4,8 +4,9 @@ use mathlib.Core.Bool.{cond}
 use mathlib.Core.List.{List, [], _∷_}
 use mathlib.Core.Path.{_≡_}
 use Prim.Native.Nat.{ℕ, _<_}
+use lib.Dec.{eqb}
 use lib.ListN.{getD}
-use Rattle.image.specs.Good.{goodImage}
+use Rattle.image.specs.Good.{imageAnswer}
 use Rattle.rules.specs.State.{State}
 use Rattle.rules.specs.Calls.{Step, stays, empty, connect, own, release, piece, disconnect, noConnect, noPiece}
 use Rattle.rules.specs.declared.Connected.{Connected}
@@ -41,13 +42,17 @@ pub record Entry : Type 0 where
 abbrev pub told : {R : Type 0} → (R → Answer) → Step (List ℕ) R → Entry
 told say s = record { answer = say (s .result); state = s .state }
 
--- "Each call, refused or not, answers and changes it by the rules above, read over the book; 51 never comes." A bad image is 50.
+-- a step under an image; where the image has an answer of its own, that one, and nothing changes (rules 5.9 and 8.1)
+abbrev pub underImage : {S R : Type 0} → (ℕ → R) → List ℕ → State S → Step S R → Step S R
+underImage refuse image b step = cond (eqb (imageAnswer image) 0) step (stays b (refuse (imageAnswer image)))
+
+-- every call, refused or not, answers and changes the model; no answer comes from memory (rule 11.3)
 unfoldable pub entry : State (List ℕ) → Call → Entry
 entry b starts = record { answer = plain 0; state = empty }
-entry b (connects image uid gids) = told connected (cond (goodImage image) (connect books image b uid gids) (stays b (noConnect 50)))
-entry b (claims image n name) = told plain (cond (goodImage image) (own image b n name) (stays b 50))
+entry b (connects image uid gids) = told connected (underImage noConnect image b (connect books image b uid gids))
+entry b (claims image n name) = told plain (underImage (λ a. a) image b (own image b n name))
 entry b (releases n name) = told plain (release b n name)
-entry b (offers image n bytes) = told taken (cond (goodImage image) (piece books image b n bytes) (stays b (noPiece 50)))
+entry b (offers image n bytes) = told taken (underImage noPiece image b (piece books image b n bytes))
 entry b (leaves n) = told gone (disconnect books b n)
 
 unfoldable pub answers : State (List ℕ) → List Call → List Answer
