@@ -4,6 +4,7 @@ pub mod Numbers
 pub mod Images
 pub mod Never
 pub mod List
+pub mod Runs
 pub mod Bytewise
 pub mod Ways
 pub mod Split

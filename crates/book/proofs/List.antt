@@ -91,9 +91,9 @@ holds-length {b = b} h = ap length (h .bytes) ∙ memory-length (seen tailView b
 
 -- ---- one call
 
-record Told (b : State (List ℕ)) (c : Call) (a : Answer) (e : List ℕ) : Type 0 where
-  answer : a ≡ entry b c .answer
-  holds : Holds e (entry b c .state)
+pub record Told (b : State (List ℕ)) (c : Call) (a : Answer) (e : List ℕ) : Type 0 where
+  pub answer : a ≡ entry b c .answer
+  pub holds : Holds e (entry b c .state)
 
 module _ {m : List ℕ} (b : State (List ℕ)) (h : Holds m b) where
   abbrev v : State Tail
@@ -130,7 +130,7 @@ module _ {m : List ℕ} (b : State (List ℕ)) (h : Holds m b) where
   leave-meets n d =
       meets-memory gone h noGone (λ s. disconnect tails s n) (disconnect books b n) (disconnect-seen books tails tailView sees b n) (disconnect-sound v (h .sound) n) d
 
-  one : {e : List ℕ} {c : Call} {a : Answer} → Ran m e c a → Told b c a e
+  pub one : {e : List ℕ} {c : Call} {a : Answer} → Ran m e c a → Told b c a e
   unfolding entry
   one (ran-start d) = let s = start-holds m (holds-length h) d in record { answer = ap plain (s .0); holds = s .1 }
   one (ran-connect {image} {uid} {gids} u w d) = let t = connect-meets image uid gids u w d in record { answer = t .answer; holds = t .holds }
@@ -145,7 +145,7 @@ pub record All (b : State (List ℕ)) (cs : List Call) (given : List Answer) (e 
   pub answered : given ≡ answers b cs
   pub holds : Holds e (after b cs)
 
-all : {m e : List ℕ} {cs : List Call} {given : List Answer} (b : State (List ℕ)) → Holds m b → Run m cs given e → All b cs given e
+pub all : {m e : List ℕ} {cs : List Call} {given : List Answer} (b : State (List ℕ)) → Holds m b → Run m cs given e → All b cs given e
 unfolding answers after
 all b h done = record { answered = refl; holds = h }
 all b h (then {c = c} r rs) =

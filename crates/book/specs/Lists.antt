@@ -5,7 +5,7 @@ use mathlib.Core.List.{List, [], _∷_}
 use mathlib.Core.Path.{_≡_}
 use Prim.Native.Nat.{ℕ, _<_}
 use lib.Dec.{eqb}
-use lib.ListN.{getD}
+use lib.ListN.{length, getD}
 use Rattle.image.specs.Good.{imageAnswer}
 use Rattle.rules.specs.State.{State}
 use Rattle.rules.specs.Calls.{Step, stays, empty, connect, own, release, piece, disconnect, noConnect, noPiece}
@@ -13,6 +13,7 @@ use Rattle.rules.specs.declared.Connected.{Connected}
 use Rattle.rules.specs.declared.Taken.{Taken}
 use Rattle.rules.specs.declared.Gone.{Gone}
 use Rattle.memory.specs.Calls.{Did, startOn, connectOn, ownOn, releaseOn, pieceOn, disconnectOn}
+use Rattle.memory.specs.Layout.{memoryLength}
 use Rattle.memory.specs.Encoding.{memoryOf}
 use Rattle.rules.specs.View.{seen}
 use Rattle.book.specs.Book.{books, tailView}
@@ -70,6 +71,19 @@ after b (c ∷ cs) = after (entry b c .state) cs
 abbrev pub Below : ℕ → List ℕ → Type 0
 Below k p = (i : ℕ) → getD p i 0 < k
 
+-- arguments that fit in their types: numbers of 32 bits, and bytes
+abbrev pub Fits : Call → Type 0
+Fits starts = Unit {0}
+Fits (connects image uid gids) = (uid < 4294967296) × Below 4294967296 gids
+Fits (claims image n name) = Unit {0}
+Fits (releases n name) = Unit {0}
+Fits (offers image n bytes) = Below 256 bytes
+Fits (leaves n) = Unit {0}
+
+abbrev pub AllFit : List Call → Type 0
+AllFit [] = Unit {0}
+AllFit (c ∷ cs) = Fits c × AllFit cs
+
 -- one call from memory m to memory e, as its `ensures` says it
 pub data Ran (m e : List ℕ) : Call → Answer → Type 0 where
   ran-start : {r : ℕ} → Did (startOn m) r e → Ran m e starts (plain r)
@@ -91,9 +105,14 @@ pub data Run : List ℕ → List Call → List Answer → List ℕ → Type 0 wh
       → Run d cs rest e
       → Run m (c ∷ cs) (a ∷ rest) e
 
+-- these calls, made from a start over memory of the right length or from an empty guard on, have left memory m (rule 12.1)
+pub data Reached (m : List ℕ) : List Call → Type 0 where
+  since-start : {k : List ℕ} {cs : List Call} {given : List Answer} → length k ≡ memoryLength → Run k (starts ∷ cs) given m → Reached m (starts ∷ cs)
+  since-empty : {cs : List Call} {given : List Answer} → Run (memoryOf empty) cs given m → Reached m cs
+
 -- ---- answers
 
--- 01's number of an answer
+-- the number of an answer
 abbrev pub numberOf : Answer → ℕ
 numberOf (plain a) = a
 numberOf (connected r) = r .answer
