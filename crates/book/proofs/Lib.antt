@@ -9,5 +9,7 @@ pub mod Bytewise
 pub mod Ways
 pub mod Split
 pub mod Bench
+pub mod Messages
+pub mod Pieces
 pub mod Consequences
 pub mod Ends

@@ -32,7 +32,7 @@ use Rattle.book.proofs.Numbers.{isJudged, judged-proper, broken-number}
 -- ---- a piece, over any streams whose faults are 1 to 9
 
 module _ {S : Type 0} (O : Streams S) (faults : (s : S) (a : ℕ) → O .judge s ≡ broken a → (1 ≤ a) × (a ≤ 9)) where
-  offer-faults : (s : S) (p : List ℕ) (a : ℕ) → offer O s p .verdict ≡ broken a → (1 ≤ a) × (a ≤ 9)
+  pub offer-faults : (s : S) (p : List ℕ) (a : ℕ) → offer O s p .verdict ≡ broken a → (1 ≤ a) × (a ≤ 9)
   unfolding offer
   offer-faults s [] a e = let z : _≡_ {A = ℕ} 0 1 = cc in absurd (omega arith)
   offer-faults s (b ∷ p) a e =
@@ -133,7 +133,7 @@ module _ {S : Type 0} (s : State S) where
 
 -- ---- the model
 
-book-faults : (xs : List ℕ) (a : ℕ) → books .judge xs ≡ broken a → (1 ≤ a) × (a ≤ 9)
+pub book-faults : (xs : List ℕ) (a : ℕ) → books .judge xs ≡ broken a → (1 ≤ a) × (a ≤ 9)
 book-faults xs a e = broken-number (length (current xs)) (current xs) a e
 
 never : (b : State (List ℕ)) (c : Call) → numberOf (entry b c .answer) ≡ 51 → ⊥

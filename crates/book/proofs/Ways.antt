@@ -90,7 +90,7 @@ module _ {S : Type 0} (O : Streams S) (shut : (t : S) → O .closed t ≡ isBrok
       -- ---- an open stream
 
       module _ (c : O .closed (q .stream) ≡ false) where
-        at-open : (p : List ℕ) → stepOf s p ≡ comes (offer O (q .stream) p)
+        pub at-open : (p : List ℕ) → stepOf s p ≡ comes (offer O (q .stream) p)
         at-open p = at-peer p ∙ rw c
 
         open-idles : stepOf s [] ≡ stays s (record { judgement = refusal 10; taken = 0 })

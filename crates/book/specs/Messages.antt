@@ -8,7 +8,7 @@ use Rattle.header.specs.declared.Header.{Header}
 use Rattle.header.specs.declared.Reading.the-variants.{Whole}
 use Rattle.header.specs.Header.{readHeader}
 use Rattle.image.specs.Good.{imageAnswer}
-use Rattle.stream.specs.Stream.{broken, whole, offer}
+use Rattle.stream.specs.Stream.{broken, whole, Streams, offer}
 use Rattle.stream.specs.Tail.{Tail, judge, brokenAt}
 use Rattle.rules.specs.State.{peer, Peer, State, isPeer, firstBy}
 use Rattle.rules.specs.Calls.{slotAt}
@@ -34,13 +34,17 @@ pub record Parted (xs : List ℕ) : Type 0 where
   pub unfinished : isWhole (front present) ≡ false
   pub bytes : xs ≡ joined messages ++ present
 
--- under that image a piece of peer n ends a message with head h, which reads as x, in the model's state b (rules 8.6 and 9.1)
-pub record EndsMessage (b : State (List ℕ)) (image : List ℕ) (n : ℕ) (bytes h : List ℕ) (x : Header) : Type 0 where
+-- a piece of peer n is taken: the image passes, the peer is there, and its stream is open (rule 8.6)
+pub record Takes {S : Type 0} (O : Streams S) (s : State S) (image : List ℕ) (n : ℕ) : Type 0 where
   pub passed : imageAnswer image ≡ 0
-  pub sender : Peer (List ℕ)
-  pub sits : slotAt b (firstBy (isPeer n) (b .slots)) ≡ peer sender
-  pub unbroken : books .closed (sender .stream) ≡ false
-  pub ended : offer books (sender .stream) bytes .verdict ≡ whole h x
+  pub sender : Peer S
+  pub sits : slotAt s (firstBy (isPeer n) (s .slots)) ≡ peer sender
+  pub unbroken : O .closed (sender .stream) ≡ false
+
+-- and it ends a message with head h, which reads as x, in the model's state b (rule 9.1)
+pub record EndsMessage (b : State (List ℕ)) (image : List ℕ) (n : ℕ) (bytes h : List ℕ) (x : Header) : Type 0 where
+  pub takes : Takes books b image n
+  pub ended : offer books (takes .sender .stream) bytes .verdict ≡ whole h x
 
 -- in memory m peer n has a head that is broken with answer a, and no byte was taken behind the one that broke it (rule 10.4)
 pub record BrokenIn (m : List ℕ) (n a : ℕ) : Type 0 where
