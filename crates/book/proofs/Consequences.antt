@@ -1,1 +1,226 @@
--- What the list claim comes to.
+-- What the list claim comes to, for the memory that a run has reached and the calls that follow there: messages, broken heads and replies.
+use mathlib.Core.Path.{_≡_, refl, sym, ap, _∙_, subst}
+use mathlib.Core.Bool.{Bool, true, false, cond}
+use mathlib.Core.List.{List, _∷_, _++_}
+use Prim.Native.Nat.{ℕ, _≤_, min}
+use native.Mathlib.Omega.{arith}
+use lib.Dec.{eqb}
+use lib.ListN.{length, getD}
+use lib.Seq.{getD-set-same}
+use borrow.Author.Tests.{eqb-true}
+use Rattle.wire.proofs.Texts.{both-second}
+use Rattle.header.specs.declared.Header.{Header}
+use Rattle.stream.specs.Stream.{Verdict, broken}
+use Rattle.stream.specs.Tail.{Tail, judge, headEnd, fitting, goodTail, brokenAt}
+use Rattle.rules.specs.State.{Slot, free, peer, Peer, State, isPeer, firstBy, putSlot, withStream}
+use Rattle.rules.specs.Judge.{isReply, judged}
+use Rattle.rules.specs.Calls.{Step, empty, slotAt, disconnect}
+use Rattle.rules.specs.declared.Taken.{Taken}
+use Rattle.rules.specs.declared.Gone.{Gone}
+use Rattle.rules.specs.View.{seenPeer, seenSlot, seen}
+use Rattle.rules.proofs.View.{slot-seen}
+use Rattle.rules.proofs.First.{taken-below}
+use Rattle.rules.proofs.Waits.{okPending}
+use Rattle.rules.proofs.Replies.{isWaiting, reply-exact, reply-once, gone-unawaited}
+use Rattle.memory.specs.Layout.{memoryLength}
+use Rattle.memory.specs.Encoding.{stateOf}
+use Rattle.memory.proofs.Sound.{state-again}
+use Rattle.sound.proofs.Kept.{Alone, sound-kept}
+use Rattle.book.specs.Book.{front, isWhole, books, kept, tailView}
+use Rattle.book.specs.Lists.{Call, starts, offers, leaves, Answer, taken, gone, numberOf, entry, answers, after, Ran, Run, Reached}
+use Rattle.book.specs.Split.{joined}
+use Rattle.book.specs.Messages.{Messages, Parted, EndsMessage, BrokenIn}
+use Rattle.book.proofs.List.{Holds, Told, one, started}
+use Rattle.book.proofs.Tails.{judge-broken}
+use Rattle.book.proofs.Runs.{reached-holds}
+use Rattle.book.proofs.Messages.{parted, tail-behind}
+use Rattle.book.proofs.Numbers.{isJudged}
+use Rattle.book.proofs.Never.{offer-faults, book-faults}
+use Rattle.book.proofs.Pieces.{number-found, pieceUnder, consumed, piece-breaks, piece-ends, ends-is}
+use Rattle.book.proofs.Unread.{isAwaited, okSlot, waiting-seen, ok-slots, awaited-seen, awaited-later, ok-later}
+
+-- ---- over the model's state
+
+-- memory says what the model holds
+held-state : {m : List ℕ} {b : State (List ℕ)} → Holds m b → stateOf m ≡ seen tailView b
+held-state {b = b} h = ap stateOf (h .bytes) ∙ state-again (seen tailView b) (h .sound)
+
+held-slot : {m : List ℕ} {b : State (List ℕ)} → Holds m b → (i : ℕ) → slotAt (stateOf m) i ≡ seenSlot tailView (slotAt b i)
+held-slot {b = b} h i = ap (λ (s : State Tail). slotAt s i) (held-state h) ∙ slot-seen tailView b i
+
+module _ (b : State (List ℕ)) (image : List ℕ) (n : ℕ) (bytes h : List ℕ) (x : Header) (m : EndsMessage b image n bytes h x) (r : isReply x ≡ true) where
+  abbrev place : ℕ
+  place = firstBy (isPeer n) (b .slots)
+
+  abbrev sender : Peer (List ℕ)
+  sender = m .takes .sender
+
+  -- the sender and the state once the message is consumed
+  abbrev done : Peer (List ℕ)
+  done = consumed books (λ t. refl) image b n bytes sender
+
+  abbrev later : State (List ℕ)
+  later = putSlot b place (peer done)
+
+  abbrev step : Step (List ℕ) Taken
+  step = pieceUnder books (λ t. refl) image b n bytes
+
+  number : done .number ≡ n
+  number = number-found b n sender (m .takes .sits)
+
+  awaited-same : isAwaited later (done .number) h x ≡ isAwaited b n h x
+  awaited-same = ap (λ (k : ℕ). isAwaited later k h x) number ∙ awaited-later b place sender (done .stream) (m .takes .sits) n h x
+
+  -- a reply passes exactly where it is awaited
+  piece-reply : step .result .judgement .answer ≡ cond (isAwaited b n h x) 0 24
+  piece-reply =
+      ap (λ (z : Step (List ℕ) Taken). z .result .judgement .answer) (ends-is books (λ t. refl) image b n bytes (m .takes) h x (m .ended))
+      ∙ reply-exact image later place done h x r
+      ∙ ap (λ (c : Bool). cond c 0 24) awaited-same
+
+  -- and is then awaited no more
+  piece-replied : ((j : ℕ) → okSlot (slotAt b j) ≡ true) → isAwaited b n h x ≡ true → isAwaited (step .state) n h x ≡ false
+  piece-replied ok w =
+      ap (λ (z : Step (List ℕ) Taken). isAwaited (z .state) n h x) (ends-is books (λ t. refl) image b n bytes (m .takes) h x (m .ended))
+      ∙ ap (λ (k : ℕ). isAwaited (judged image later place done h x .state) k h x) (sym number)
+      ∙ reply-once image later place done h x r fine (awaited-same ∙ w)
+    where
+      fine : (j : ℕ) (p : Peer (List ℕ)) → getD (later .slots) j free ≡ peer p → okPending (p .pending) ≡ true
+      fine j p e = sym (ap okSlot e) ∙ ok-later b place sender (done .stream) (m .takes .sits) j ∙ ok j
+
+alone-ok : (last : ℕ) (y : Slot Tail) → Alone last y → okSlot y ≡ true
+alone-ok last free a = refl
+alone-ok last (peer p) a = a .waits
+
+-- a head in good memory is broken at its last byte
+good-broken : (t : Tail) (a : ℕ) → goodTail t ≡ true → judge t ≡ broken a → t .taken ≡ brokenAt a (t .head)
+unfolding goodTail
+good-broken t a g j =
+    let f = both-second (eqb (length (t .head)) (min (t .taken) (headEnd (t .head)))) (fitting (judge t) (t .taken) (t .head)) g in
+    eqb-true (t .taken) (brokenAt a (t .head)) (ap (λ (v : Verdict). fitting v (t .taken) (t .head)) (sym j) ∙ f)
+
+-- ---- where a run has come to
+
+module _ {cs : List Call} {m : List ℕ} (run : Reached m cs) where
+  -- the model's state
+  abbrev now : State (List ℕ)
+  now = after empty cs
+
+  -- memory has the model's peers, each stream as the guard keeps it
+  pub slots-are : (i : ℕ) → slotAt (stateOf m) i ≡ seenSlot tailView (slotAt now i)
+  slots-are i = held-slot (reached-holds run) i
+
+  -- of a stream that is whole messages and then others, memory has the count and the head of the others
+  pub messages-then : (i : ℕ) (p : Peer (List ℕ)) → slotAt now i ≡ peer p → (ms : List (List ℕ)) (ys : List ℕ) → Messages ms → isWhole (front ys) ≡ false
+      → p .stream ≡ joined ms ++ ys
+      → slotAt (stateOf m) i ≡ peer (seenPeer (λ xs. kept ys) p)
+  messages-then i p e ms ys w u q =
+      slots-are i ∙ ap (seenSlot tailView) e ∙ ap (λ (t : Tail). peer (seenPeer (λ xs. t) p)) (ap tailView q ∙ tail-behind ms ys w u)
+
+  -- and every stream is such
+  pub stream-is : (i : ℕ) (p : Peer (List ℕ)) → slotAt now i ≡ peer p
+      → (c : Parted (p .stream)) × (slotAt (stateOf m) i ≡ peer (seenPeer (λ xs. kept (c .present)) p))
+  stream-is i p e = let c = parted (p .stream) in (c, messages-then i p e (c .messages) (c .present) (c .are) (c .unfinished) (c .bytes))
+
+  -- who is awaited is connected
+  pub awaited-connected : (i n serial : ℕ) → isWaiting n serial (slotAt (stateOf m) i) ≡ true → (j : ℕ) × (isPeer n (slotAt (stateOf m) j) ≡ true)
+  awaited-connected i n serial w =
+      let h = reached-holds run in
+      let q = held-state h in
+      let k = sound-kept (h .sound) .callees i n serial (ap (λ (s : State Tail). isWaiting n serial (slotAt s i)) (sym q) ∙ w) in
+      (k .0, ap (λ (s : State Tail). isPeer n (slotAt s (k .0))) q ∙ k .1)
+
+  now-ok : (j : ℕ) → okSlot (slotAt now j) ≡ true
+  now-ok j = sym (ok-slots tailView now j) ∙ alone-ok (now .last) (slotAt (seen tailView now) j) (sound-kept (reached-holds run .sound) .each j)
+
+  -- ---- a piece offered there
+
+  module _ {image : List ℕ} {n : ℕ} {bytes : List ℕ} {r : Taken} {e : List ℕ} (ran : Ran m e (offers image n bytes) (taken r)) where
+    told : Told now (offers image n bytes) (taken r) e
+    told = one now (reached-holds run) ran
+
+    said : r .judgement .answer ≡ pieceUnder books (λ t. refl) image now n bytes .result .judgement .answer
+    unfolding entry
+    said = ap numberOf (told .answer)
+
+    -- 0 and 20 to 26 are answers about a message that the piece ends
+    pub message-ended : isJudged (r .judgement .answer) ≡ true → (h : List ℕ) × (x : Header) × EndsMessage now image n bytes h x
+    message-ended j =
+        let w = piece-ends books (λ t. refl) image now n bytes (λ t a. offer-faults books book-faults t bytes a) (ap isJudged (sym said) ∙ j) in
+        (w .1, w .2, record { takes = w .0; ended = w .3 })
+
+    -- 1 to 6 are answered at byte 16 of a message, and 7 to 9 at the last byte of its head
+    pub broken-where : 1 ≤ r .judgement .answer → r .judgement .answer ≤ 9 → BrokenIn e n (r .judgement .answer)
+    unfolding entry
+    broken-where l k =
+        let a = r .judgement .answer in
+        let z = piece-breaks books (λ t. refl) image now n bytes a (sym said) l k in
+        let i = firstBy (isPeer n) (now .slots) in
+        let p = z .takes .sender in
+        let q = withStream p (z .stream) in
+        let t : slotAt (entry now (offers image n bytes) .state) i ≡ peer q
+        = ap (λ (s : State (List ℕ)). slotAt s i) (z .state) ∙ getD-set-same (now .slots) i (peer q) free (taken-below (now .slots) i p (z .takes .sits)) in
+        let v : judge (tailView (z .stream)) ≡ broken a = judge-broken (z .stream) a (z .reads) in
+        let g = sound-kept (told .holds .sound) .each i in
+        let u = slot-seen tailView (entry now (offers image n bytes) .state) i ∙ ap (seenSlot tailView) t in
+        record {
+          place = i;
+          who = seenPeer tailView q;
+          sits = held-slot (told .holds) i ∙ ap (seenSlot tailView) t;
+          number = number-found now n p (z .takes .sits);
+          reads = v;
+          found = good-broken (tailView (z .stream)) a (subst (Alone (entry now (offers image n bytes) .state .last)) u g .tail) v;
+        }
+
+    module _ (h : List ℕ) (x : Header) (ends : EndsMessage now image n bytes h x) (reply : isReply x ≡ true) where
+      -- a reply passes exactly where memory has the call that it answers
+      pub reply-passes : r .judgement .answer ≡ cond (isAwaited (stateOf m) n h x) 0 24
+      reply-passes =
+          said ∙ piece-reply now image n bytes h x ends reply
+          ∙ ap (λ (c : Bool). cond c 0 24) (sym (ap (λ (s : State Tail). isAwaited s n h x) (held-state (reached-holds run)) ∙ awaited-seen tailView now n h x))
+
+      passed-awaited : r .judgement .answer ≡ 0 → isAwaited now n h x ≡ true
+      passed-awaited z = go (isAwaited now n h x) (sym (said ∙ piece-reply now image n bytes h x ends reply) ∙ z)
+        where
+          go : (c : Bool) → _≡_ {A = ℕ} (cond c 0 24) 0 → c ≡ true
+          go true q = refl
+          go false q = absurd (omega arith)
+
+      -- and the same reply, sent again at once, does not
+      pub second-reply-24 : r .judgement .answer ≡ 0 → {other bytes′ d : List ℕ} {q : Taken} → Ran e d (offers other n bytes′) (taken q)
+          → EndsMessage (entry now (offers image n bytes) .state) other n bytes′ h x
+          → q .judgement .answer ≡ 24
+      unfolding entry
+      second-reply-24 z {other} {bytes′} again ends′ =
+          let b = entry now (offers image n bytes) .state in
+          let t = one b (told .holds) again in
+          ap numberOf (t .answer) ∙ piece-reply b other n bytes′ h x ends′ reply
+          ∙ ap (λ (c : Bool). cond c 0 24) (piece-replied now image n bytes h x ends reply now-ok (passed-awaited z))
+
+  -- ---- a peer that leaves
+
+  -- nobody awaits it any more
+  pub gone-awaited : {n : ℕ} {r : Gone} {e : List ℕ} → Ran m e (leaves n) (gone r) → r .answer ≡ 0
+      → (j serial : ℕ) → isWaiting n serial (slotAt (stateOf e) j) ≡ false
+  unfolding entry
+  gone-awaited {n} ran z j serial =
+      let t = one now (reached-holds run) ran in
+      ap (isWaiting n serial) (held-slot (t .holds) j) ∙ waiting-seen tailView n serial (slotAt (disconnect books now n .state) j)
+      ∙ gone-unawaited books now n (sym (ap numberOf (t .answer)) ∙ z) j serial
+
+-- ---- answers do not depend on the memory's past
+
+-- over any two memories of the right length a list that begins with a start gives the same answers and leaves the same bytes
+pub past-forgotten : {m k d e : List ℕ} {cs : List Call} {xs ys : List Answer} → length m ≡ memoryLength → length k ≡ memoryLength
+    → Run m (starts ∷ cs) xs d
+    → Run k (starts ∷ cs) ys e
+    → (xs ≡ ys) × (d ≡ e)
+past-forgotten l₁ l₂ r₁ r₂ =
+    let a = started empty l₁ r₁ in
+    let z = started empty l₂ r₂ in
+    (a .answered ∙ sym (z .answered), a .holds .bytes ∙ sym (z .holds .bytes))
+
+-- and the model's answers from a start on do not depend on what it held
+pub start-forgets : (b c : State (List ℕ)) (cs : List Call) → answers b (starts ∷ cs) ≡ answers c (starts ∷ cs)
+unfolding answers entry
+start-forgets b c cs = refl

@@ -11,5 +11,6 @@ pub mod Split
 pub mod Bench
 pub mod Messages
 pub mod Pieces
+pub mod Unread
 pub mod Consequences
 pub mod Ends

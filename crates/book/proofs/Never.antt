@@ -1,14 +1,12 @@
 -- "51 never comes": no call of the model is answered so, whatever the model holds. Assumes nothing.
 use mathlib.Core.Path.{_≡_, refl, sym, ap, _∙_}
 use mathlib.Core.Logic.{_⊎_, inl, inr}
-use mathlib.Core.Bool.{true, cond, _&&_}
+use mathlib.Core.Bool.{true, cond}
 use mathlib.Core.List.{List, [], _∷_, _++_}
 use Prim.Native.Nat.{ℕ, _≤_}
 use native.Mathlib.Omega.{arith}
 use lib.Dec.{eqb, ltb, leb}
 use lib.ListN.{length}
-use borrow.Author.Tests.{eqb-true, leb-true}
-use Rattle.wire.proofs.Texts.{both-second, either}
 use Rattle.image.specs.Good.{imageAnswer}
 use Rattle.policy.specs.Names.{owns}
 use Rattle.policy.specs.Decisions.{mayConnect, mayOwn}
@@ -27,7 +25,7 @@ use Rattle.rules.proofs.Tests.{choice}
 use Rattle.book.specs.Book.{current, books}
 use Rattle.book.specs.Lists.{Call, starts, connects, claims, releases, offers, leaves, entry, answers, numberOf, Never51}
 use Rattle.book.proofs.Images.{image-refuses}
-use Rattle.book.proofs.Numbers.{isJudged, judged-proper, broken-number}
+use Rattle.book.proofs.Numbers.{isJudged, judged-low, judged-proper, broken-number}
 
 -- ---- a piece, over any streams whose faults are 1 to 9
 
@@ -45,11 +43,11 @@ module _ {S : Type 0} (O : Streams S) (faults : (s : S) (a : ℕ) → O .judge s
       go (whole k y) q c ih = let z : _≡_ {A = ℕ} 0 1 = cc in absurd (omega arith)
 
   proper-not : (a : ℕ) → isJudged a ≡ true → a ≡ 51 → ⊥
-  proper-not a h e = go (either (eqb a 0) (leb 20 a && leb a 26) h)
+  proper-not a h e = go (judged-low a h)
     where
-      go : (eqb a 0 ≡ true) ⊎ (leb 20 a && leb a 26 ≡ true) → ⊥
-      go (inl q) = omega (arith, eqb-true a 0 q)
-      go (inr q) = omega (arith, leb-true a 26 (both-second (leb 20 a) (leb a 26) q))
+      go : (a ≡ 0) ⊎ ((20 ≤ a) × (a ≤ 26)) → ⊥
+      go (inl q) = omega arith
+      go (inr q) = omega (arith, q .1)
 
   abbrev Not51 : Step S Taken → Type 0
   Not51 z = z .result .judgement .answer ≡ 51 → ⊥

@@ -1,13 +1,12 @@
 -- What an answer says of the piece that was given it, over any streams: 1 to 9 that a head broke, 0 and 20 to 26 that a message ended.
 use mathlib.Core.Path.{_≡_, refl, sym, ap, _∙_}
 use mathlib.Core.Logic.{_⊎_, inl, inr}
-use mathlib.Core.Bool.{Bool, true, false, cond, _&&_, false≢true}
+use mathlib.Core.Bool.{Bool, true, false, cond, false≢true}
 use mathlib.Core.List.{List, [], _∷_}
 use Prim.Native.Nat.{ℕ, _≤_}
 use native.Mathlib.Omega.{arith}
-use lib.Dec.{eqb, leb}
-use borrow.Author.Tests.{eqb-true, eq-eqb, leb-true}
-use Rattle.wire.proofs.Texts.{both-first, both-second, either}
+use lib.Dec.{eqb}
+use borrow.Author.Tests.{eqb-true, eq-eqb}
 use Rattle.image.specs.Good.{imageAnswer}
 use Rattle.header.specs.declared.Header.{Header}
 use Rattle.stream.specs.Stream.{Verdict, more, broken, whole, Streams, Offer, offer, settled}
@@ -21,18 +20,11 @@ use Rattle.rules.specs.declared.Taken.{Taken}
 use Rattle.rules.proofs.First.{first-passes, taken-below}
 use Rattle.book.specs.Lists.{underImage}
 use Rattle.book.specs.Messages.{Takes}
-use Rattle.book.proofs.Numbers.{isJudged, judged-proper}
+use Rattle.book.proofs.Numbers.{isJudged, judged-low, judged-proper}
 use Rattle.book.proofs.Images.{image-refuses}
 use Rattle.book.proofs.Ways.{at-open}
 
 -- ---- numbers
-
-pub judged-low : (a : ℕ) → isJudged a ≡ true → (a ≡ 0) ⊎ ((20 ≤ a) × (a ≤ 26))
-judged-low a h = go (either (eqb a 0) (leb 20 a && leb a 26) h)
-  where
-    go : (eqb a 0 ≡ true) ⊎ (leb 20 a && leb a 26 ≡ true) → (a ≡ 0) ⊎ ((20 ≤ a) × (a ≤ 26))
-    go (inl q) = inl (eqb-true a 0 q)
-    go (inr q) = inr (leb-true 20 a (both-first (leb 20 a) (leb a 26) q), leb-true a 26 (both-second (leb 20 a) (leb a 26) q))
 
 judged-no-fault : (a : ℕ) → isJudged a ≡ true → 1 ≤ a → a ≤ 9 → ⊥
 judged-no-fault a h l k = go (judged-low a h)

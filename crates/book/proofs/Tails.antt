@@ -102,6 +102,10 @@ push-view xs b = go (isWhole (front (current xs))) ∙ ap kept (sym (current-sno
 view-unless : (xs : List ℕ) (v : Verdict) → isWhole v ≡ false → front (current xs) ≡ v → kept (current xs) ≡ tailView xs
 view-unless xs v n e = rw (e, n)
 
+-- a broken stream is kept as it is
+pub judge-broken : (xs : List ℕ) (a : ℕ) → front (current xs) ≡ broken a → judge (tailView xs) ≡ broken a
+judge-broken xs a e = ap judge (sym (view-unless xs (broken a) refl e)) ∙ judge-kept (current xs) ∙ e
+
 whole-open : (v : Verdict) → isWhole v ≡ true → isBroken v ≡ false
 whole-open more e = absurd (false≢true e)
 whole-open (broken a) e = absurd (false≢true e)
