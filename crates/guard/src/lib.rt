@@ -8,15 +8,16 @@ use rules::no_connect;
 use rules::no_gone;
 use rules::no_piece;
 ghost use mathlib.Core.Path.{_≡_};
-ghost use Rattle.image.specs.Good.{goodImage};
+ghost use Rattle.image.specs.Good.{imageAnswer};
 ghost use Rattle.memory.specs.Calls.{startOn, connectOn, ownOn, releaseOn, pieceOn, disconnectOn, Did};
 
-fn is_image_good(image: &[u8]) -> bool
-    ensures { λ r. ⌜ r ≡ goodImage (now (image .entry)) ⌝ }
+// What a call that takes this image answers before all else (rules 5.9 and 8.1); 0 where it goes on.
+fn image_answer(image: &[u8]) -> u8
+    ensures { λ r. ⌜ r ≡ imageAnswer (now (image .entry)) ⌝ }
 {
     match image::check(image) {
-        Outcome::Good => true,
-        Outcome::Bad => false,
+        Outcome::Good => 0,
+        Outcome::Bad => 50,
     }
 }
 
@@ -35,8 +36,9 @@ pub fn start(memory: &mut [u8]) -> u8
 pub fn connect(image: &[u8], memory: &mut [u8], uid: u32, gids: &[u32]) -> Connected
     ensures { λ r. ⌜ Did (connectOn (now (image .entry)) (now (memory .entry)) uid (now (gids .entry))) r (now (memory .exit)) ⌝ }
 {
-    if !is_image_good(image) {
-        return no_connect(50);
+    let answer = image_answer(image);
+    if answer != 0 {
+        return no_connect(answer);
     }
     if !audit::is_good(memory) {
         return no_connect(51);
@@ -48,8 +50,9 @@ pub fn connect(image: &[u8], memory: &mut [u8], uid: u32, gids: &[u32]) -> Conne
 pub fn own(image: &[u8], memory: &mut [u8], peer: u32, name: &[u8]) -> u8
     ensures { λ r. ⌜ Did (ownOn (now (image .entry)) (now (memory .entry)) peer (now (name .entry))) r (now (memory .exit)) ⌝ }
 {
-    if !is_image_good(image) {
-        return 50;
+    let answer = image_answer(image);
+    if answer != 0 {
+        return answer;
     }
     if !audit::is_good(memory) {
         return 51;
@@ -71,8 +74,9 @@ pub fn release(memory: &mut [u8], peer: u32, name: &[u8]) -> u8
 pub fn piece(image: &[u8], memory: &mut [u8], peer: u32, bytes: &[u8]) -> Taken
     ensures { λ r. ⌜ Did (pieceOn (now (image .entry)) (now (memory .entry)) peer (now (bytes .entry))) r (now (memory .exit)) ⌝ }
 {
-    if !is_image_good(image) {
-        return no_piece(50);
+    let answer = image_answer(image);
+    if answer != 0 {
+        return no_piece(answer);
     }
     if !audit::is_good(memory) {
         return no_piece(51);
