@@ -29,8 +29,9 @@ use Rattle.sound.proofs.Kept.{Alone, sound-kept}
 use Rattle.book.specs.Book.{front, isWhole, books, kept, tailView}
 use Rattle.book.specs.Lists.{Call, starts, offers, leaves, Answer, taken, gone, numberOf, entry, answers, after, Ran, Run, Reached}
 use Rattle.book.specs.Split.{joined}
+use Rattle.book.specs.Bench.{asks, lastOf, answer}
 use Rattle.book.specs.Messages.{Messages, Parted, EndsMessage, BrokenIn}
-use Rattle.book.proofs.List.{Holds, Told, one, started}
+use Rattle.book.proofs.List.{Holds, Told, one, started, list-claim}
 use Rattle.book.proofs.Tails.{judge-broken}
 use Rattle.book.proofs.Runs.{reached-holds}
 use Rattle.book.proofs.Messages.{parted, tail-behind}
@@ -224,3 +225,10 @@ past-forgotten l₁ l₂ r₁ r₂ =
 pub start-forgets : (b c : State (List ℕ)) (cs : List Call) → answers b (starts ∷ cs) ≡ answers c (starts ∷ cs)
 unfolding answers entry
 start-forgets b c cs = refl
+
+-- ---- the worked table
+
+-- a run from a start over any memory of the right length shows what the table's question is answered with
+pub guard-shows : {m e : List ℕ} {cs : List Call} {given : List Answer} → length m ≡ memoryLength → Run m (starts ∷ cs) given e
+    → lastOf given ≡ answer (asks (starts ∷ cs))
+guard-shows l r = ap lastOf (list-claim empty l r .answered)

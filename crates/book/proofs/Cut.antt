@@ -1,4 +1,4 @@
--- The model's cut, one byte on: the byte begins a message where the one before it was whole, and joins it where not. Assumes nothing.
+-- The model's cut, one byte on: the byte begins a message where the one before it was whole, and joins it where not.
 use mathlib.Core.Path.{_≡_, refl, sym, ap, _∙_}
 use mathlib.Core.Bool.{Bool, true, false, cond, false≢true}
 use mathlib.Core.List.{List, [], _∷_, _++_}

@@ -1,4 +1,4 @@
--- An offering ends, whatever the memory, the image and the piece: a call that does not end it takes at least one byte. Assumes nothing.
+-- An offering ends, whatever the memory, the image and the piece: a call that does not end it takes at least one byte.
 use mathlib.Core.Path.{_≡_, refl, sym, _∙_}
 use mathlib.Core.Bool.{Bool, true, false, cond, not, false≢true}
 use mathlib.Core.List.{List, _++_}
@@ -42,7 +42,7 @@ module _ {S : Type 0} (O : Streams S) (image : List ℕ) (s : State S) (p : List
       (λ c e. absurd (false≢true (sym e)))
       (λ c. offered-takes (putSlot s i (peer r)) i r (o .taken) (o .verdict) (taken-some O (q .stream) p l))
 
-  -- "On an open stream a non-empty piece always loses at least one byte"
+  -- a piece that is not empty has a byte taken, where its stream is open (rule 9.2)
   pub piece-takes : (n : ℕ) → Takes (piece O image s n p .result)
   unfolding piece
   piece-takes n = let i = firstBy (isPeer n) (s .slots) in at-takes i (slotAt s i)

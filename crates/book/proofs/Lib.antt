@@ -1,3 +1,4 @@
+pub mod Bench
 pub mod Cut
 pub mod Tails
 pub mod Numbers
@@ -8,7 +9,6 @@ pub mod Runs
 pub mod Bytewise
 pub mod Ways
 pub mod Split
-pub mod Bench
 pub mod Messages
 pub mod Pieces
 pub mod Unread

@@ -1,5 +1,5 @@
--- Every list of calls (01, demand 3): calls made one after the other on a started guard, each as its contract says, answer what the model answers, and
--- leave the bytes of what the model holds. Assumes nothing.
+-- Every list of calls (rule 12.1): calls made one after the other on a started guard, each as its contract says, answer what the model answers, and
+-- leave the bytes of what the model holds.
 use mathlib.Core.Path.{_≡_, refl, ap, ap₂, _∙_, subst}
 use mathlib.Core.Bool.{Bool, true, false, cond}
 use mathlib.Core.List.{List, _∷_}
@@ -145,12 +145,12 @@ pub record All (b : State (List ℕ)) (cs : List Call) (given : List Answer) (e 
   pub answered : given ≡ answers b cs
   pub holds : Holds e (after b cs)
 
-pub all : {m e : List ℕ} {cs : List Call} {given : List Answer} (b : State (List ℕ)) → Holds m b → Run m cs given e → All b cs given e
+pub all : {m e : List ℕ} {cs : List Call} {given : List Answer} (b : State (List ℕ)) → Run m cs given e → Holds m b → All b cs given e
 unfolding answers after
-all b h done = record { answered = refl; holds = h }
-all b h (then {c = c} r rs) =
+all b done h = record { answered = refl; holds = h }
+all b (then {c = c} r rs) h =
     let o = one b h r in
-    let a = all (entry b c .state) (o .holds) rs in
+    let a = all (entry b c .state) rs (o .holds) in
     record { answered = ap₂ _∷_ (o .answer) (a .answered); holds = a .holds }
 
 -- after a start
@@ -159,7 +159,7 @@ pub started : {m e : List ℕ} {cs : List Call} {given : List Answer} (b : State
 unfolding entry answers after
 started {m} b l (then (ran-start d) rs) =
     let s = start-holds m l d in
-    let a = all empty (s .1) rs in
+    let a = all empty rs (s .1) in
     record { answered = ap₂ (λ (x : ℕ) (y : List Answer). plain x ∷ y) (s .0) (a .answered); holds = a .holds }
 
 all-agrees : {b : State (List ℕ)} {cs : List Call} {given : List Answer} {e : List ℕ} → All b cs given e → Agrees b cs given e
@@ -172,4 +172,4 @@ list-claim b l r = all-agrees (started b l r)
 
 -- the same of an empty guard
 pub empty-claim : {e : List ℕ} {cs : List Call} {given : List Answer} → Run (memoryOf empty) cs given e → Agrees empty cs given e
-empty-claim r = all-agrees (all empty empty-holds r)
+empty-claim r = all-agrees (all empty r empty-holds)

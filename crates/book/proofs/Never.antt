@@ -1,4 +1,4 @@
--- "51 never comes": no call of the model is answered so, whatever the model holds. Assumes nothing.
+-- 51 is no answer of the model, whatever it holds (rule 11.3).
 use mathlib.Core.Path.{_≡_, refl, sym, ap, _∙_}
 use mathlib.Core.Logic.{_⊎_, inl, inr}
 use mathlib.Core.Bool.{true, cond}

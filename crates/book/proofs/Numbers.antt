@@ -1,4 +1,4 @@
--- The numbers that a piece is answered with: a judged message 0 or 20 to 26, a broken head 1 to 9, and never 51. Assumes nothing.
+-- The numbers that a piece is answered with: a judged message 0 or 20 to 26, a broken head 1 to 9, and never 51.
 use mathlib.Core.Path.{_≡_, refl, sym, ap, _∙_}
 use mathlib.Core.Logic.{_⊎_, inl, inr}
 use mathlib.Core.Bool.{Bool, true, false, cond, _&&_, _||_}

@@ -42,7 +42,7 @@ run-append (then r rs) t = then r (run-append rs t)
 -- memory holds what the model does
 pub reached-holds : {m : List ℕ} {cs : List Call} → Reached m cs → Holds m (after empty cs)
 reached-holds (since-start l r) = started empty l r .holds
-reached-holds (since-empty r) = all empty empty-holds r .holds
+reached-holds (since-empty r) = all empty r empty-holds .holds
 
 pub reached-then : {m e : List ℕ} {cs ds : List Call} {given : List Answer} → Reached m cs → Run m ds given e → Reached e (cs ++ ds)
 reached-then (since-start l r) t = since-start l (run-append r t)

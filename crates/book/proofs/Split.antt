@@ -1,5 +1,5 @@
--- A piece offered whole or in parts (01, "A piece is offered by"): the same verdicts in the same order, the same bytes afterwards, and so the same answers
--- to whatever calls follow. Assumes nothing.
+-- A piece offered whole or in parts: the same verdicts in the same order, the same bytes afterwards, and so the same answers to whatever calls follow
+-- (rule 12.2).
 use mathlib.Core.Path.{_≡_, refl, sym, ap, ap₂, _∙_, subst}
 use mathlib.Core.Bool.{Bool, true, false, cond, false≢true}
 use mathlib.Core.List.{List, [], _∷_, _++_, map, append-nil}

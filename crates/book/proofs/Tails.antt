@@ -1,4 +1,4 @@
--- The guard's streams are the model's, seen by their last message: how many of its bytes have come, and those of its head. Assumes nothing.
+-- The guard's streams are the model's, seen by their last message: how many of its bytes have come, and those of its head.
 use mathlib.Core.Path.{_≡_, refl, sym, ap, _∙_}
 use mathlib.Core.Bool.{Bool, true, false, cond, false≢true}
 use mathlib.Core.List.{List, [], _∷_, _++_}

@@ -1,5 +1,4 @@
 -- A piece's first byte, over any streams that are closed exactly where they are broken and whose faults are 1 to 9: the laws that an offering asks.
--- Assumes nothing.
 use mathlib.Core.Path.{_≡_, refl, sym, ap, _∙_}
 use mathlib.Core.Logic.{_⊎_, inl, inr}
 use mathlib.Core.Bool.{Bool, true, false, cond, false≢true}

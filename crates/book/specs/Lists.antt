@@ -1,5 +1,4 @@
--- A list of calls; what the model answers to it; and what a run of the guard's calls is: each call is what its contract says, and no more is asked.
--- Assumes nothing: these are definitions.
+-- A list of calls; what the model answers to it (rules 11.1 and 11.3); and what a run of the guard's calls is, each what its contract says (rule 12.1).
 use mathlib.Core.Bool.{cond}
 use mathlib.Core.List.{List, [], _∷_}
 use mathlib.Core.Path.{_≡_}
@@ -18,7 +17,7 @@ use Rattle.memory.specs.Encoding.{memoryOf}
 use Rattle.rules.specs.View.{seen}
 use Rattle.book.specs.Book.{books, tailView}
 
--- each with its arguments, and nothing of the guard's memory
+-- each with its arguments, and nothing of the guard's memory (rule 11.1)
 pub data Call : Type 0 where
   starts : Call
   connects : List ℕ → ℕ → List ℕ → Call
@@ -36,6 +35,7 @@ pub data Answer : Type 0 where
 
 -- ---- the model
 
+-- what the model says and holds after a call (rule 11.1)
 pub record Entry : Type 0 where
   pub answer : Answer
   pub state : State (List ℕ)
@@ -56,11 +56,12 @@ entry b (releases n name) = told plain (release b n name)
 entry b (offers image n bytes) = told taken (underImage noPiece image b (piece books image b n bytes))
 entry b (leaves n) = told gone (disconnect books b n)
 
+-- what the model says to a list of calls (rule 11.3)
 unfoldable pub answers : State (List ℕ) → List Call → List Answer
 answers b [] = []
 answers b (c ∷ cs) = entry b c .answer ∷ answers (entry b c .state) cs
 
--- the state of the model after a list of calls
+-- what the model holds after a list of calls (rule 11.3)
 unfoldable pub after : State (List ℕ) → List Call → State (List ℕ)
 after b [] = b
 after b (c ∷ cs) = after (entry b c .state) cs
@@ -84,7 +85,7 @@ abbrev pub AllFit : List Call → Type 0
 AllFit [] = Unit {0}
 AllFit (c ∷ cs) = Fits c × AllFit cs
 
--- one call from memory m to memory e, as its `ensures` says it
+-- one call from memory m to memory e, as its `ensures` says it (rules 8.9 and 12.1)
 pub data Ran (m e : List ℕ) : Call → Answer → Type 0 where
   ran-start : {r : ℕ} → Did (startOn m) r e → Ran m e starts (plain r)
   ran-connect : {image : List ℕ} {uid : ℕ} {gids : List ℕ} {r : Connected} → uid < 4294967296 → Below 4294967296 gids
@@ -97,7 +98,7 @@ pub data Ran (m e : List ℕ) : Call → Answer → Type 0 where
       → Ran m e (offers image n bytes) (taken r)
   ran-leave : {n : ℕ} {r : Gone} → Did (disconnectOn m n) r e → Ran m e (leaves n) (gone r)
 
--- calls one after the other, each with the memory as the last left it
+-- calls one after the other, each with the memory as the last left it (rule 12.1)
 pub data Run : List ℕ → List Call → List Answer → List ℕ → Type 0 where
   done : {m : List ℕ} → Run m [] [] m
   then : {m d e : List ℕ} {c : Call} {a : Answer} {cs : List Call} {rest : List Answer}
@@ -119,13 +120,14 @@ numberOf (connected r) = r .answer
 numberOf (taken r) = r .judgement .answer
 numberOf (gone r) = r .answer
 
+-- 51 is no answer among these (rule 11.3)
 abbrev pub Never51 : List Answer → Type 0
 Never51 [] = Unit {0}
 Never51 (a ∷ l) = (numberOf a ≡ 51 → ⊥) × Never51 l
 
 -- ---- the claim
 
--- what calls answered and what they left is what the model says of them from state b on
+-- what calls answered and what they left is what the model says of them from state b on (rule 12.1)
 pub record Agrees (b : State (List ℕ)) (cs : List Call) (given : List Answer) (e : List ℕ) : Type 0 where
   pub answered : given ≡ answers b cs
   pub never51 : Never51 given

@@ -1,4 +1,4 @@
--- How far a script has been run, and that it ends as the model says. Assumes nothing.
+-- How far a script has been run, and that it ends as the model says.
 use mathlib.Core.Path.{_≡_, refl, sym, ap, _∙_}
 use mathlib.Core.Bool.{Bool, true, false, not}
 use mathlib.Core.List.{List, [], _∷_, _++_, append-assoc, append-nil}
