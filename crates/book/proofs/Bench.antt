@@ -25,13 +25,13 @@ use Rattle.rules.specs.State.{firstBy}
 use Rattle.rules.specs.Addresses.{digits, uniqueName, answersTo, resolve}
 use Rattle.rules.specs.Pending.{awaits}
 use Rattle.rules.specs.Judge.{maskOf, countOf, judged}
-use Rattle.rules.specs.Calls.{connect, own, piece, disconnect}
+use Rattle.rules.specs.Calls.{connect, own, piece}
 use Rattle.book.specs.Book.{cut}
 use Rattle.book.specs.Lists.{entry, answers}
 use Rattle.book.specs.Bench.{answer, table, more}
 
 both-agree : (agrees answer same table ≡ true) × (agrees answer same more ≡ true)
-unfolding allZero same wordAt wordBytes startsWith wellKnown unique validName inNamespace headOf closed one row validSignature orderOf headLength messageLength sizesOf fixedPart letterOf textIn valueAt framed elementAt walk fieldsOf numberIn goodValue goodField goodValues hasRequired headerOf judgedHead readHead readHeader goodCounts goodSections goodHeader goodString goodOrAny goodOwned goodConnectRule goodOwnRule goodStrings goodTransactionRule goodConnect goodOwn goodTransaction goodImage outcomeOf imageAnswer inGroups subjectFits owns deciding connectFits ownedFits ownFits messageOf partFits interfaceFits partsFit nameFits transactionFits transactionMatches connectDecides mayConnect ownDecides mayOwn transactionDecides mayTransact offer firstBy digits uniqueName answersTo resolve awaits maskOf countOf judged connect own piece disconnect cut entry answers
+unfolding allZero same wordAt wordBytes startsWith wellKnown unique validName inNamespace headOf closed one row validSignature orderOf headLength messageLength sizesOf fixedPart letterOf textIn valueAt framed elementAt walk fieldsOf numberIn goodValue goodField goodValues hasRequired headerOf judgedHead readHead readHeader goodCounts goodSections goodHeader goodString goodOrAny goodOwned goodConnectRule goodOwnRule goodStrings goodTransactionRule goodConnect goodOwn goodTransaction goodImage outcomeOf imageAnswer inGroups subjectFits owns deciding connectFits ownedFits ownFits messageOf partFits interfaceFits partsFit nameFits transactionFits transactionMatches connectDecides mayConnect ownDecides mayOwn transactionDecides mayTransact offer firstBy digits uniqueName answersTo resolve awaits maskOf countOf judged connect own piece cut entry answers
 both-agree = (refl, refl)
 
 pub table-agrees : agrees answer same table ≡ true

@@ -11,7 +11,8 @@ use Rattle.rules.specs.Judge.{bit, refusal}
 use Rattle.rules.specs.Calls.{empty}
 use Rattle.rules.specs.Places.{receiverWords}
 use Rattle.rules.specs.declared.Taken.{Taken}
-use Rattle.book.specs.Lists.{Call, starts, connects, claims, offers, leaves, Answer, plain, connected, taken, gone, answers}
+use Rattle.book.specs.Lists.{Call, starts, connects, claims, offers, Answer, plain, connected, taken, gone, answers}
+use Rattle.book.specs.Book.{books}
 use Rattle.book.specs.Split.{goesOn, isVerdict}
 
 -- ---- messages
@@ -83,17 +84,16 @@ pub data Question : Type 0 where
   types : List ℕ → Question
   -- an answer to so many bytes, of which so many were taken: does the offering go on, and is it a verdict
   answered : ℕ → ℕ → ℕ → Question
+  -- of a stream with these bytes: is it closed, and how many bytes would a disconnect report
+  holds : List ℕ → Question
 
 -- a started guard with one peer, of user 7 under that image, which offers a piece
 abbrev pub sends : List ℕ → List ℕ → Question
 sends image piece = asks (starts ∷ connects image 7 [] ∷ offers image 1 piece ∷ [])
 
--- the same peer goes on with another piece, and is gone behind the last
+-- the same peer goes on with another piece
 abbrev pub sendsThen : List ℕ → List ℕ → Question
 sendsThen piece later = asks (starts ∷ connects noRules 7 [] ∷ offers noRules 1 piece ∷ offers noRules 1 later ∷ [])
-
-abbrev pub sendsAndLeaves : List ℕ → List ℕ → Question
-sendsAndLeaves piece later = asks (starts ∷ connects noRules 7 [] ∷ offers noRules 1 piece ∷ offers noRules 1 later ∷ leaves 1 ∷ [])
 
 -- the same peer asks for a name
 abbrev pub owning : List ℕ → List ℕ → Question
@@ -124,6 +124,7 @@ answer (types s) = bit (validSignature s) ∷ []
 answer (answered a n k) =
     let r : Taken = record { judgement = refusal a; taken = n } in
     bit (goesOn r (replicate k 0)) ∷ bit (isVerdict a) ∷ []
+answer (holds xs) = bit (books .closed xs) ∷ books .count xs ∷ []
 
 -- an answer with the bytes taken, for nobody, the bus and a peer
 abbrev pub refused : ℕ → ℕ → List ℕ
@@ -178,15 +179,16 @@ table =
 
 -- ---- more lines: several messages on one stream, a second start, and the ends of an offering
 
+-- a whole message of type 5, and one that is broken by its type
+abbrev pub fifth : List ℕ
+fifth = first 5 0 0
+
+abbrev pub typeless : List ℕ
+typeless = first 0 0 0
+
 abbrev pub more : List Line
 more =
-    (sends noRules (first 5 8 0 ++ replicate 8 0), refused 20 24)  -- a message is its head and its body (rule 2.3)
-    ∷ (sendsThen callC (set callC 0 76), refused 1 16)  -- the second message is judged by its own head (rule 11.2)
-    ∷ (sendsThen (set callC 0 76) callC, refused 40 0)  -- a broken stream is closed (rule 9.3)
-    ∷ (sendsAndLeaves callC (take 10 callC), 0 ∷ 10 ∷ [])  -- bytes of the unfinished message are counted (rule 8.7)
-    ∷ (sendsAndLeaves callC callC, 0 ∷ 0 ∷ [])  -- and none between two messages
-    ∷ (asks (starts ∷ connects noRules 7 [] ∷ starts ∷ connects noRules 7 [] ∷ []), 0 ∷ 1 ∷ 0 ∷ [])  -- a start gives numbers anew (rule 8.2)
-    ∷ (answered 10 48 48, 0 ∷ 0 ∷ [])  -- nothing is left (rule 9.5); none is due yet (rule 12.2)
+    (answered 10 48 48, 0 ∷ 0 ∷ [])  -- nothing is left (rule 9.5); no verdict is due yet (rule 12.2)
     ∷ (answered 22 48 50, 1 ∷ 1 ∷ [])  -- what is left is offered
     ∷ (answered 0 48 48, 0 ∷ 1 ∷ [])
     ∷ (answered 1 16 48, 0 ∷ 1 ∷ [])  -- 1 to 9 end it
@@ -195,4 +197,11 @@ more =
     ∷ (answered 26 48 50, 1 ∷ 1 ∷ [])
     ∷ (answered 30 0 50, 0 ∷ 0 ∷ [])  -- and 30 to 51
     ∷ (answered 51 0 50, 0 ∷ 0 ∷ [])
+    ∷ (holds typeless, 1 ∷ 16 ∷ [])  -- a broken head closes its stream (rule 9.3), and is counted (rule 8.7)
+    ∷ (holds (fifth ++ take 10 fifth), 0 ∷ 10 ∷ [])  -- so is an unfinished message
+    ∷ (holds fifth, 0 ∷ 0 ∷ [])  -- and nothing between two
+    ∷ (asks (starts ∷ connects noRules 7 [] ∷ starts ∷ connects noRules 7 [] ∷ []), 0 ∷ 1 ∷ 0 ∷ [])  -- a start gives numbers anew (rule 8.2)
+    ∷ (sends noRules (first 5 8 0 ++ replicate 8 0), refused 20 24)  -- a message is its head and its body (rule 2.3)
+    ∷ (sendsThen fifth typeless, refused 3 16)  -- the second message is judged by its own head (rule 11.2)
+    ∷ (sendsThen typeless fifth, refused 40 0)  -- a broken stream is closed (rule 9.3)
     ∷ []
