@@ -2,103 +2,38 @@
 use mathlib.Core.Path.{_≡_, refl, sym, ap, _∙_, subst}
 use mathlib.Core.Bool.{Bool, true, false, cond}
 use mathlib.Core.List.{List, _∷_, _++_}
-use Prim.Native.Nat.{ℕ, _≤_, min}
+use Prim.Native.Nat.{ℕ, _≤_}
 use native.Mathlib.Omega.{arith}
-use lib.Dec.{eqb}
-use lib.ListN.{length, getD}
+use lib.ListN.{length}
 use lib.Seq.{getD-set-same}
-use borrow.Author.Tests.{eqb-true}
-use Rattle.wire.proofs.Texts.{both-second}
 use Rattle.header.specs.declared.Header.{Header}
-use Rattle.stream.specs.Stream.{Verdict, broken}
-use Rattle.stream.specs.Tail.{Tail, judge, headEnd, fitting, goodTail, brokenAt}
-use Rattle.rules.specs.State.{Slot, free, peer, Peer, State, isPeer, firstBy, putSlot, withStream}
-use Rattle.rules.specs.Judge.{isReply, judged}
-use Rattle.rules.specs.Calls.{Step, empty, slotAt, disconnect}
+use Rattle.stream.specs.Stream.{broken}
+use Rattle.stream.specs.Tail.{Tail, judge}
+use Rattle.rules.specs.State.{free, peer, Peer, State, isPeer, firstBy, withStream}
+use Rattle.rules.specs.Judge.{isReply}
+use Rattle.rules.specs.Calls.{empty, slotAt, disconnect}
 use Rattle.rules.specs.declared.Taken.{Taken}
 use Rattle.rules.specs.declared.Gone.{Gone}
 use Rattle.rules.specs.View.{seenPeer, seenSlot, seen}
 use Rattle.rules.proofs.View.{slot-seen}
 use Rattle.rules.proofs.First.{taken-below}
-use Rattle.rules.proofs.Waits.{okPending}
-use Rattle.rules.proofs.Replies.{isWaiting, reply-exact, reply-once, gone-unawaited}
+use Rattle.rules.proofs.Replies.{isWaiting, gone-unawaited}
 use Rattle.memory.specs.Layout.{memoryLength}
 use Rattle.memory.specs.Encoding.{stateOf}
-use Rattle.memory.proofs.Sound.{state-again}
 use Rattle.sound.proofs.Kept.{Alone, sound-kept}
 use Rattle.book.specs.Book.{front, isWhole, books, kept, tailView}
 use Rattle.book.specs.Lists.{Call, starts, offers, leaves, Answer, taken, gone, numberOf, entry, answers, after, Ran, Run, Reached}
 use Rattle.book.specs.Split.{joined}
 use Rattle.book.specs.Bench.{asks, lastOf, answer}
 use Rattle.book.specs.Messages.{Messages, Parted, EndsMessage, BrokenIn}
-use Rattle.book.proofs.List.{Holds, Told, one, started, list-claim}
+use Rattle.book.proofs.List.{Told, one, started, list-claim}
 use Rattle.book.proofs.Tails.{judge-broken}
-use Rattle.book.proofs.Runs.{reached-holds}
-use Rattle.book.proofs.Messages.{parted, tail-behind}
+use Rattle.book.proofs.Runs.{reached-holds, held-state, held-slot}
+use Rattle.book.proofs.Messages.{parted, tail-behind, good-broken}
 use Rattle.book.proofs.Numbers.{isJudged}
 use Rattle.book.proofs.Never.{offer-faults, book-faults}
-use Rattle.book.proofs.Pieces.{number-found, pieceUnder, consumed, piece-breaks, piece-ends, ends-is}
-use Rattle.book.proofs.Unread.{isAwaited, okSlot, waiting-seen, ok-slots, awaited-seen, awaited-later, ok-later}
-
--- ---- over the model's state
-
--- memory says what the model holds
-held-state : {m : List ℕ} {b : State (List ℕ)} → Holds m b → stateOf m ≡ seen tailView b
-held-state {b = b} h = ap stateOf (h .bytes) ∙ state-again (seen tailView b) (h .sound)
-
-held-slot : {m : List ℕ} {b : State (List ℕ)} → Holds m b → (i : ℕ) → slotAt (stateOf m) i ≡ seenSlot tailView (slotAt b i)
-held-slot {b = b} h i = ap (λ (s : State Tail). slotAt s i) (held-state h) ∙ slot-seen tailView b i
-
-module _ (b : State (List ℕ)) (image : List ℕ) (n : ℕ) (bytes h : List ℕ) (x : Header) (m : EndsMessage b image n bytes h x) (r : isReply x ≡ true) where
-  abbrev place : ℕ
-  place = firstBy (isPeer n) (b .slots)
-
-  abbrev sender : Peer (List ℕ)
-  sender = m .takes .sender
-
-  -- the sender and the state once the message is consumed
-  abbrev done : Peer (List ℕ)
-  done = consumed books (λ t. refl) image b n bytes sender
-
-  abbrev later : State (List ℕ)
-  later = putSlot b place (peer done)
-
-  abbrev step : Step (List ℕ) Taken
-  step = pieceUnder books (λ t. refl) image b n bytes
-
-  number : done .number ≡ n
-  number = number-found b n sender (m .takes .sits)
-
-  awaited-same : isAwaited later (done .number) h x ≡ isAwaited b n h x
-  awaited-same = ap (λ (k : ℕ). isAwaited later k h x) number ∙ awaited-later b place sender (done .stream) (m .takes .sits) n h x
-
-  -- a reply passes exactly where it is awaited
-  piece-reply : step .result .judgement .answer ≡ cond (isAwaited b n h x) 0 24
-  piece-reply =
-      ap (λ (z : Step (List ℕ) Taken). z .result .judgement .answer) (ends-is books (λ t. refl) image b n bytes (m .takes) h x (m .ended))
-      ∙ reply-exact image later place done h x r
-      ∙ ap (λ (c : Bool). cond c 0 24) awaited-same
-
-  -- and is then awaited no more
-  piece-replied : ((j : ℕ) → okSlot (slotAt b j) ≡ true) → isAwaited b n h x ≡ true → isAwaited (step .state) n h x ≡ false
-  piece-replied ok w =
-      ap (λ (z : Step (List ℕ) Taken). isAwaited (z .state) n h x) (ends-is books (λ t. refl) image b n bytes (m .takes) h x (m .ended))
-      ∙ ap (λ (k : ℕ). isAwaited (judged image later place done h x .state) k h x) (sym number)
-      ∙ reply-once image later place done h x r fine (awaited-same ∙ w)
-    where
-      fine : (j : ℕ) (p : Peer (List ℕ)) → getD (later .slots) j free ≡ peer p → okPending (p .pending) ≡ true
-      fine j p e = sym (ap okSlot e) ∙ ok-later b place sender (done .stream) (m .takes .sits) j ∙ ok j
-
-alone-ok : (last : ℕ) (y : Slot Tail) → Alone last y → okSlot y ≡ true
-alone-ok last free a = refl
-alone-ok last (peer p) a = a .waits
-
--- a head in good memory is broken at its last byte
-good-broken : (t : Tail) (a : ℕ) → goodTail t ≡ true → judge t ≡ broken a → t .taken ≡ brokenAt a (t .head)
-unfolding goodTail
-good-broken t a g j =
-    let f = both-second (eqb (length (t .head)) (min (t .taken) (headEnd (t .head)))) (fitting (judge t) (t .taken) (t .head)) g in
-    eqb-true (t .taken) (brokenAt a (t .head)) (ap (λ (v : Verdict). fitting v (t .taken) (t .head)) (sym j) ∙ f)
+use Rattle.book.proofs.Pieces.{number-found, pieceUnder, piece-breaks, piece-ends}
+use Rattle.book.proofs.Replied.{isAwaited, okSlot, waiting-seen, ok-slots, awaited-seen, piece-reply, piece-replied, alone-ok}
 
 -- ---- where a run has come to
 

@@ -11,6 +11,6 @@ pub mod Ways
 pub mod Split
 pub mod Messages
 pub mod Pieces
-pub mod Unread
+pub mod Replied
 pub mod Consequences
 pub mod Ends

@@ -2,19 +2,19 @@
 use mathlib.Core.Path.{_≡_, refl, sym, ap, _∙_, subst}
 use mathlib.Core.Bool.{Bool, true, false, cond, false≢true}
 use mathlib.Core.List.{List, [], _∷_, _++_, append-assoc, append-nil}
-use Prim.Native.Nat.{ℕ, zero, suc, _+_, _≤_, _<_}
+use Prim.Native.Nat.{ℕ, zero, suc, _+_, _≤_, _<_, min}
 use native.Mathlib.Omega.{arith}
-use lib.Dec.{ltb}
+use lib.Dec.{eqb, ltb}
 use lib.ListN.{length, take, drop, length-append, length-drop, take-append-drop}
 use lib.Seq.{drop-at, length-take-le, take-all}
-use borrow.Author.Tests.{lt-ltb, le-ltb, ltb-false}
-use Rattle.wire.proofs.Texts.{both-first}
+use borrow.Author.Tests.{eqb-true, lt-ltb, le-ltb, ltb-false}
+use Rattle.wire.proofs.Texts.{both-first, both-second}
 use Rattle.header.specs.declared.Reading.{Reading}
 use Rattle.header.specs.declared.Reading.the-variants.{Short, Broken, Whole}
 use Rattle.header.specs.Header.{readHeader}
 use Rattle.header.proofs.Readings.{read-few, read-front, read-append, whole-fits}
-use Rattle.stream.specs.Stream.{broken, whole}
-use Rattle.stream.specs.Tail.{finished, isBroken, fresh, brokenAt}
+use Rattle.stream.specs.Stream.{Verdict, broken, whole}
+use Rattle.stream.specs.Tail.{Tail, finished, isBroken, headEnd, fresh, judge, fitting, goodTail, brokenAt}
 use Rattle.stream.proofs.Pushes.{breaks}
 use Rattle.book.specs.Book.{front, isWhole, size, past, cut, current, books, kept, tailView}
 use Rattle.book.specs.Split.{joined}
@@ -198,3 +198,10 @@ breaks-where xs b a c j = subst (λ (y : List ℕ). length y ≡ brokenAt a y) (
         → length (cond w (b ∷ []) (snoc h b)) ≡ brokenAt a (cond w (b ∷ []) (snoc h b))
     go true e q = breaks [] b (read-few [] (omega arith)) a (read (b ∷ []) q)
     go false e q = let r = read (snoc h b) q in breaks h b (short r (readHeader h) refl) a r
+
+-- a head in good memory is broken at its last byte
+pub good-broken : (t : Tail) (a : ℕ) → goodTail t ≡ true → judge t ≡ broken a → t .taken ≡ brokenAt a (t .head)
+unfolding goodTail
+good-broken t a g j =
+    let f = both-second (eqb (length (t .head)) (min (t .taken) (headEnd (t .head)))) (fitting (judge t) (t .taken) (t .head)) g in
+    eqb-true (t .taken) (brokenAt a (t .head)) (ap (λ (v : Verdict). fitting v (t .taken) (t .head)) (sym j) ∙ f)

@@ -1,9 +1,18 @@
 -- Every list of calls has a run from every memory, so that what is said of all runs is said of something; runs are joined.
-use mathlib.Core.Path.{refl}
+use mathlib.Core.Path.{_≡_, refl, ap, _∙_}
 use mathlib.Core.List.{List, [], _∷_, _++_}
 use Prim.Native.Nat.{ℕ}
-use Rattle.rules.specs.Calls.{empty}
+use lib.ListN.{length}
+use Rattle.stream.specs.Tail.{Tail}
+use Rattle.rules.specs.State.{State}
+use Rattle.rules.specs.Calls.{empty, slotAt}
+use Rattle.rules.specs.View.{seenSlot, seen}
+use Rattle.rules.proofs.View.{slot-seen}
+use Rattle.memory.specs.Layout.{memoryLength}
+use Rattle.memory.specs.Encoding.{stateOf}
+use Rattle.memory.proofs.Sound.{state-again}
 use Rattle.memory.specs.Calls.{Left, Did, startOn, connectOn, ownOn, releaseOn, pieceOn, disconnectOn}
+use Rattle.book.specs.Book.{tailView}
 use Rattle.book.specs.Lists.{Call, starts, connects, claims, releases, offers, leaves, Answer, plain, connected, taken, gone, after, Fits, AllFit}
 use Rattle.book.specs.Lists.{Ran, ran-start, ran-connect, ran-own, ran-release, ran-piece, ran-leave, Run, done, then, Reached, since-start, since-empty}
 use Rattle.book.proofs.List.{Holds, empty-holds, all, started}
@@ -44,6 +53,17 @@ pub reached-holds : {m : List ℕ} {cs : List Call} → Reached m cs → Holds m
 reached-holds (since-start l r) = started empty l r .holds
 reached-holds (since-empty r) = all empty r empty-holds .holds
 
+-- memory says what the model holds
+pub held-state : {m : List ℕ} {b : State (List ℕ)} → Holds m b → stateOf m ≡ seen tailView b
+held-state {b = b} h = ap stateOf (h .bytes) ∙ state-again (seen tailView b) (h .sound)
+
+pub held-slot : {m : List ℕ} {b : State (List ℕ)} → Holds m b → (i : ℕ) → slotAt (stateOf m) i ≡ seenSlot tailView (slotAt b i)
+held-slot {b = b} h i = ap (λ (s : State Tail). slotAt s i) (held-state h) ∙ slot-seen tailView b i
+
 pub reached-then : {m e : List ℕ} {cs ds : List Call} {given : List Answer} → Reached m cs → Run m ds given e → Reached e (cs ++ ds)
 reached-then (since-start l r) t = since-start l (run-append r t)
 reached-then (since-empty r) t = since-empty (run-append r t)
+
+-- every list of calls reaches some memory from a start on
+pub reached-exists : (cs : List Call) → AllFit cs → (m : List ℕ) → length m ≡ memoryLength → (e : List ℕ) × Reached e (starts ∷ cs)
+reached-exists cs f m l = let r = run-exists (starts ∷ cs) (tt, f) m in (r .1, since-start l (r .2))
