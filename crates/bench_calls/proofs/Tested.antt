@@ -1,4 +1,4 @@
--- An image that was tested, and a message inside its head, may be asked about; and the number of each reading. Assumes nothing.
+-- An image that was tested, and a message inside its head, may be asked about; and the number of each reading.
 use mathlib.Core.Path.{_≡_, sym, ap, _∙_}
 use mathlib.Core.List.{List}
 use Prim.Native.Nat.{ℕ}

@@ -1,5 +1,4 @@
--- A piece offered whole comes to its bytes offered one by one: over any step that a piece makes, of which four laws are asked. Assumes nothing: the laws
--- are named by the sections.
+-- A piece offered whole comes to its bytes offered one by one: over any step that a piece makes, of which four laws are asked.
 use mathlib.Core.Path.{_≡_, refl, sym, ap, _∙_}
 use mathlib.Core.Bool.{Bool, true, false, not, _&&_, false≢true}
 use mathlib.Core.List.{List, [], _∷_, _++_, append-assoc, append-nil}

@@ -1,185 +1,148 @@
--- What the model comes to, in the sentences of 01. Assumes nothing.
+-- What the list claim comes to, for the memory that a run has reached and the calls that follow there: messages, broken heads and replies.
 use mathlib.Core.Path.{_≡_, refl, sym, ap, _∙_, subst}
-use mathlib.Core.Bool.{Bool, true, false, cond, false≢true}
-use mathlib.Core.List.{List, [], _∷_, _++_, append-assoc}
-use Prim.Native.Nat.{ℕ, zero, suc, _+_, _≤_, _<_}
+use mathlib.Core.Bool.{Bool, true, false, cond}
+use mathlib.Core.List.{List, _∷_, _++_}
+use Prim.Native.Nat.{ℕ, _≤_}
 use native.Mathlib.Omega.{arith}
-use lib.Dec.{ltb}
-use lib.ListN.{length, getD, take, drop, length-append, take-append-drop, List·getD-map}
-use lib.Seq.{drop-at, length-take-le}
-use borrow.Author.Tests.{lt-ltb}
-use Rattle.wire.proofs.Texts.{both-first}
+use lib.ListN.{length}
+use lib.Seq.{getD-set-same}
 use Rattle.header.specs.declared.Header.{Header}
-use Rattle.header.specs.declared.Reading.{Reading}
-use Rattle.header.specs.declared.Reading.the-variants.{Short, Broken, Whole}
-use Rattle.header.specs.Header.{readHeader}
-use Rattle.header.proofs.Readings.{read-few, read-front, read-append, whole-fits}
-use Rattle.policy.specs.Matching.{fieldOf}
-use Rattle.stream.specs.Stream.{broken, whole}
-use Rattle.stream.specs.Tail.{finished, isBroken, brokenAt}
-use Rattle.stream.proofs.Pushes.{breaks}
-use Rattle.rules.specs.State.{free, peer, Peer, State}
-use Rattle.rules.specs.Addresses.{resolve}
-use Rattle.rules.specs.Judge.{isReply, judged}
-use Rattle.rules.specs.Calls.{empty, disconnect}
-use Rattle.rules.specs.View.{seen, seenSlot}
-use Rattle.rules.proofs.Waits.{okPending}
-use Rattle.rules.proofs.Replies.{isWaiting, awaited, reply-exact, second-reply, gone-unawaited}
+use Rattle.stream.specs.Stream.{broken}
+use Rattle.stream.specs.Tail.{Tail, judge}
+use Rattle.rules.specs.State.{free, peer, Peer, State, isPeer, firstBy, withStream}
+use Rattle.rules.specs.Judge.{isReply}
+use Rattle.rules.specs.Calls.{empty, slotAt, disconnect}
+use Rattle.rules.specs.declared.Taken.{Taken}
+use Rattle.rules.specs.declared.Gone.{Gone}
+use Rattle.rules.specs.View.{seenPeer, seenSlot, seen}
+use Rattle.rules.proofs.View.{slot-seen}
+use Rattle.rules.proofs.First.{taken-below}
+use Rattle.rules.proofs.Replies.{isWaiting, gone-unawaited}
 use Rattle.memory.specs.Layout.{memoryLength}
-use Rattle.memory.specs.Sound.{Sound}
+use Rattle.memory.specs.Encoding.{stateOf}
 use Rattle.sound.proofs.Kept.{Alone, sound-kept}
-use Rattle.book.specs.Book.{front, isWhole, size, past, cut, current, books, tailView}
-use Rattle.book.specs.Lists.{Call, starts, Answer, Run, entry, answers}
+use Rattle.book.specs.Book.{front, isWhole, books, kept, tailView}
+use Rattle.book.specs.Lists.{Call, starts, offers, leaves, Answer, taken, gone, numberOf, entry, answers, after, Ran, Run, Reached}
 use Rattle.book.specs.Split.{joined}
-use Rattle.book.proofs.Cut.{snoc, begins-whole, whole-begins, whole-append, whole-some, whole-reached, cut-step, cut-stops, cut-enough, current-snoc}
-use Rattle.book.proofs.Numbers.{broken-read}
-use Rattle.book.proofs.List.{started}
+use Rattle.book.specs.Bench.{asks, lastOf, answer}
+use Rattle.book.specs.Messages.{Messages, Parted, EndsMessage, BrokenIn}
+use Rattle.book.proofs.List.{Told, one, started, list-claim}
+use Rattle.book.proofs.Tails.{judge-broken}
+use Rattle.book.proofs.Runs.{reached-holds, held-state, held-slot}
+use Rattle.book.proofs.Messages.{parted, tail-behind, good-broken}
+use Rattle.book.proofs.Numbers.{isJudged}
+use Rattle.book.proofs.Never.{offer-faults, book-faults}
+use Rattle.book.proofs.Pieces.{number-found, pieceUnder, piece-breaks, piece-ends}
+use Rattle.book.proofs.Replied.{isAwaited, okSlot, waiting-seen, ok-slots, awaited-seen, piece-reply, piece-replied, alone-ok}
 
--- ---- "The book cuts each stream from its first byte"
+-- ---- where a run has come to
 
--- the bytes of one whole message: as many as its own length fields say
-pub record Message (m : List ℕ) : Type 0 where
-  pub header : Header
-  pub read : readHeader m ≡ Whole header
-  pub sized : length m ≡ header .head + header .body
+module _ {cs : List Call} {m : List ℕ} (run : Reached m cs) where
+  -- the model's state
+  abbrev now : State (List ℕ)
+  now = after empty cs
 
--- a whole message is followed by the next one
-pub message-then : (m ys : List ℕ) → Message m → 0 < length ys → current (m ++ ys) ≡ current ys
-message-then m ys w l =
-    let x = w .header in
-    let f : front m ≡ whole (take (x .head) m) x = begins-whole m x (record { read = w .read; reached = omega (arith, w .sized) }) in
-    let t : isWhole (front m) ≡ true = ap isWhole f in
-    let s : size (front m) ≡ length m = ap size f ∙ sym (w .sized) in
-    let a = whole-append m t ys in
-    let n = length-append m ys in
-    let p : past (m ++ ys) ≡ true = rw (a, t, s, lt-ltb (length m) (length (m ++ ys)) (omega arith)) in
-    let k : 1 ≤ length (m ++ ys) = omega arith in
-    one-less (length (m ++ ys)) refl k p (ap size a ∙ s)
-  where
-    one-less : (k : ℕ) → length (m ++ ys) ≡ k → 1 ≤ k → past (m ++ ys) ≡ true → size (front (m ++ ys)) ≡ length m → cut k (m ++ ys) ≡ current ys
-    one-less zero e h p s = absurd (omega arith)
-    one-less (suc k) e h p s =
-        cut-step k (m ++ ys) p ∙ ap (cut k) (drop-at m ys (size (front (m ++ ys))) (sym s))
-        ∙ cut-enough k (length ys) ys (omega (arith, length-append m ys, some)) (omega arith)
-      where
-        some : 1 ≤ length m
-        some = omega (arith, s, whole-some (m ++ ys) (begun p))
-          where
-            begun : past (m ++ ys) ≡ true → isWhole (front (m ++ ys)) ≡ true
-            begun q = both-first (isWhole (front (m ++ ys))) (ltb (size (front (m ++ ys))) (length (m ++ ys))) q
+  -- memory has the model's peers, each stream as the guard keeps it
+  pub slots-are : (i : ℕ) → slotAt (stateOf m) i ≡ seenSlot tailView (slotAt now i)
+  slots-are i = held-slot (reached-holds run) i
 
-abbrev pub Messages : List (List ℕ) → Type 0
-Messages [] = Unit {0}
-Messages (m ∷ ms) = Message m × Messages ms
+  -- of a stream that is whole messages and then others, memory has the count and the head of the others
+  pub messages-then : (i : ℕ) (p : Peer (List ℕ)) → slotAt now i ≡ peer p → (ms : List (List ℕ)) (ys : List ℕ) → Messages ms → isWhole (front ys) ≡ false
+      → p .stream ≡ joined ms ++ ys
+      → slotAt (stateOf m) i ≡ peer (seenPeer (λ xs. kept ys) p)
+  messages-then i p e ms ys w u q =
+      slots-are i ∙ ap (seenSlot tailView) e ∙ ap (λ (t : Tail). peer (seenPeer (λ xs. t) p)) (ap tailView q ∙ tail-behind ms ys w u)
 
--- however many have come: the current message is that of the bytes behind them
-pub messages-then : (ms : List (List ℕ)) (ys : List ℕ) → Messages ms → 0 < length ys → current (joined ms ++ ys) ≡ current ys
-messages-then [] ys w l = refl
-messages-then (m ∷ ms) ys w l =
-    ap current (append-assoc m (joined ms) ys)
-    ∙ message-then m (joined ms ++ ys) (w .0) (omega (arith, length-append (joined ms) ys))
-    ∙ messages-then ms ys (w .1) l
+  -- and every stream is such
+  pub stream-is : (i : ℕ) (p : Peer (List ℕ)) → slotAt now i ≡ peer p
+      → (c : Parted (p .stream)) × (slotAt (stateOf m) i ≡ peer (seenPeer (λ xs. kept (c .present)) p))
+  stream-is i p e = let c = parted (p .stream) in (c, messages-then i p e (c .messages) (c .present) (c .are) (c .unfinished) (c .bytes))
 
--- and every stream is such: whole messages, and then the current one
-pub record Cut (xs ys : List ℕ) : Type 0 where
-  pub messages : List (List ℕ)
-  pub are : Messages messages
-  pub bytes : xs ≡ joined messages ++ ys
+  -- who is awaited is connected
+  pub awaited-connected : (i n serial : ℕ) → isWaiting n serial (slotAt (stateOf m) i) ≡ true → (j : ℕ) × (isPeer n (slotAt (stateOf m) j) ≡ true)
+  awaited-connected i n serial w =
+      let h = reached-holds run in
+      let q = held-state h in
+      let k = sound-kept (h .sound) .callees i n serial (ap (λ (s : State Tail). isWaiting n serial (slotAt s i)) (sym q) ∙ w) in
+      (k .0, ap (λ (s : State Tail). isPeer n (slotAt s (k .0))) q ∙ k .1)
 
-first-message : (xs : List ℕ) → isWhole (front xs) ≡ true → Message (take (size (front xs)) xs)
-first-message xs e =
-    let w = whole-begins xs e in
-    let x = w .0 in
-    let f = whole-fits xs x (w .1 .read) in
-    let s : size (front xs) ≡ x .head + x .body = ap size (begins-whole xs x (w .1)) in
-    record {
-      header = x;
-      read = read-front (size (front xs)) xs (whole-some xs e) (omega (arith, f .head-is)) ∙ w .1 .read;
-      sized = length-take-le (size (front xs)) xs (whole-reached xs e) ∙ s;
-    }
+  now-ok : (j : ℕ) → okSlot (slotAt now j) ≡ true
+  now-ok j = sym (ok-slots tailView now j) ∙ alone-ok (now .last) (slotAt (seen tailView now) j) (sound-kept (reached-holds run .sound) .each j)
 
-cut-is : (f : ℕ) (xs : List ℕ) → Cut xs (cut f xs)
-unfolding cut
-cut-is zero xs = record { messages = []; are = tt; bytes = refl }
-cut-is (suc f) xs = go (past xs) refl (cut-is f (drop (size (front xs)) xs))
-  where
-    n : ℕ
-    n = size (front xs)
+  -- ---- a piece offered there
 
-    go : (p : Bool) → past xs ≡ p → Cut (drop n xs) (cut f (drop n xs)) → Cut xs (cut (suc f) xs)
-    go true e i =
-        let w = both-first (isWhole (front xs)) (ltb n (length xs)) e in
+  module _ {image : List ℕ} {n : ℕ} {bytes : List ℕ} {r : Taken} {e : List ℕ} (ran : Ran m e (offers image n bytes) (taken r)) where
+    told : Told now (offers image n bytes) (taken r) e
+    told = one now (reached-holds run) ran
+
+    said : r .judgement .answer ≡ pieceUnder books (λ t. refl) image now n bytes .result .judgement .answer
+    unfolding entry
+    said = ap numberOf (told .answer)
+
+    -- 0 and 20 to 26 are answers about a message that the piece ends
+    pub message-ended : isJudged (r .judgement .answer) ≡ true → (h : List ℕ) × (x : Header) × EndsMessage now image n bytes h x
+    message-ended j =
+        let w = piece-ends books (λ t. refl) image now n bytes (λ t a. offer-faults books book-faults t bytes a) (ap isJudged (sym said) ∙ j) in
+        (w .1, w .2, record { takes = w .0; ended = w .3 })
+
+    -- 1 to 6 are answered at byte 16 of a message, and 7 to 9 at the last byte of its head
+    pub broken-where : 1 ≤ r .judgement .answer → r .judgement .answer ≤ 9 → BrokenIn e n (r .judgement .answer)
+    unfolding entry
+    broken-where l k =
+        let a = r .judgement .answer in
+        let z = piece-breaks books (λ t. refl) image now n bytes a (sym said) l k in
+        let i = firstBy (isPeer n) (now .slots) in
+        let p = z .takes .sender in
+        let q = withStream p (z .stream) in
+        let t : slotAt (entry now (offers image n bytes) .state) i ≡ peer q
+        = ap (λ (s : State (List ℕ)). slotAt s i) (z .state) ∙ getD-set-same (now .slots) i (peer q) free (taken-below (now .slots) i p (z .takes .sits)) in
+        let v : judge (tailView (z .stream)) ≡ broken a = judge-broken (z .stream) a (z .reads) in
+        let g = sound-kept (told .holds .sound) .each i in
+        let u = slot-seen tailView (entry now (offers image n bytes) .state) i ∙ ap (seenSlot tailView) t in
         record {
-          messages = take n xs ∷ i .messages;
-          are = (first-message xs w, i .are);
-          bytes =
-              sym (take-append-drop n xs) ∙ ap (_++_ (take n xs)) (i .bytes)
-              ∙ sym (append-assoc (take n xs) (joined (i .messages)) (cut f (drop n xs)))
-              ∙ ap (_++_ (take n xs ++ joined (i .messages))) (sym (cut-step f xs e));
+          place = i;
+          who = seenPeer tailView q;
+          sits = held-slot (told .holds) i ∙ ap (seenSlot tailView) t;
+          number = number-found now n p (z .takes .sits);
+          reads = v;
+          found = good-broken (tailView (z .stream)) a (subst (Alone (entry now (offers image n bytes) .state .last)) u g .tail) v;
         }
-    go false e i = record { messages = []; are = tt; bytes = sym (cut-stops (suc f) xs e) }
 
-pub stream-is : (xs : List ℕ) → Cut xs (current xs)
-stream-is xs = cut-is (length xs) xs
+    module _ (h : List ℕ) (x : Header) (ends : EndsMessage now image n bytes h x) (reply : isReply x ≡ true) where
+      -- a reply passes exactly where memory has the call that it answers
+      pub reply-passes : r .judgement .answer ≡ cond (isAwaited (stateOf m) n h x) 0 24
+      reply-passes =
+          said ∙ piece-reply now image n bytes h x ends reply
+          ∙ ap (λ (c : Bool). cond c 0 24) (sym (ap (λ (s : State Tail). isAwaited s n h x) (held-state (reached-holds run)) ∙ awaited-seen tailView now n h x))
 
--- bytes that are not past their first message are all of it
-pub current-first : (ys : List ℕ) → past ys ≡ false → current ys ≡ ys
-current-first ys p = cut-stops (length ys) ys p
+      passed-awaited : r .judgement .answer ≡ 0 → isAwaited now n h x ≡ true
+      passed-awaited z = go (isAwaited now n h x) (sym (said ∙ piece-reply now image n bytes h x ends reply) ∙ z)
+        where
+          go : (c : Bool) → _≡_ {A = ℕ} (cond c 0 24) 0 → c ≡ true
+          go true q = refl
+          go false q = absurd (omega arith)
 
--- ---- "1 to 6 .. once 16 bytes have come; 7, then 8, then 9 once the head is whole"
+      -- and the same reply, sent again at once, does not
+      pub second-reply-24 : r .judgement .answer ≡ 0 → {other bytes′ d : List ℕ} {q : Taken} → Ran e d (offers other n bytes′) (taken q)
+          → EndsMessage (entry now (offers image n bytes) .state) other n bytes′ h x
+          → q .judgement .answer ≡ 24
+      unfolding entry
+      second-reply-24 z {other} {bytes′} again ends′ =
+          let b = entry now (offers image n bytes) .state in
+          let t = one b (told .holds) again in
+          ap numberOf (t .answer) ∙ piece-reply b other n bytes′ h x ends′ reply
+          ∙ ap (λ (c : Bool). cond c 0 24) (piece-replied now image n bytes h x ends reply now-ok (passed-awaited z))
 
--- an open stream that a byte breaks has just so many bytes of the broken message: 16 for 1 to 6, and the head's length for 7 to 9
-pub broken-where : (xs : List ℕ) (b a : ℕ) → books .closed xs ≡ false → books .judge (snoc xs b) ≡ broken a
-    → length (current (snoc xs b)) ≡ brokenAt a (current (snoc xs b))
-broken-where xs b a c j = subst (λ (y : List ℕ). length y ≡ brokenAt a y) (sym (current-snoc xs b)) (go (isWhole (front (current xs))) refl (ap front (sym (current-snoc xs b)) ∙ j))
-  where
-    h : List ℕ
-    h = current xs
+  -- ---- a peer that leaves
 
-    read : (y : List ℕ) → front y ≡ broken a → readHeader y ≡ Broken a
-    read y q = broken-read (length y) y a q
-
-    short : readHeader (snoc h b) ≡ Broken a → (r : Reading) → readHeader h ≡ r → readHeader h ≡ Short
-    short q Short e = e
-    short q (Broken n) e = absurd (false≢true (sym c ∙ ap (λ (r : Reading). isBroken (finished (length h) h r)) e))
-    short q (Whole x) e =
-        let u : readHeader (snoc h b) ≡ Whole x = read-append h (b ∷ []) (λ s. let v : Whole x ≡ Short = sym e ∙ s in let z : _≡_ {A = ℕ} 0 1 = cc in omega arith) ∙ e in
-        let v : Whole x ≡ Broken a = sym u ∙ q in
-        let z : _≡_ {A = ℕ} 0 1 = cc in
-        absurd (omega arith)
-
-    go : (w : Bool) → isWhole (front h) ≡ w → front (cond w (b ∷ []) (snoc h b)) ≡ broken a
-        → length (cond w (b ∷ []) (snoc h b)) ≡ brokenAt a (cond w (b ∷ []) (snoc h b))
-    go true e q = breaks [] b (read-few [] (omega arith)) a (read (b ∷ []) q)
-    go false e q = let r = read (snoc h b) q in breaks h b (short r (readHeader h) refl) a r
-
--- ---- replies
-
--- "passes exactly when (A, B, reply serial) waits": over the model's state
-pub reply-passes : (b : State (List ℕ)) (image : List ℕ) (i : ℕ) (sender : Peer (List ℕ)) (h : List ℕ) (x : Header) → isReply x ≡ true
-    → judged image b i sender h x .judgement .answer
-    ≡ cond (awaited (b .slots) (sender .number) (x .«reply_serial») (resolve (b .slots) (fieldOf h (x .destination)))) 0 24
-reply-passes b image i sender h x r = reply-exact image b i sender h x r
-
--- no triple stands twice in a state that a run has come to
-waits-once : (b : State (List ℕ)) → Sound (seen tailView b) → (j : ℕ) (p : Peer (List ℕ)) → getD (b .slots) j free ≡ peer p → okPending (p .pending) ≡ true
-waits-once b g j p e =
-    let k = sound-kept g .each j in
-    let q : getD (seen tailView b .slots) j free ≡ seenSlot tailView (peer p) = List·getD-map (seenSlot tailView) (b .slots) j free ∙ ap (seenSlot tailView) e in
-    subst (Alone (b .last)) q k .waits
-
--- "second reply 24"
-pub second-reply-24 : (b : State (List ℕ)) → Sound (seen tailView b) → (image : List ℕ) (i : ℕ) (sender : Peer (List ℕ)) (h : List ℕ) (x : Header)
-    → isReply x ≡ true
-    → awaited (b .slots) (sender .number) (x .«reply_serial») (resolve (b .slots) (fieldOf h (x .destination))) ≡ true
-    → (k : ℕ) (again : Peer (List ℕ)) → again .number ≡ sender .number
-    → judged image (judged image b i sender h x .state) k again h x .judgement .answer ≡ 24
-second-reply-24 b g image i sender h x r w k again e = second-reply image b i sender h x r (waits-once b g) w k again e
-
--- "ends .. every wait where it is caller or callee": nobody awaits a peer that is gone
-pub gone-awaited : (b : State (List ℕ)) (n : ℕ) → disconnect books b n .result .answer ≡ 0
-    → (j r : ℕ) → isWaiting n r (getD (disconnect books b n .state .slots) j free) ≡ false
-gone-awaited b n a j r = gone-unawaited books b n a j r
+  -- nobody awaits it any more
+  pub gone-awaited : {n : ℕ} {r : Gone} {e : List ℕ} → Ran m e (leaves n) (gone r) → r .answer ≡ 0
+      → (j serial : ℕ) → isWaiting n serial (slotAt (stateOf e) j) ≡ false
+  unfolding entry
+  gone-awaited {n} ran z j serial =
+      let t = one now (reached-holds run) ran in
+      ap (isWaiting n serial) (held-slot (t .holds) j) ∙ waiting-seen tailView n serial (slotAt (disconnect books now n .state) j)
+      ∙ gone-unawaited books now n (sym (ap numberOf (t .answer)) ∙ z) j serial
 
 -- ---- answers do not depend on the memory's past
 
@@ -197,3 +160,10 @@ past-forgotten l₁ l₂ r₁ r₂ =
 pub start-forgets : (b c : State (List ℕ)) (cs : List Call) → answers b (starts ∷ cs) ≡ answers c (starts ∷ cs)
 unfolding answers entry
 start-forgets b c cs = refl
+
+-- ---- the worked table
+
+-- a run from a start over any memory of the right length shows what the table's question is answered with
+pub guard-shows : {m e : List ℕ} {cs : List Call} {given : List Answer} → length m ≡ memoryLength → Run m (starts ∷ cs) given e
+    → lastOf given ≡ answer (asks (starts ∷ cs))
+guard-shows l r = ap lastOf (list-claim empty l r .answered)

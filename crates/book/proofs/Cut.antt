@@ -1,4 +1,4 @@
--- The model's cut, one byte on: the byte begins a message where the one before it was whole, and joins it where not. Assumes nothing.
+-- The model's cut, one byte on: the byte begins a message where the one before it was whole, and joins it where not.
 use mathlib.Core.Path.{_≡_, refl, sym, ap, _∙_}
 use mathlib.Core.Bool.{Bool, true, false, cond, false≢true}
 use mathlib.Core.List.{List, [], _∷_, _++_}
@@ -15,7 +15,7 @@ use Rattle.header.specs.declared.Reading.{Reading}
 use Rattle.header.specs.declared.Reading.the-variants.{Short, Broken, Whole}
 use Rattle.header.specs.Fixed.{headLength}
 use Rattle.header.specs.Header.{readHeader}
-use Rattle.header.proofs.Readings.{read-front, read-append, whole-fits}
+use Rattle.header.proofs.Readings.{read-few, read-front, read-append, whole-fits}
 use Rattle.stream.specs.Stream.{more, whole}
 use Rattle.stream.specs.Tail.{finished}
 use Rattle.rules.proofs.Tests.{clash}
@@ -122,7 +122,7 @@ pub cut-step : (f : ℕ) (xs : List ℕ) → past xs ≡ true → cut (suc f) xs
 unfolding cut
 cut-step f xs e = rw (e, cut)
 
-past-few : (xs : List ℕ) → length xs ≤ 16 → past xs ≡ false
+pub past-few : (xs : List ℕ) → length xs ≤ 16 → past xs ≡ false
 past-few xs h = go (past xs) refl
   where
     go : (p : Bool) → past xs ≡ p → past xs ≡ false
@@ -193,3 +193,6 @@ current-snoc xs b =
 
 pub current-none : current [] ≡ []
 current-none = cut-stops 0 [] (past-few [] (omega arith))
+
+pub front-none : front [] ≡ more
+front-none = ap (finished 0 []) (read-few [] (omega arith))

@@ -1,14 +1,14 @@
--- An offering ends, whatever the memory, the image and the piece: a call that does not end it takes at least one byte. Assumes nothing.
-use mathlib.Core.Path.{_≡_, refl, sym}
+-- An offering ends, whatever the memory, the image and the piece: a call that does not end it takes at least one byte.
+use mathlib.Core.Path.{_≡_, refl, sym, _∙_}
 use mathlib.Core.Bool.{Bool, true, false, cond, not, false≢true}
 use mathlib.Core.List.{List, _++_}
 use Prim.Native.Nat.{ℕ, zero, suc, _<_}
 use native.Mathlib.Omega.{arith}
-use lib.Dec.{ltb}
+use lib.Dec.{eqb, ltb}
 use lib.ListN.{length, drop, length-drop}
 use borrow.Author.Tests.{ltb-true, not-true}
 use Rattle.wire.proofs.Texts.{both-first, both-second}
-use Rattle.image.specs.Good.{goodImage}
+use Rattle.image.specs.Good.{imageAnswer}
 use Rattle.stream.specs.Stream.{Verdict, more, broken, whole, Streams, offer, settled}
 use Rattle.stream.specs.Tail.{tails}
 use Rattle.stream.proofs.Offers.{taken-some}
@@ -21,6 +21,7 @@ use Rattle.memory.specs.Encoding.{stateOf}
 use Rattle.memory.specs.Good.{good}
 use Rattle.memory.specs.Calls.{Left, Did, stored, kept, pieceOn}
 use Rattle.book.specs.Split.{isStop, goesOn, said, Offers, ends, again}
+use Rattle.book.proofs.Images.{image-refuses}
 
 -- the answer ends an offering, or bytes were taken
 abbrev Takes : Taken → Type 0
@@ -41,7 +42,7 @@ module _ {S : Type 0} (O : Streams S) (image : List ℕ) (s : State S) (p : List
       (λ c e. absurd (false≢true (sym e)))
       (λ c. offered-takes (putSlot s i (peer r)) i r (o .taken) (o .verdict) (taken-some O (q .stream) p l))
 
-  -- "On an open stream a non-empty piece always loses at least one byte"
+  -- a piece that is not empty has a byte taken, where its stream is open (rule 9.2)
   pub piece-takes : (n : ℕ) → Takes (piece O image s n p .result)
   unfolding piece
   piece-takes n = let i = firstBy (isPeer n) (s .slots) in at-takes i (slotAt s i)
@@ -53,9 +54,9 @@ module _ (image : List ℕ) (n : ℕ) where
       let step = piece tails image (stateOf m) n p in
       let over = cond (good m) (stored step) (kept m (noPiece 51)) in
       let P : Left Taken → Type 0 = λ z. Takes (z .result) in
-      choice P (goodImage image) over (kept m (noPiece 50))
+      choice P (eqb (imageAnswer image) 0) over (kept m (noPiece (imageAnswer image)))
       (λ a. choice P (good m) (stored step) (kept m (noPiece 51)) (λ b. piece-takes tails image (stateOf m) p l n) (λ b e. absurd (false≢true (sym e))))
-      (λ a e. absurd (false≢true (sym e)))
+      (λ a e. absurd (false≢true (sym e ∙ image-refuses image a .stops)))
 
   pub record Ended (m p : List ℕ) : Type 0 where
     pub memory : List ℕ

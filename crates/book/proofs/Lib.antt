@@ -1,11 +1,16 @@
+pub mod Bench
 pub mod Cut
 pub mod Tails
 pub mod Numbers
+pub mod Images
 pub mod Never
 pub mod List
+pub mod Runs
 pub mod Bytewise
 pub mod Ways
 pub mod Split
-pub mod Bench
+pub mod Messages
+pub mod Pieces
+pub mod Replied
 pub mod Consequences
 pub mod Ends

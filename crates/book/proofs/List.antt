@@ -1,12 +1,13 @@
--- Every list of calls (01, demand 3): calls made one after the other on a started guard, each as its contract says, answer what the model answers, and
--- leave the bytes of what the model holds. Assumes nothing.
+-- Every list of calls (rule 12.1): calls made one after the other on a started guard, each as its contract says, answer what the model answers, and
+-- leave the bytes of what the model holds.
 use mathlib.Core.Path.{_≡_, refl, ap, ap₂, _∙_, subst}
 use mathlib.Core.Bool.{Bool, true, false, cond}
 use mathlib.Core.List.{List, _∷_}
 use Prim.Native.Nat.{ℕ, _<_}
+use lib.Dec.{eqb}
 use lib.ListN.{length}
 use borrow.Author.Tests.{eq-eqb}
-use Rattle.image.specs.Good.{goodImage}
+use Rattle.image.specs.Good.{imageAnswer}
 use Rattle.stream.specs.Tail.{Tail, tails}
 use Rattle.rules.specs.State.{State}
 use Rattle.rules.specs.Calls.{Step, stays, empty, connect, own, release, piece, disconnect, noConnect, noPiece, noGone}
@@ -26,7 +27,7 @@ use Rattle.memory.proofs.Frame.{memory-length}
 use Rattle.memory.proofs.Octets.{every-below}
 use Rattle.sound.proofs.Keep.{empty-sound, connect-sound, own-sound, release-sound, piece-sound, disconnect-sound}
 use Rattle.book.specs.Book.{books, tailView}
-use Rattle.book.specs.Lists.{Call, starts, Answer, plain, connected, taken, gone, entry, answers, after, Below}
+use Rattle.book.specs.Lists.{Call, starts, Answer, plain, connected, taken, gone, underImage, entry, answers, after, Below}
 use Rattle.book.specs.Lists.{Ran, ran-start, ran-connect, ran-own, ran-release, ran-piece, ran-leave, Run, done, then, Agrees}
 use Rattle.book.proofs.Tails.{sees}
 use Rattle.book.proofs.Never.{nevers}
@@ -37,10 +38,10 @@ module _ {R : Type 0} (s : State Tail) (g : Sound s) (refuse : ℕ → R) (step 
   pub on-memory : onMemory refuse (memoryOf s) (step (stateOf (memoryOf s))) ≡ stored (step s)
   on-memory = rw (good-memory s g, state-again s g)
 
-  pub on-image : (image : List ℕ) → onImage refuse image (memoryOf s) (step (stateOf (memoryOf s))) ≡ stored (cond (goodImage image) (step s) (stays s (refuse 50)))
-  on-image image = rw on-memory (go (goodImage image))
+  pub on-image : (image : List ℕ) → onImage refuse image (memoryOf s) (step (stateOf (memoryOf s))) ≡ stored (underImage refuse image s (step s))
+  on-image image = rw on-memory (go (eqb (imageAnswer image) 0))
     where
-      go : (b : Bool) → cond b (stored (step s)) (kept (memoryOf s) (refuse 50)) ≡ stored (cond b (step s) (stays s (refuse 50)))
+      go : (b : Bool) → cond b (stored (step s)) (kept (memoryOf s) (refuse (imageAnswer image))) ≡ stored (cond b (step s) (stays s (refuse (imageAnswer image))))
       go true = refl
       go false = refl
 
@@ -65,12 +66,13 @@ module _ {R : Type 0} (say : R → Answer) {m : List ℕ} {b : State (List ℕ)}
       let q = ap (λ (x : List ℕ). onMemory refuse x (step (stateOf x))) (h .bytes) ∙ on-memory (seen tailView b) (h .sound) refuse step ∙ ap stored seen-is in
       record { answer = ap say (d .result ∙ ap (λ (x : Left R). x .result) q); holds = record { bytes = d .memory ∙ ap (λ (x : Left R). x .memory) q; sound = sound-after } }
 
-  meets-image : (image : List ℕ) {r : R} {e : List ℕ} → Did (onImage refuse image m (step (stateOf m))) r e → Meets say (cond (goodImage image) z (stays b (refuse 50))) r e
+  meets-image : (image : List ℕ) {r : R} {e : List ℕ} → Did (onImage refuse image m (step (stateOf m))) r e → Meets say (underImage refuse image b z) r e
   meets-image image d =
-      let c : cond (goodImage image) (step (seen tailView b)) (stays (seen tailView b) (refuse 50)) ≡ seenStep tailView (cond (goodImage image) z (stays b (refuse 50)))
-      = chosen (seenStep tailView) (goodImage image) z (stays b (refuse 50)) (step (seen tailView b)) (stays (seen tailView b) (refuse 50)) seen-is refl in
+      let no = refuse (imageAnswer image) in
+      let c : underImage refuse image (seen tailView b) (step (seen tailView b)) ≡ seenStep tailView (underImage refuse image b z)
+      = chosen (seenStep tailView) (eqb (imageAnswer image) 0) z (stays b no) (step (seen tailView b)) (stays (seen tailView b) no) seen-is refl in
       let q = ap (λ (x : List ℕ). onImage refuse image x (step (stateOf x))) (h .bytes) ∙ on-image (seen tailView b) (h .sound) refuse step image ∙ ap stored c in
-      let k = choice (λ (y : Step (List ℕ) R). Sound (seen tailView (y .state))) (goodImage image) z (stays b (refuse 50)) (λ a. sound-after) (λ a. h .sound) in
+      let k = choice (λ (y : Step (List ℕ) R). Sound (seen tailView (y .state))) (eqb (imageAnswer image) 0) z (stays b no) (λ a. sound-after) (λ a. h .sound) in
       record { answer = ap say (d .result ∙ ap (λ (x : Left R). x .result) q); holds = record { bytes = d .memory ∙ ap (λ (x : Left R). x .memory) q; sound = k } }
 
 -- ---- start
@@ -89,9 +91,9 @@ holds-length {b = b} h = ap length (h .bytes) ∙ memory-length (seen tailView b
 
 -- ---- one call
 
-record Told (b : State (List ℕ)) (c : Call) (a : Answer) (e : List ℕ) : Type 0 where
-  answer : a ≡ entry b c .answer
-  holds : Holds e (entry b c .state)
+pub record Told (b : State (List ℕ)) (c : Call) (a : Answer) (e : List ℕ) : Type 0 where
+  pub answer : a ≡ entry b c .answer
+  pub holds : Holds e (entry b c .state)
 
 module _ {m : List ℕ} (b : State (List ℕ)) (h : Holds m b) where
   abbrev v : State Tail
@@ -99,14 +101,14 @@ module _ {m : List ℕ} (b : State (List ℕ)) (h : Holds m b) where
 
   connect-meets : (image : List ℕ) (uid : ℕ) (gids : List ℕ) {r : Connected} {e : List ℕ} → uid < 4294967296 → Below 4294967296 gids
       → Did (connectOn image m uid gids) r e
-      → Meets connected (cond (goodImage image) (connect books image b uid gids) (stays b (noConnect 50))) r e
+      → Meets connected (underImage noConnect image b (connect books image b uid gids)) r e
   unfolding connectOn
   connect-meets image uid gids u w d =
       meets-image connected h noConnect (λ s. connect tails image s uid gids) (connect books image b uid gids) (connect-seen books tails tailView sees image b uid gids)
       (connect-sound v uid gids (h .sound) u (every-below 4294967296 gids w) image) image d
 
   own-meets : (image : List ℕ) (n : ℕ) (name : List ℕ) {r : ℕ} {e : List ℕ} → Did (ownOn image m n name) r e
-      → Meets plain (cond (goodImage image) (own image b n name) (stays b 50)) r e
+      → Meets plain (underImage (λ a. a) image b (own image b n name)) r e
   unfolding ownOn
   own-meets image n name d =
       meets-image plain h (λ a. a) (λ s. own image s n name) (own image b n name) (own-seen tailView b image n name) (own-sound v (h .sound) image n name) image d
@@ -117,7 +119,7 @@ module _ {m : List ℕ} (b : State (List ℕ)) (h : Holds m b) where
       meets-memory plain h (λ a. a) (λ s. release s n name) (release b n name) (release-seen tailView b n name) (release-sound v (h .sound) n name) d
 
   piece-meets : (image : List ℕ) (n : ℕ) (bytes : List ℕ) {r : Taken} {e : List ℕ} → Below 256 bytes → Did (pieceOn image m n bytes) r e
-      → Meets taken (cond (goodImage image) (piece books image b n bytes) (stays b (noPiece 50))) r e
+      → Meets taken (underImage noPiece image b (piece books image b n bytes)) r e
   unfolding pieceOn
   piece-meets image n bytes w d =
       meets-image taken h noPiece (λ s. piece tails image s n bytes) (piece books image b n bytes) (piece-seen books tails tailView sees image b n bytes)
@@ -128,7 +130,7 @@ module _ {m : List ℕ} (b : State (List ℕ)) (h : Holds m b) where
   leave-meets n d =
       meets-memory gone h noGone (λ s. disconnect tails s n) (disconnect books b n) (disconnect-seen books tails tailView sees b n) (disconnect-sound v (h .sound) n) d
 
-  one : {e : List ℕ} {c : Call} {a : Answer} → Ran m e c a → Told b c a e
+  pub one : {e : List ℕ} {c : Call} {a : Answer} → Ran m e c a → Told b c a e
   unfolding entry
   one (ran-start d) = let s = start-holds m (holds-length h) d in record { answer = ap plain (s .0); holds = s .1 }
   one (ran-connect {image} {uid} {gids} u w d) = let t = connect-meets image uid gids u w d in record { answer = t .answer; holds = t .holds }
@@ -143,12 +145,12 @@ pub record All (b : State (List ℕ)) (cs : List Call) (given : List Answer) (e 
   pub answered : given ≡ answers b cs
   pub holds : Holds e (after b cs)
 
-all : {m e : List ℕ} {cs : List Call} {given : List Answer} (b : State (List ℕ)) → Holds m b → Run m cs given e → All b cs given e
+pub all : {m e : List ℕ} {cs : List Call} {given : List Answer} (b : State (List ℕ)) → Run m cs given e → Holds m b → All b cs given e
 unfolding answers after
-all b h done = record { answered = refl; holds = h }
-all b h (then {c = c} r rs) =
+all b done h = record { answered = refl; holds = h }
+all b (then {c = c} r rs) h =
     let o = one b h r in
-    let a = all (entry b c .state) (o .holds) rs in
+    let a = all (entry b c .state) rs (o .holds) in
     record { answered = ap₂ _∷_ (o .answer) (a .answered); holds = a .holds }
 
 -- after a start
@@ -157,7 +159,7 @@ pub started : {m e : List ℕ} {cs : List Call} {given : List Answer} (b : State
 unfolding entry answers after
 started {m} b l (then (ran-start d) rs) =
     let s = start-holds m l d in
-    let a = all empty (s .1) rs in
+    let a = all empty rs (s .1) in
     record { answered = ap₂ (λ (x : ℕ) (y : List Answer). plain x ∷ y) (s .0) (a .answered); holds = a .holds }
 
 all-agrees : {b : State (List ℕ)} {cs : List Call} {given : List Answer} {e : List ℕ} → All b cs given e → Agrees b cs given e
@@ -170,4 +172,4 @@ list-claim b l r = all-agrees (started b l r)
 
 -- the same of an empty guard
 pub empty-claim : {e : List ℕ} {cs : List Call} {given : List Answer} → Run (memoryOf empty) cs given e → Agrees empty cs given e
-empty-claim r = all-agrees (all empty empty-holds r)
+empty-claim r = all-agrees (all empty r empty-holds)

@@ -1,15 +1,13 @@
--- "51 never comes": no call of the model is answered so, whatever the model holds. Assumes nothing.
+-- 51 is no answer of the model, whatever it holds (rule 11.3).
 use mathlib.Core.Path.{_≡_, refl, sym, ap, _∙_}
 use mathlib.Core.Logic.{_⊎_, inl, inr}
-use mathlib.Core.Bool.{true, cond, _&&_}
+use mathlib.Core.Bool.{true, cond}
 use mathlib.Core.List.{List, [], _∷_, _++_}
 use Prim.Native.Nat.{ℕ, _≤_}
 use native.Mathlib.Omega.{arith}
 use lib.Dec.{eqb, ltb, leb}
 use lib.ListN.{length}
-use borrow.Author.Tests.{eqb-true, leb-true}
-use Rattle.wire.proofs.Texts.{both-second, either}
-use Rattle.image.specs.Good.{goodImage}
+use Rattle.image.specs.Good.{imageAnswer}
 use Rattle.policy.specs.Names.{owns}
 use Rattle.policy.specs.Decisions.{mayConnect, mayOwn}
 use Rattle.stream.specs.Stream.{Verdict, more, broken, whole, Streams, Offer, offer, settled}
@@ -26,12 +24,13 @@ use Rattle.rules.specs.declared.Gone.{Gone}
 use Rattle.rules.proofs.Tests.{choice}
 use Rattle.book.specs.Book.{current, books}
 use Rattle.book.specs.Lists.{Call, starts, connects, claims, releases, offers, leaves, entry, answers, numberOf, Never51}
-use Rattle.book.proofs.Numbers.{isJudged, judged-proper, broken-number}
+use Rattle.book.proofs.Images.{image-refuses}
+use Rattle.book.proofs.Numbers.{isJudged, judged-low, judged-proper, broken-number}
 
 -- ---- a piece, over any streams whose faults are 1 to 9
 
 module _ {S : Type 0} (O : Streams S) (faults : (s : S) (a : ℕ) → O .judge s ≡ broken a → (1 ≤ a) × (a ≤ 9)) where
-  offer-faults : (s : S) (p : List ℕ) (a : ℕ) → offer O s p .verdict ≡ broken a → (1 ≤ a) × (a ≤ 9)
+  pub offer-faults : (s : S) (p : List ℕ) (a : ℕ) → offer O s p .verdict ≡ broken a → (1 ≤ a) × (a ≤ 9)
   unfolding offer
   offer-faults s [] a e = let z : _≡_ {A = ℕ} 0 1 = cc in absurd (omega arith)
   offer-faults s (b ∷ p) a e =
@@ -44,11 +43,11 @@ module _ {S : Type 0} (O : Streams S) (faults : (s : S) (a : ℕ) → O .judge s
       go (whole k y) q c ih = let z : _≡_ {A = ℕ} 0 1 = cc in absurd (omega arith)
 
   proper-not : (a : ℕ) → isJudged a ≡ true → a ≡ 51 → ⊥
-  proper-not a h e = go (either (eqb a 0) (leb 20 a && leb a 26) h)
+  proper-not a h e = go (judged-low a h)
     where
-      go : (eqb a 0 ≡ true) ⊎ (leb 20 a && leb a 26 ≡ true) → ⊥
-      go (inl q) = omega (arith, eqb-true a 0 q)
-      go (inr q) = omega (arith, leb-true a 26 (both-second (leb 20 a) (leb a 26) q))
+      go : (a ≡ 0) ⊎ ((20 ≤ a) × (a ≤ 26)) → ⊥
+      go (inl q) = omega arith
+      go (inr q) = omega (arith, q .1)
 
   abbrev Not51 : Step S Taken → Type 0
   Not51 z = z .result .judgement .answer ≡ 51 → ⊥
@@ -132,21 +131,22 @@ module _ {S : Type 0} (s : State S) where
 
 -- ---- the model
 
-book-faults : (xs : List ℕ) (a : ℕ) → books .judge xs ≡ broken a → (1 ≤ a) × (a ≤ 9)
+pub book-faults : (xs : List ℕ) (a : ℕ) → books .judge xs ≡ broken a → (1 ≤ a) × (a ≤ 9)
 book-faults xs a e = broken-number (length (current xs)) (current xs) a e
 
 never : (b : State (List ℕ)) (c : Call) → numberOf (entry b c .answer) ≡ 51 → ⊥
 unfolding entry
 never b starts = λ e. omega arith
 never b (connects image uid gids) =
-    choice (λ (z : Step (List ℕ) Connected). z .result .answer ≡ 51 → ⊥) (goodImage image) (connect books image b uid gids) (stays b (noConnect 50))
-    (λ a. connect-never books b image uid gids) (λ a e. omega arith)
+    choice (λ (z : Step (List ℕ) Connected). z .result .answer ≡ 51 → ⊥) (eqb (imageAnswer image) 0) (connect books image b uid gids)
+    (stays b (noConnect (imageAnswer image))) (λ a. connect-never books b image uid gids) (λ a. image-refuses image a .not51)
 never b (claims image n name) =
-    choice (λ (z : Step (List ℕ) ℕ). z .result ≡ 51 → ⊥) (goodImage image) (own image b n name) (stays b 50) (λ a. own-never b image n name) (λ a e. omega arith)
+    choice (λ (z : Step (List ℕ) ℕ). z .result ≡ 51 → ⊥) (eqb (imageAnswer image) 0) (own image b n name) (stays b (imageAnswer image))
+    (λ a. own-never b image n name) (λ a. image-refuses image a .not51)
 never b (releases n name) = release-never b n name
 never b (offers image n bytes) =
-    choice (λ (z : Step (List ℕ) Taken). z .result .judgement .answer ≡ 51 → ⊥) (goodImage image) (piece books image b n bytes) (stays b (noPiece 50))
-    (λ a. piece-never books book-faults image b n bytes) (λ a e. omega arith)
+    choice (λ (z : Step (List ℕ) Taken). z .result .judgement .answer ≡ 51 → ⊥) (eqb (imageAnswer image) 0) (piece books image b n bytes)
+    (stays b (noPiece (imageAnswer image))) (λ a. piece-never books book-faults image b n bytes) (λ a. image-refuses image a .not51)
 never b (leaves n) = leave-never books b n
 
 pub nevers : (b : State (List ℕ)) (cs : List Call) → Never51 (answers b cs)

@@ -1,13 +1,14 @@
--- A piece offered whole or in parts (01, "A piece is offered by"): the same verdicts in the same order, the same bytes afterwards, and so the same answers
--- to whatever calls follow. Assumes nothing.
+-- A piece offered whole or in parts: the same verdicts in the same order, the same bytes afterwards, and so the same answers to whatever calls follow
+-- (rule 12.2).
 use mathlib.Core.Path.{_≡_, refl, sym, ap, ap₂, _∙_, subst}
 use mathlib.Core.Bool.{Bool, true, false, cond, false≢true}
 use mathlib.Core.List.{List, [], _∷_, _++_, map, append-nil}
 use Prim.Native.Nat.{ℕ, zero, suc, _+_}
 use native.Mathlib.Omega.{arith}
+use lib.Dec.{eqb}
 use lib.ListN.{length, drop}
 use lib.Seq.{getD-drop}
-use Rattle.image.specs.Good.{goodImage}
+use Rattle.image.specs.Good.{imageAnswer}
 use Rattle.stream.specs.Tail.{Tail, tails}
 use Rattle.rules.specs.State.{State}
 use Rattle.rules.specs.Calls.{Step, stays, empty, piece, noPiece}
@@ -24,8 +25,9 @@ use Rattle.memory.proofs.Good.{good-is, good-sound}
 use Rattle.memory.proofs.Octets.{every-below}
 use Rattle.sound.proofs.Keep.{piece-sound}
 use Rattle.book.specs.Book.{tailView}
-use Rattle.book.specs.Lists.{Call, starts, offers, Answer, plain, connected, taken, gone, Below, after, Ran, ran-start, ran-connect, ran-own, ran-release, ran-piece, ran-leave, Run, done, then}
+use Rattle.book.specs.Lists.{Call, starts, offers, Answer, plain, connected, taken, gone, underImage, Below, after, Ran, ran-start, ran-connect, ran-own, ran-release, ran-piece, ran-leave, Run, done, then}
 use Rattle.book.specs.Split.{isStop, said, Offers, ends, again, OffersAll, nothing, next, joined}
+use Rattle.book.proofs.Images.{Refusal, image-refuses}
 use Rattle.book.proofs.List.{on-image, Holds, started}
 use Rattle.book.proofs.Bytewise.{Heard, Refuses, Laws, idle-refuses, refuses, bytewise, bytewise-none, bytewise-append, call-first, call-last}
 use Rattle.book.proofs.Ways.{stepOf, piece-laws}
@@ -47,25 +49,31 @@ below-drop k p h i = rw (getD-drop k p i 0) (h (k + i))
 -- ---- the guard's step, under any image
 
 module _ (image : List ℕ) (n : ℕ) where
-  -- 50 before all else
+  abbrev refused : State Tail → List ℕ → Step Tail Taken
+  refused s p = stays s (noPiece (imageAnswer image))
+
+  -- the image's answer before all else
   pub step : State Tail → List ℕ → Step Tail Taken
-  step = cond (goodImage image) (stepOf tails (λ t. refl) image n) (λ s p. stays s (noPiece 50))
+  step = cond (eqb (imageAnswer image) 0) (stepOf tails (λ t. refl) image n) refused
 
-  bad-refuses : (s : State Tail) → Refuses (λ (s : State Tail) (p : List ℕ). stays s (noPiece 50)) s
-  bad-refuses s = record { answer = 50; silent = refl; refused = λ p. refl }
+  no-verdict : {a : ℕ} → Refusal a → said (noPiece a) ≡ []
+  no-verdict r = rw (r .silent)
 
-  bad-laws : Laws (λ (s : State Tail) (p : List ℕ). stays s (noPiece 50))
-  bad-laws = record { idle = λ s. idle-refuses (bad-refuses s); way = λ s b p. refuses (bad-refuses s) }
+  bad-refuses : eqb (imageAnswer image) 0 ≡ false → (s : State Tail) → Refuses refused s
+  bad-refuses e s = record { answer = imageAnswer image; silent = no-verdict (image-refuses image e); refused = λ p. refl }
+
+  bad-laws : eqb (imageAnswer image) 0 ≡ false → Laws refused
+  bad-laws e = record { idle = λ s. idle-refuses (bad-refuses e s); way = λ s b p. refuses (bad-refuses e s) }
 
   laws : Laws step
   unfolding step
-  laws = choice Laws (goodImage image) (stepOf tails (λ t. refl) image n) (λ s p. stays s (noPiece 50)) (λ e. piece-laws tails (λ t. refl) image n) (λ e. bad-laws)
+  laws = choice Laws (eqb (imageAnswer image) 0) (stepOf tails (λ t. refl) image n) refused (λ e. piece-laws tails (λ t. refl) image n) bad-laws
 
-  step-is : (s : State Tail) (p : List ℕ) → step s p ≡ cond (goodImage image) (piece tails image s n p) (stays s (noPiece 50))
+  step-is : (s : State Tail) (p : List ℕ) → step s p ≡ underImage noPiece image s (piece tails image s n p)
   unfolding step
-  step-is s p = go (goodImage image)
+  step-is s p = go (eqb (imageAnswer image) 0)
     where
-      go : (b : Bool) → cond b (stepOf tails (λ t. refl) image n) (λ s p. stays s (noPiece 50)) s p ≡ cond b (piece tails image s n p) (stays s (noPiece 50))
+      go : (b : Bool) → cond b (stepOf tails (λ t. refl) image n) refused s p ≡ cond b (piece tails image s n p) (stays s (noPiece (imageAnswer image)))
       go true = refl
       go false = refl
 
@@ -77,7 +85,7 @@ module _ (image : List ℕ) (n : ℕ) where
     step-sound : Below 256 p → Sound (step s p .state)
     step-sound b =
         subst (λ (z : Step Tail Taken). Sound (z .state)) (sym (step-is s p))
-        (choice (λ (z : Step Tail Taken). Sound (z .state)) (goodImage image) (piece tails image s n p) (stays s (noPiece 50))
+        (choice (λ (z : Step Tail Taken). Sound (z .state)) (eqb (imageAnswer image) 0) (piece tails image s n p) (refused s p)
         (λ e. piece-sound s g p (every-below 256 p b) image n) (λ e. g))
 
   -- ---- what the calls of an offering come to, from the bytes of a sound state
@@ -114,11 +122,12 @@ module _ (image : List ℕ) (n : ℕ) where
 
   piece-bad : (m p : List ℕ) → good m ≡ false → (a : ℕ) × (isStop a ≡ true) × (said (noPiece a) ≡ []) × (pieceOn image m n p ≡ kept m (noPiece a))
   unfolding pieceOn
-  piece-bad m p g = rw g (go (goodImage image))
+  piece-bad m p g = rw g (go (eqb (imageAnswer image) 0) (image-refuses image))
     where
-      go : (b : Bool) → (a : ℕ) × (isStop a ≡ true) × (said (noPiece a) ≡ []) × (cond b (kept m (noPiece 51)) (kept m (noPiece 50)) ≡ kept m (noPiece a))
-      go true = (51, refl, refl, refl)
-      go false = (50, refl, refl, refl)
+      go : (b : Bool) → (b ≡ false → Refusal (imageAnswer image))
+          → (a : ℕ) × (isStop a ≡ true) × (said (noPiece a) ≡ []) × (cond b (kept m (noPiece 51)) (kept m (noPiece (imageAnswer image))) ≡ kept m (noPiece a))
+      go true f = (51, refl, refl, refl)
+      go false f = (imageAnswer image, f refl .stops, no-verdict (f refl), refl)
 
   bad : {e m p : List ℕ} {vs : List Judgement} → good m ≡ false → Offers image n e m p vs → (vs ≡ []) × (e ≡ m)
   bad g (ends {m = m} {p = p} d o) =

@@ -1,4 +1,4 @@
--- The guard's streams are the model's, seen by their last message: how many of its bytes have come, and those of its head. Assumes nothing.
+-- The guard's streams are the model's, seen by their last message: how many of its bytes have come, and those of its head.
 use mathlib.Core.Path.{_≡_, refl, sym, ap, _∙_}
 use mathlib.Core.Bool.{Bool, true, false, cond, false≢true}
 use mathlib.Core.List.{List, [], _∷_, _++_}
@@ -101,6 +101,10 @@ push-view xs b = go (isWhole (front (current xs))) ∙ ap kept (sym (current-sno
 
 view-unless : (xs : List ℕ) (v : Verdict) → isWhole v ≡ false → front (current xs) ≡ v → kept (current xs) ≡ tailView xs
 view-unless xs v n e = rw (e, n)
+
+-- a broken stream is kept as it is
+pub judge-broken : (xs : List ℕ) (a : ℕ) → front (current xs) ≡ broken a → judge (tailView xs) ≡ broken a
+judge-broken xs a e = ap judge (sym (view-unless xs (broken a) refl e)) ∙ judge-kept (current xs) ∙ e
 
 whole-open : (v : Verdict) → isWhole v ≡ true → isBroken v ≡ false
 whole-open more e = absurd (false≢true e)

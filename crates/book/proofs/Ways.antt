@@ -1,16 +1,13 @@
 -- A piece's first byte, over any streams that are closed exactly where they are broken and whose faults are 1 to 9: the laws that an offering asks.
--- Assumes nothing.
 use mathlib.Core.Path.{_≡_, refl, sym, ap, _∙_}
 use mathlib.Core.Logic.{_⊎_, inl, inr}
-use mathlib.Core.Bool.{Bool, true, false, cond, _&&_, false≢true}
+use mathlib.Core.Bool.{Bool, true, false, cond, false≢true}
 use mathlib.Core.List.{List, [], _∷_}
-use Prim.Native.Nat.{ℕ, suc}
+use Prim.Native.Nat.{ℕ, suc, _≤_}
 use native.Mathlib.Omega.{arith}
-use lib.Dec.{eqb, leb}
 use lib.ListN.{set}
 use lib.Seq.{getD-set-same, set-set, set-getD}
-use borrow.Author.Tests.{eqb-true, leb-true, lt-leb, le-leb}
-use Rattle.wire.proofs.Texts.{both-first, both-second, either}
+use borrow.Author.Tests.{lt-leb, le-leb}
 use Rattle.header.specs.declared.Header.{Header}
 use Rattle.stream.specs.Stream.{Verdict, more, broken, whole, Streams, Offer, bump, offer, settled}
 use Rattle.stream.specs.Steps.{follows}
@@ -22,18 +19,16 @@ use Rattle.rules.specs.Calls.{Step, stays, slotAt, noPiece, offered, offeredTo,
 use Rattle.rules.specs.declared.Taken.{Taken}
 use Rattle.rules.proofs.First.{first-set, taken-below}
 use Rattle.book.specs.Split.{isStop, said}
-use Rattle.book.proofs.Numbers.{isJudged, judged-proper}
+use Rattle.book.proofs.Numbers.{isJudged, judged-low, judged-proper}
 use Rattle.book.proofs.Bytewise.{bumped, Refuses, Idle, idle-refuses, idles, Way, refuses, joins, decides, Laws}
 
 -- a judged message ends no offering
 judged-goes : (a : ℕ) → isJudged a ≡ true → isStop a ≡ false
-judged-goes a h = go (either (eqb a 0) (leb 20 a && leb a 26) h)
+judged-goes a h = go (judged-low a h)
   where
-    go : (eqb a 0 ≡ true) ⊎ (leb 20 a && leb a 26 ≡ true) → isStop a ≡ false
-    go (inl q) = rw (eqb-true a 0 q)
-    go (inr q) =
-        let l = leb-true 20 a (both-first (leb 20 a) (leb a 26) q) in
-        let k = leb-true a 26 (both-second (leb 20 a) (leb a 26) q) in
+    go : (a ≡ 0) ⊎ ((20 ≤ a) × (a ≤ 26)) → isStop a ≡ false
+    go (inl q) = rw q
+    go (inr (l, k)) =
         rw (le-leb 1 a (omega arith), lt-leb a 9 (omega arith), lt-leb 30 a (omega arith))
 
 module _ {S : Type 0} (O : Streams S) (shut : (t : S) → O .closed t ≡ isBroken (O .judge t)) (image : List ℕ) (n : ℕ) where
@@ -90,7 +85,7 @@ module _ {S : Type 0} (O : Streams S) (shut : (t : S) → O .closed t ≡ isBrok
       -- ---- an open stream
 
       module _ (c : O .closed (q .stream) ≡ false) where
-        at-open : (p : List ℕ) → stepOf s p ≡ comes (offer O (q .stream) p)
+        pub at-open : (p : List ℕ) → stepOf s p ≡ comes (offer O (q .stream) p)
         at-open p = at-peer p ∙ rw c
 
         open-idles : stepOf s [] ≡ stays s (record { judgement = refusal 10; taken = 0 })

@@ -1,5 +1,5 @@
--- 01's "Bench table", T1 to T12, as one table over the written rules: calls and what the model answers to the last of them, and texts and whether they are
--- signatures. Assumes nothing: these are definitions.
+-- The worked table, T1 to T12 (rule 13.1), as one table over the rules: calls and what the model answers to the last of them, and texts and whether they
+-- are signatures.
 use mathlib.Core.List.{List, [], _∷_, _++_}
 use Prim.Native.Nat.{ℕ}
 use lib.ListN.{take, set, replicate}
@@ -7,14 +7,17 @@ use Rattle.wire.specs.Bytes.{byte, bytes}
 use Rattle.wire.specs.Words.{wordBytes}
 use Rattle.signature.specs.Signature.{validSignature}
 use Rattle.image.specs.Table.{imageOf, head, cites}
-use Rattle.rules.specs.Judge.{bit}
+use Rattle.rules.specs.Judge.{bit, refusal}
 use Rattle.rules.specs.Calls.{empty}
 use Rattle.rules.specs.Places.{receiverWords}
+use Rattle.rules.specs.declared.Taken.{Taken}
 use Rattle.book.specs.Lists.{Call, starts, connects, claims, offers, Answer, plain, connected, taken, gone, answers}
+use Rattle.book.specs.Book.{books}
+use Rattle.book.specs.Split.{goesOn, isVerdict}
 
 -- ---- messages
 
--- call C: 6c 01 00 01 00 00 00 00 01 00 00 00 1a 00 00 00, 01 01 6f 00 01 00 00 00 2f 00 .., 03 01 73 00 01 00 00 00 4d 00 ..
+-- call C (rule 13.1): 6c 01 00 01 00 00 00 00 01 00 00 00 1a 00 00 00, 01 01 6f 00 01 00 00 00 2f 00 .., 03 01 73 00 01 00 00 00 4d 00 ..
 abbrev pub callC : List ℕ
 callC =
     108 ∷ 1 ∷ 0 ∷ 1 ∷ 0 ∷ 0 ∷ 0 ∷ 0 ∷ 1 ∷ 0 ∷ 0 ∷ 0 ∷ 26 ∷ 0 ∷ 0 ∷ 0
@@ -45,11 +48,11 @@ rule context verdict direction subject offset len = head context verdict directi
 abbrev pub ownRule : ℕ → ℕ → ℕ → ℕ → ℕ → ℕ → List ℕ
 ownRule context verdict matcher subject offset len = head context verdict matcher 0 subject ++ cites offset len
 
--- "the only transaction rule a default send allow of anything"
+-- T4: one transaction rule, that everybody may send anything
 abbrev pub allowAll : List ℕ
 allowAll = imageWith [] (rule 0 1 0 0 0 0) []
 
--- "mandatory deny before user allow", of user 7
+-- T8: nobody may, and behind that user 7 may
 abbrev pub denyFirst : List ℕ
 denyFirst = imageWith (ownRule 3 0 0 0 0 0 ++ ownRule 2 1 0 7 0 0) (rule 3 0 0 0 0 0 ++ rule 2 1 0 7 0 0) []
 
@@ -57,7 +60,7 @@ denyFirst = imageWith (ownRule 3 0 0 0 0 0 ++ ownRule 2 1 0 7 0 0) (rule 3 0 0 0
 abbrev pub userAllow : List ℕ
 userAllow = imageWith [] (rule 2 1 0 7 0 0) []
 
--- "prefix `org.foo`"
+-- T9: everybody may own what is under one prefix
 abbrev pub prefix : List ℕ
 prefix = imageWith (ownRule 0 1 2 0 0 7) [] (bytes "org.foo")
 
@@ -65,7 +68,7 @@ prefix = imageWith (ownRule 0 1 2 0 0 7) [] (bytes "org.foo")
 abbrev pub twoRules : List ℕ → List ℕ → List ℕ
 twoRules earlier later = imageWith (ownRule 0 1 0 0 0 0) (rule 0 1 1 0 0 0 ++ (earlier ++ later)) (bytes "org.a.xorg.b.y")
 
--- "default allow to the first, then deny to the second"
+-- T12: send to an owner of the first is allowed, and behind that to one of the second denied
 abbrev pub allowDeny : List ℕ
 allowDeny = twoRules (rule 0 1 0 0 0 7) (rule 0 0 0 0 7 7)
 
@@ -79,10 +82,18 @@ pub data Question : Type 0 where
   asks : List Call → Question
   -- is the text a signature
   types : List ℕ → Question
+  -- an answer to so many bytes, of which so many were taken: does the offering go on, and is it a verdict
+  answered : ℕ → ℕ → ℕ → Question
+  -- of a stream with these bytes: is it closed, and how many bytes would a disconnect report
+  holds : List ℕ → Question
 
 -- a started guard with one peer, of user 7 under that image, which offers a piece
 abbrev pub sends : List ℕ → List ℕ → Question
 sends image piece = asks (starts ∷ connects image 7 [] ∷ offers image 1 piece ∷ [])
+
+-- the same peer goes on with another piece
+abbrev pub sendsThen : List ℕ → List ℕ → Question
+sendsThen piece later = asks (starts ∷ connects noRules 7 [] ∷ offers noRules 1 piece ∷ offers noRules 1 later ∷ [])
 
 -- the same peer asks for a name
 abbrev pub owning : List ℕ → List ℕ → Question
@@ -110,6 +121,10 @@ lastOf (a ∷ c ∷ l) = lastOf (c ∷ l)
 abbrev pub answer : Question → List ℕ
 answer (asks cs) = lastOf (answers empty cs)
 answer (types s) = bit (validSignature s) ∷ []
+answer (answered a n k) =
+    let r : Taken = record { judgement = refusal a; taken = n } in
+    bit (goesOn r (replicate k 0)) ∷ bit (isVerdict a) ∷ []
+answer (holds xs) = bit (books .closed xs) ∷ books .count xs ∷ []
 
 -- an answer with the bytes taken, for nobody, the bus and a peer
 abbrev pub refused : ℕ → ℕ → List ℕ
@@ -127,7 +142,7 @@ good = 1 ∷ []
 abbrev pub bad : List ℕ
 bad = 0 ∷ []
 
--- ---- the table
+-- ---- the table (rule 13.1)
 
 abbrev pub Line : Type 0
 Line = Question × List ℕ
@@ -158,6 +173,35 @@ table =
     ∷ (types (replicate 32 (byte "a") ++ bytes "y"), good)  -- T11
     ∷ (types (replicate 33 (byte "a") ++ bytes "y"), bad)
     ∷ (between allowDeny (bytes "org.b.y"), refused 22 64)  -- T12
-    ∷ (between allowDeny (bytes "org.a.x"), refused 22 64)  -- "even addressed to `org.a.x`"
+    ∷ (between allowDeny (bytes "org.a.x"), refused 22 64)  -- whichever name is addressed
     ∷ (between denyAllow (bytes "org.b.y"), toPeer 64 2)  -- the rules the other way round
+    ∷ []
+
+-- ---- more lines: several messages on one stream, a second start, and the ends of an offering
+
+-- a whole message of type 5, and one that is broken by its type
+abbrev pub fifth : List ℕ
+fifth = first 5 0 0
+
+abbrev pub typeless : List ℕ
+typeless = first 0 0 0
+
+abbrev pub more : List Line
+more =
+    (answered 10 48 48, 0 ∷ 0 ∷ [])  -- nothing is left (rule 9.5); no verdict is due yet (rule 12.2)
+    ∷ (answered 22 48 50, 1 ∷ 1 ∷ [])  -- what is left is offered
+    ∷ (answered 0 48 48, 0 ∷ 1 ∷ [])
+    ∷ (answered 1 16 48, 0 ∷ 1 ∷ [])  -- 1 to 9 end it
+    ∷ (answered 9 48 50, 0 ∷ 1 ∷ [])
+    ∷ (answered 20 48 50, 1 ∷ 1 ∷ [])
+    ∷ (answered 26 48 50, 1 ∷ 1 ∷ [])
+    ∷ (answered 30 0 50, 0 ∷ 0 ∷ [])  -- and 30 to 51
+    ∷ (answered 51 0 50, 0 ∷ 0 ∷ [])
+    ∷ (holds typeless, 1 ∷ 16 ∷ [])  -- a broken head closes its stream (rule 9.3), and is counted (rule 8.7)
+    ∷ (holds (fifth ++ take 10 fifth), 0 ∷ 10 ∷ [])  -- so is an unfinished message
+    ∷ (holds fifth, 0 ∷ 0 ∷ [])  -- and nothing between two
+    ∷ (asks (starts ∷ connects noRules 7 [] ∷ starts ∷ connects noRules 7 [] ∷ []), 0 ∷ 1 ∷ 0 ∷ [])  -- a start gives numbers anew (rule 8.2)
+    ∷ (sends noRules (first 5 8 0 ++ replicate 8 0), refused 20 24)  -- a message is its head and its body (rule 2.3)
+    ∷ (sendsThen fifth typeless, refused 3 16)  -- the second message is judged by its own head (rule 11.2)
+    ∷ (sendsThen typeless fifth, refused 40 0)  -- a broken stream is closed (rule 9.3)
     ∷ []

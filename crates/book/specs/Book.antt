@@ -1,5 +1,5 @@
--- The model, 01's book: its streams keep every byte taken since connect, and are cut again from the first byte at every question (01, "Demand 3's
--- book"). The rules are the same as the guard's. Assumes nothing: these are definitions.
+-- The model's streams: they keep every byte taken since connect, and are cut again from the first byte at every question (rules 11.1 and 11.2). The
+-- rules of the calls are the same as the guard's.
 use mathlib.Core.Bool.{Bool, true, false, cond, _&&_}
 use mathlib.Core.List.{List, [], _∷_, _++_}
 use Prim.Native.Nat.{ℕ, zero, suc, _+_}
@@ -8,7 +8,7 @@ use lib.ListN.{length, take, drop}
 use Rattle.stream.specs.Stream.{Verdict, more, broken, whole, Streams}
 use Rattle.stream.specs.Tail.{Tail, verdict, isBroken, headEnd, fresh}
 
--- the verdict on the first message of xs, of which xs may have all bytes and more
+-- the verdict on the first message of xs, of which xs may have all bytes and more (rule 11.2)
 abbrev pub front : List ℕ → Verdict
 front xs = verdict (length xs) xs
 
@@ -27,15 +27,16 @@ size (whole h x) = x .head + x .body
 abbrev pub past : List ℕ → Bool
 past xs = isWhole (front xs) && ltb (size (front xs)) (length xs)
 
--- the bytes of the message that the last byte of xs is in: whole messages are cut off from the front, at most n of them
+-- the bytes of the message that the last byte of xs is in: whole messages are cut off from the front, at most n of them (rule 11.2)
 unfoldable pub cut : ℕ → List ℕ → List ℕ
 cut zero xs = xs
 cut (suc n) xs = elim (past xs) [ true ↦ cut n (drop (size (front xs)) xs) | false ↦ xs ]
 
--- "The book cuts each stream from its first byte."
+-- there are no more messages than bytes, so that the cut is whole (rule 11.2)
 abbrev pub current : List ℕ → List ℕ
 current xs = cut (length xs) xs
 
+-- nothing is forgotten: a message that is whole stays in the stream (rule 11.1)
 abbrev pub books : Streams (List ℕ)
 books =
     record {
@@ -53,6 +54,6 @@ books =
 abbrev pub kept : List ℕ → Tail
 kept c = record { taken = length c; head = take (headEnd c) c }
 
--- nothing is kept of a message that is whole
+-- nothing is kept of a message that is whole (rules 9.4 and 12.1)
 abbrev pub tailView : List ℕ → Tail
 tailView xs = cond (isWhole (front (current xs))) fresh (kept (current xs))

@@ -1,4 +1,5 @@
 pub mod Book
 pub mod Lists
 pub mod Split
+pub mod Messages
 pub mod Bench

@@ -1,22 +1,23 @@
--- A list of calls; what the model answers to it; and what a run of the guard's calls is: each call is what its contract says, and no more is asked.
--- Assumes nothing: these are definitions.
+-- A list of calls; what the model answers to it (rules 11.1 and 11.3); and what a run of the guard's calls is, each what its contract says (rule 12.1).
 use mathlib.Core.Bool.{cond}
 use mathlib.Core.List.{List, [], _∷_}
 use mathlib.Core.Path.{_≡_}
 use Prim.Native.Nat.{ℕ, _<_}
-use lib.ListN.{getD}
-use Rattle.image.specs.Good.{goodImage}
+use lib.Dec.{eqb}
+use lib.ListN.{length, getD}
+use Rattle.image.specs.Good.{imageAnswer}
 use Rattle.rules.specs.State.{State}
 use Rattle.rules.specs.Calls.{Step, stays, empty, connect, own, release, piece, disconnect, noConnect, noPiece}
 use Rattle.rules.specs.declared.Connected.{Connected}
 use Rattle.rules.specs.declared.Taken.{Taken}
 use Rattle.rules.specs.declared.Gone.{Gone}
 use Rattle.memory.specs.Calls.{Did, startOn, connectOn, ownOn, releaseOn, pieceOn, disconnectOn}
+use Rattle.memory.specs.Layout.{memoryLength}
 use Rattle.memory.specs.Encoding.{memoryOf}
 use Rattle.rules.specs.View.{seen}
 use Rattle.book.specs.Book.{books, tailView}
 
--- each with its arguments, and nothing of the guard's memory
+-- each with its arguments, and nothing of the guard's memory (rule 11.1)
 pub data Call : Type 0 where
   starts : Call
   connects : List ℕ → ℕ → List ℕ → Call
@@ -34,6 +35,7 @@ pub data Answer : Type 0 where
 
 -- ---- the model
 
+-- what the model says and holds after a call (rule 11.1)
 pub record Entry : Type 0 where
   pub answer : Answer
   pub state : State (List ℕ)
@@ -41,20 +43,25 @@ pub record Entry : Type 0 where
 abbrev pub told : {R : Type 0} → (R → Answer) → Step (List ℕ) R → Entry
 told say s = record { answer = say (s .result); state = s .state }
 
--- "Each call, refused or not, answers and changes it by the rules above, read over the book; 51 never comes." A bad image is 50.
+-- a step under an image; where the image has an answer of its own, that one, and nothing changes (rules 5.9 and 8.1)
+abbrev pub underImage : {S R : Type 0} → (ℕ → R) → List ℕ → State S → Step S R → Step S R
+underImage refuse image b step = cond (eqb (imageAnswer image) 0) step (stays b (refuse (imageAnswer image)))
+
+-- every call, refused or not, answers and changes the model; no answer comes from memory (rule 11.3)
 unfoldable pub entry : State (List ℕ) → Call → Entry
 entry b starts = record { answer = plain 0; state = empty }
-entry b (connects image uid gids) = told connected (cond (goodImage image) (connect books image b uid gids) (stays b (noConnect 50)))
-entry b (claims image n name) = told plain (cond (goodImage image) (own image b n name) (stays b 50))
+entry b (connects image uid gids) = told connected (underImage noConnect image b (connect books image b uid gids))
+entry b (claims image n name) = told plain (underImage (λ a. a) image b (own image b n name))
 entry b (releases n name) = told plain (release b n name)
-entry b (offers image n bytes) = told taken (cond (goodImage image) (piece books image b n bytes) (stays b (noPiece 50)))
+entry b (offers image n bytes) = told taken (underImage noPiece image b (piece books image b n bytes))
 entry b (leaves n) = told gone (disconnect books b n)
 
+-- what the model says to a list of calls (rule 11.3)
 unfoldable pub answers : State (List ℕ) → List Call → List Answer
 answers b [] = []
 answers b (c ∷ cs) = entry b c .answer ∷ answers (entry b c .state) cs
 
--- the state of the model after a list of calls
+-- what the model holds after a list of calls (rule 11.3)
 unfoldable pub after : State (List ℕ) → List Call → State (List ℕ)
 after b [] = b
 after b (c ∷ cs) = after (entry b c .state) cs
@@ -65,7 +72,20 @@ after b (c ∷ cs) = after (entry b c .state) cs
 abbrev pub Below : ℕ → List ℕ → Type 0
 Below k p = (i : ℕ) → getD p i 0 < k
 
--- one call from memory m to memory e, as its `ensures` says it
+-- arguments that fit in their types: numbers of 32 bits, and bytes
+abbrev pub Fits : Call → Type 0
+Fits starts = Unit {0}
+Fits (connects image uid gids) = (uid < 4294967296) × Below 4294967296 gids
+Fits (claims image n name) = Unit {0}
+Fits (releases n name) = Unit {0}
+Fits (offers image n bytes) = Below 256 bytes
+Fits (leaves n) = Unit {0}
+
+abbrev pub AllFit : List Call → Type 0
+AllFit [] = Unit {0}
+AllFit (c ∷ cs) = Fits c × AllFit cs
+
+-- one call from memory m to memory e, as its `ensures` says it (rules 8.9 and 12.1)
 pub data Ran (m e : List ℕ) : Call → Answer → Type 0 where
   ran-start : {r : ℕ} → Did (startOn m) r e → Ran m e starts (plain r)
   ran-connect : {image : List ℕ} {uid : ℕ} {gids : List ℕ} {r : Connected} → uid < 4294967296 → Below 4294967296 gids
@@ -78,7 +98,7 @@ pub data Ran (m e : List ℕ) : Call → Answer → Type 0 where
       → Ran m e (offers image n bytes) (taken r)
   ran-leave : {n : ℕ} {r : Gone} → Did (disconnectOn m n) r e → Ran m e (leaves n) (gone r)
 
--- calls one after the other, each with the memory as the last left it
+-- calls one after the other, each with the memory as the last left it (rule 12.1)
 pub data Run : List ℕ → List Call → List Answer → List ℕ → Type 0 where
   done : {m : List ℕ} → Run m [] [] m
   then : {m d e : List ℕ} {c : Call} {a : Answer} {cs : List Call} {rest : List Answer}
@@ -86,22 +106,28 @@ pub data Run : List ℕ → List Call → List Answer → List ℕ → Type 0 wh
       → Run d cs rest e
       → Run m (c ∷ cs) (a ∷ rest) e
 
+-- these calls, made from a start over memory of the right length or from an empty guard on, have left memory m (rule 12.1)
+pub data Reached (m : List ℕ) : List Call → Type 0 where
+  since-start : {k : List ℕ} {cs : List Call} {given : List Answer} → length k ≡ memoryLength → Run k (starts ∷ cs) given m → Reached m (starts ∷ cs)
+  since-empty : {cs : List Call} {given : List Answer} → Run (memoryOf empty) cs given m → Reached m cs
+
 -- ---- answers
 
--- 01's number of an answer
+-- the number of an answer
 abbrev pub numberOf : Answer → ℕ
 numberOf (plain a) = a
 numberOf (connected r) = r .answer
 numberOf (taken r) = r .judgement .answer
 numberOf (gone r) = r .answer
 
+-- 51 is no answer among these (rule 11.3)
 abbrev pub Never51 : List Answer → Type 0
 Never51 [] = Unit {0}
 Never51 (a ∷ l) = (numberOf a ≡ 51 → ⊥) × Never51 l
 
 -- ---- the claim
 
--- what calls answered and what they left is what the model says of them from state b on
+-- what calls answered and what they left is what the model says of them from state b on (rule 12.1)
 pub record Agrees (b : State (List ℕ)) (cs : List Call) (given : List Answer) (e : List ℕ) : Type 0 where
   pub answered : given ≡ answers b cs
   pub never51 : Never51 given

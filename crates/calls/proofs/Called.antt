@@ -1,4 +1,4 @@
--- Each call of an entry, and its report. Assumes nothing.
+-- Each call of an entry, and its report.
 use mathlib.Core.Path.{_≡_, refl, sym, ap, ap₂, _∙_}
 use mathlib.Core.Bool.{Bool, true, false}
 use mathlib.Core.List.{List, [], _∷_}

@@ -1,4 +1,4 @@
--- The entries of a script: their lengths, and the layout to its end. Assumes nothing.
+-- The entries of a script: their lengths, and the layout to its end.
 use mathlib.Core.Path.{_≡_, refl, sym, ap, _∙_}
 use mathlib.Core.Bool.{Bool, true, false, not, cond, _&&_, false≢true}
 use mathlib.Core.List.{List, [], _∷_}

@@ -1,4 +1,4 @@
--- More than a script's length changes neither its layout nor its calls; and a list behind a start is the list on an empty guard. Assumes nothing.
+-- More than a script's length changes neither its layout nor its calls; and a list behind a start is the list on an empty guard.
 use mathlib.Core.Path.{_≡_, refl, sym, ap, _∙_}
 use mathlib.Core.Bool.{Bool, true, false, false≢true}
 use mathlib.Core.List.{List, _∷_}

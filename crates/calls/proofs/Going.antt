@@ -1,4 +1,4 @@
--- How far a script has been run, and that it ends as the model says. Assumes nothing.
+-- How far a script has been run, and that it ends as the model says.
 use mathlib.Core.Path.{_≡_, refl, sym, ap, _∙_}
 use mathlib.Core.Bool.{Bool, true, false, not}
 use mathlib.Core.List.{List, [], _∷_, _++_, append-assoc, append-nil}
@@ -19,21 +19,17 @@ use Rattle.rules.specs.declared.Receiver.the-variants as to
 use Rattle.memory.specs.Layout.{memoryLength}
 use Rattle.memory.specs.Encoding.{memoryOf}
 use Rattle.memory.specs.Calls.{Did, startOn}
-use Rattle.book.specs.Lists.{Call, Answer, plain, connected, taken, gone, Ran, Run, done, then}
+use Rattle.book.specs.Lists.{Call, Answer, plain, connected, taken, gone, Run, done, then}
 use Rattle.rules.specs.Places.{receiverWords}
 use Rattle.book.proofs.List.{empty-claim}
+use Rattle.book.proofs.Runs.{run-append}
 use Rattle.calls.specs.declared.Count.{Count}
 use Rattle.calls.specs.Script.{kindOf, argumentOf, entrySize, layout, calls, callOf, decode}
 use Rattle.calls.specs.Places.{wordsOf, placeOf, outcome, Ended}
 use Rattle.calls.specs.Steps.{Stepped, Sized, Entry, Counted, Ready, Replayed}
 use Rattle.calls.proofs.Entries.{entry-of, front-entry, layout-step, calls-step, calls-end, behind}
 
--- ---- one call more at the end of a run
-
-run-more : {m d e : List ℕ} {cs : List Call} {given : List Answer} {c : Call} {a : Answer} → Run m cs given d → Ran d e c a
-    → Run m (cs ++ (c ∷ [])) (given ++ (a ∷ [])) e
-run-more done r = then r done
-run-more (then q qs) r = then q (run-more qs r)
+-- ---- a run has an answer for each call
 
 run-length : {m d : List ℕ} {cs : List Call} {given : List Answer} → Run m cs given d → length cs ≡ length given
 run-length done = refl
@@ -140,7 +136,7 @@ module _ {image s m₀ x m y rest : List ℕ} {at : ℕ} (g : Going image s m₀
             whole = sym (layout-step f rest h n) ∙ q;
             past = g .past ++ (c ∷ []);
             given = g .given ++ (t .answer ∷ []);
-            ran = run-more (g .ran) (t .ran);
+            ran = run-append (g .ran) (then (t .ran) done);
             all =
                 a
                 ∙ ap (λ (v : List Call). g .past ++ v) (calls-step image f rest h)

@@ -1,4 +1,4 @@
--- Words one behind the other: written to a place, and read off an argument. Assumes nothing.
+-- Words one behind the other: written to a place, and read off an argument.
 use mathlib.Core.Path.{_≡_, refl, ap, _∙_}
 use mathlib.Core.List.{List, [], _∷_, _++_, append-nil}
 use Prim.Native.Nat.{ℕ, zero, suc, _+_, _-_, _*_, _/_, _≤_, _<_, min}

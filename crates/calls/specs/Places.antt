@@ -1,5 +1,4 @@
--- What a script comes to: the model's answers, each in a place of seven little-endian words, and the bytes of what the model holds. Assumes nothing: these
--- are definitions.
+-- What a script comes to: the model's answers, each in a place of seven little-endian words, and the bytes of what the model holds.
 use mathlib.Core.Bool.{cond}
 use mathlib.Core.List.{List, [], _∷_, _++_}
 use mathlib.Core.Option.{Option, none, some}
@@ -18,7 +17,7 @@ use Rattle.book.specs.Book.{tailView}
 use Rattle.book.specs.Lists.{Call, Answer, plain, connected, taken, gone, answers, after}
 use Rattle.calls.specs.Script.{decode}
 
--- answer, taken, receiver kind, peer or mask or number or bytes, set slots or slot, 0, 0
+-- answer, taken, receiver kind, peer or mask or number or bytes, set slots or slot, 0, 0 (rules 7.4 and 12.3)
 abbrev pub wordsOf : Answer → List ℕ
 wordsOf (plain a) = a ∷ 0 ∷ 0 ∷ 0 ∷ 0 ∷ 0 ∷ 0 ∷ []
 wordsOf (connected r) = r .answer ∷ 0 ∷ 0 ∷ r .number ∷ r .slot ∷ 0 ∷ 0 ∷ []
@@ -47,12 +46,13 @@ ran cs x =
       room = cells placeOf (answers empty cs) ++ drop (28 * length cs) x;
     }
 
--- 67 is a broken layout, 68 room for fewer answers than calls, 51 memory of another length
+-- 67 is a broken layout, 68 room for fewer answers than calls, 51 memory of another length (rule 12.3)
 abbrev pub told : Option (List Call) → List ℕ → List ℕ → Outcome
 told none m x = refused 67 m x
 told (some cs) m x =
     cond (ltb (length x / 28) (length cs)) (refused 68 m x) (cond (eqb (length m) memoryLength) (ran cs x) (refused 51 m x))
 
+-- what the script in bytes s does to memory m and the room x (rule 12.3)
 unfoldable pub outcome : List ℕ → List ℕ → List ℕ → List ℕ → Outcome
 outcome image s m x = told (decode image s) m x
 

@@ -1,5 +1,5 @@
 -- A script: calls in order, each a kind and a length, little-endian words, and that many bytes. 0 starts; 1 connects with a uid and gids; 2 owns and 3
--- releases, 4 offers a piece, each with a peer's number and the name or the bytes; 5 disconnects a peer. Assumes nothing: these are definitions.
+-- releases, 4 offers a piece, each with a peer's number and the name or the bytes; 5 disconnects a peer (rule 12.3).
 use mathlib.Core.Bool.{Bool, true, false, cond, _&&_}
 use mathlib.Core.List.{List, [], _∷_}
 use mathlib.Core.Option.{Option, none, some}
@@ -21,12 +21,12 @@ sizeOf s = wordAt Little s 4
 abbrev pub argumentOf : List ℕ → List ℕ
 argumentOf s = take (sizeOf s) (drop 8 s)
 
--- the lengths that a kind may have: a start has nothing, a connect whole words and one at least, a disconnect one word, the others begin with one
+-- the lengths that a kind may have: a start nothing, a connect whole words and one at least, a disconnect one word, the others begin with one (rule 12.3)
 unfoldable pub wellSized : ℕ → ℕ → Bool
 wellSized kind n =
     cond (eqb kind 0) (eqb n 0) (cond (eqb kind 1) (leb 4 n && eqb (n % 4) 0) (cond (eqb kind 5) (eqb n 4) (ltb kind 5 && leb 4 n)))
 
--- how many bytes the entry takes; 0 where it is none
+-- how many bytes the entry takes; 0 where it is none (rule 12.3)
 unfoldable pub entrySize : List ℕ → ℕ
 entrySize s =
     cond (ltb (length s) 8) 0 (cond (wellSized (kindOf s) (sizeOf s)) (cond (ltb (length s - 8) (sizeOf s)) 0 (8 + sizeOf s)) 0)
@@ -47,6 +47,7 @@ unfoldable pub peerCall : List ℕ → ℕ → ℕ → List ℕ → Call
 peerCall image kind n rest =
     cond (eqb kind 2) (claims image n rest) (cond (eqb kind 3) (releases n rest) (offers image n rest))
 
+-- the call of a kind and an argument (rule 12.3)
 unfoldable pub callOf : List ℕ → ℕ → List ℕ → Call
 callOf image kind a =
     cond (eqb kind 0) starts
@@ -66,6 +67,6 @@ calls image zero s = []
 calls image (suc n) s =
     elim (eqb (length s) 0) [ true ↦ [] | false ↦ callOf image (kindOf s) (argumentOf s) ∷ calls image n (drop (entrySize s) s) ]
 
--- the calls of a script under one image; none where its layout is broken
+-- the calls of a script under one image; none where its layout is broken (rule 12.3)
 unfoldable pub decode : List ℕ → List ℕ → Option (List Call)
 decode image s = cond (layout (length s) s) (some (calls image (length s) s)) none

@@ -1,4 +1,4 @@
--- The parts of a run: one entry, its call and its place; the count of entries; all of them. Assumes nothing: these are definitions.
+-- The parts of a run: one entry, its call and its place; the count of entries; all of them.
 use mathlib.Core.Bool.{true}
 use mathlib.Core.List.{List, [], _∷_, _++_}
 use mathlib.Core.Path.{_≡_}

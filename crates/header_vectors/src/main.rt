@@ -1,4 +1,4 @@
-// Runs vectors of heads, names and signatures: a line for each, with what is fed and what comes back. Of a head that is 01's answer
+// Runs vectors of heads, names and signatures: a line for each, with what is fed and what comes back. Of a head that is the answer
 // number, where 0 is a whole head and 10 one that has not come whole; of a name or a signature 1 where it is good.
 use header::Reading;
 use names::Form;
@@ -69,7 +69,7 @@ fn first(what: &[u8], big: bool, kind: u8, version: u8, body: u32, serial: u32, 
     head(what, &bytes);
 }
 
-// 01's call C: path `/` at byte 24, member `M` at byte 40.
+// Call C (rule 13.1): path `/` at byte 24, member `M` at byte 40.
 fn call(big: bool) -> [u8; 48] {
     if big {
         *b"B\x01\0\x01\0\0\0\0\0\0\0\x01\0\0\0\x1a\x01\x01o\0\0\0\0\x01/\0\0\0\0\0\0\0\x03\x01s\0\0\0\0\x01M\0\0\0\0\0\0\0"

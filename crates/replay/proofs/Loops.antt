@@ -1,4 +1,4 @@
--- What the loops keep: the lengths of the slices that they write, and how far they are. Assumes nothing.
+-- What the loops keep: the lengths of the slices that they write, and how far they are.
 use mathlib.Core.Path.{_≡_}
 use mathlib.Core.List.{List}
 use Prim.Native.Nat.{ℕ, _≤_}

@@ -1,4 +1,4 @@
--- `bench_calls::bench_decide` meets its contract. Assumes nothing.
+-- `bench_calls::bench_decide` meets its contract.
 use Rattle.bench_calls.proofs.Tested.{testing}
 use Rattle.bench_calls.proofs.bench_decide.Statement.{statement}
 use Rattle.bench_calls.proofs.bench_decide.Tie as tie

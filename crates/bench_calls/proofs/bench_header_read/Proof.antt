@@ -1,4 +1,4 @@
--- `bench_calls::bench_header_read` meets its contract. Assumes nothing.
+-- `bench_calls::bench_header_read` meets its contract.
 use Rattle.bench_calls.proofs.Tested.{reading}
 use Rattle.bench_calls.proofs.bench_header_read.Statement.{statement}
 use Rattle.bench_calls.proofs.bench_header_read.Tie as tie

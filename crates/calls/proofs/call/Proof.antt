@@ -1,4 +1,4 @@
--- `calls::call` meets its contract. Assumes nothing.
+-- `calls::call` meets its contract.
 use Rattle.calls.proofs.Called.{calling}
 use Rattle.calls.proofs.call.Statement.{statement}
 use Rattle.calls.proofs.call.Tie as tie

@@ -1,4 +1,4 @@
--- `calls::connect` meets its contract. Assumes nothing.
+-- `calls::connect` meets its contract.
 use Rattle.calls.proofs.Called.{connecting}
 use Rattle.calls.proofs.connect.Statement.{statement}
 use Rattle.calls.proofs.connect.Tie as tie

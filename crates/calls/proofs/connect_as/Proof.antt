@@ -1,4 +1,4 @@
--- `calls::connect_as` meets its contract. Assumes nothing.
+-- `calls::connect_as` meets its contract.
 use Rattle.calls.proofs.Called.{connecting}
 use Rattle.calls.proofs.connect_as.Statement.{statement}
 use Rattle.calls.proofs.connect_as.Tie as tie

@@ -1,4 +1,4 @@
--- `calls::count_calls` meets its contract. Assumes nothing.
+-- `calls::count_calls` meets its contract.
 use lib.ListN.{length}
 use Rattle.calls.proofs.Entries.{Counting, counting}
 use Rattle.calls.proofs.count_calls.Statement.{statement}

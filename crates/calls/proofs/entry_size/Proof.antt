@@ -1,4 +1,4 @@
--- `calls::entry_size` meets its contract. Assumes nothing.
+-- `calls::entry_size` meets its contract.
 use Rattle.calls.proofs.Entries.{sizes}
 use Rattle.calls.proofs.entry_size.Statement.{statement}
 use Rattle.calls.proofs.entry_size.Tie as tie

@@ -1,4 +1,4 @@
--- `calls::is_sized` meets its contract. Assumes nothing.
+-- `calls::is_sized` meets its contract.
 use Rattle.calls.proofs.Entries.{kinds}
 use Rattle.calls.proofs.is_sized.Statement.{statement}
 use Rattle.calls.proofs.is_sized.Tie as tie

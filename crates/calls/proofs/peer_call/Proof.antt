@@ -1,4 +1,4 @@
--- `calls::peer_call` meets its contract. Assumes nothing.
+-- `calls::peer_call` meets its contract.
 use Rattle.calls.proofs.Called.{peering}
 use Rattle.calls.proofs.peer_call.Statement.{statement}
 use Rattle.calls.proofs.peer_call.Tie as tie

@@ -1,4 +1,4 @@
--- `calls::plain_report` meets its contract. Assumes nothing.
+-- `calls::plain_report` meets its contract.
 use Rattle.calls.proofs.Called.{showing}
 use Rattle.calls.proofs.plain_report.Statement.{statement}
 use Rattle.calls.proofs.plain_report.Tie as tie

@@ -1,4 +1,4 @@
--- `calls::put` meets its contract. Assumes nothing.
+-- `calls::put` meets its contract.
 use Rattle.calls.proofs.Words.{putting}
 use Rattle.calls.proofs.put.Statement.{statement}
 use Rattle.calls.proofs.put.Tie as tie

@@ -1,4 +1,4 @@
--- `calls::read_gids` meets its contract. Assumes nothing.
+-- `calls::read_gids` meets its contract.
 use Prim.Native.Nat.{_-_}
 use Rattle.calls.proofs.Words.{Gathering, gathering}
 use Rattle.calls.proofs.read_gids.Statement.{statement}

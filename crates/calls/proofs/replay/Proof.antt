@@ -1,4 +1,4 @@
--- `calls::replay` meets its contract. Assumes nothing.
+-- `calls::replay` meets its contract.
 use lib.ListN.{length}
 use Rattle.calls.proofs.Going.{Going, going}
 use Rattle.calls.proofs.replay.Statement.{statement}

@@ -1,4 +1,4 @@
--- `calls::run` meets its contract. Assumes nothing.
+-- `calls::run` meets its contract.
 use Rattle.calls.proofs.Going.{running, run-ready}
 use Rattle.calls.proofs.run.Statement.{statement}
 use Rattle.calls.proofs.run.Tie as tie

@@ -1,4 +1,4 @@
--- `calls::step` meets its contract. Assumes nothing.
+-- `calls::step` meets its contract.
 use Rattle.calls.proofs.Called.{stepping}
 use Rattle.calls.proofs.step.Statement.{statement}
 use Rattle.calls.proofs.step.Tie as tie

@@ -1,4 +1,4 @@
--- `calls::taken_report` meets its contract. Assumes nothing.
+-- `calls::taken_report` meets its contract.
 use Rattle.calls.proofs.Called.{showing}
 use Rattle.calls.proofs.taken_report.Statement.{statement}
 use Rattle.calls.proofs.taken_report.Tie as tie

@@ -1,4 +1,4 @@
--- `guard_scenarios::peers` meets its contract. Assumes nothing.
+-- `guard_scenarios::peers` meets its contract.
 use borrow.Author.Needs.{needs}
 use Prim.Native.Nat.{_-_, _≤_}
 use Rattle.guard_scenarios.proofs.peers.Statement.{statement}

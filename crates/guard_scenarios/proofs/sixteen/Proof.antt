@@ -1,4 +1,4 @@
--- `guard_scenarios::sixteen` meets its contract. Assumes nothing.
+-- `guard_scenarios::sixteen` meets its contract.
 use borrow.Author.Needs.{needs}
 use Prim.Native.Nat.{_-_, _≤_}
 use Rattle.guard_scenarios.proofs.sixteen.Statement.{statement}

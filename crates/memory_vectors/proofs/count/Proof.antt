@@ -1,4 +1,4 @@
--- `memory_vectors::count` meets its contract. Assumes nothing.
+-- `memory_vectors::count` meets its contract.
 use borrow.Author.Needs.{needs}
 use Prim.Native.Nat.{_-_, _≤_}
 use Rattle.memory_vectors.proofs.count.Statement.{statement}

@@ -1,4 +1,4 @@
--- `replay::calls` meets its contract. Assumes nothing.
+-- `replay::calls` meets its contract.
 use borrow.Author.Needs.{needs}
 use Rattle.replay.proofs.Loops.{Three}
 use Rattle.replay.proofs.calls.Statement.{statement}

@@ -1,4 +1,4 @@
--- `guard_scenarios::cuts::count_cuts` meets its contract. Assumes nothing.
+-- `guard_scenarios::cuts::count_cuts` meets its contract.
 use borrow.Author.Needs.{needs}
 use Prim.Native.Nat.{_-_, _≤_}
 use lib.ListN.{length}

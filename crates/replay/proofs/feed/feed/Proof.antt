@@ -1,4 +1,4 @@
--- `replay::feed::feed` meets its contract. Assumes nothing.
+-- `replay::feed::feed` meets its contract.
 use borrow.Author.Needs.{needs}
 use Rattle.replay.proofs.Loops.{Two}
 use Rattle.replay.proofs.feed.feed.Statement.{statement}

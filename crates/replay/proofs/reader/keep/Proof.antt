@@ -1,4 +1,4 @@
--- `replay::reader::keep` meets its contract. Assumes nothing.
+-- `replay::reader::keep` meets its contract.
 use Prim.Native.Nat.{_-_}
 use borrow.Author.Needs.{needs}
 use Rattle.replay.proofs.Loops.{Two}

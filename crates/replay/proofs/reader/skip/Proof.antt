@@ -1,4 +1,4 @@
--- `replay::reader::skip` meets its contract. Assumes nothing.
+-- `replay::reader::skip` meets its contract.
 use borrow.Author.Needs.{needs}
 use Rattle.replay.proofs.Loops.{One}
 use Rattle.replay.proofs.reader.skip.Statement.{statement}

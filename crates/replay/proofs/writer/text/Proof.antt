@@ -1,4 +1,4 @@
--- `replay::writer::text` meets its contract. Assumes nothing.
+-- `replay::writer::text` meets its contract.
 use Prim.Native.Nat.{_-_}
 use lib.ListN.{length}
 use borrow.Author.Needs.{needs}

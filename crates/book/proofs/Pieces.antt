@@ -1,0 +1,156 @@
+-- What an answer says of the piece that was given it, over any streams: 1 to 9 that a head broke, 0 and 20 to 26 that a message ended.
+use mathlib.Core.Path.{_≡_, refl, sym, ap, _∙_}
+use mathlib.Core.Logic.{_⊎_, inl, inr}
+use mathlib.Core.Bool.{Bool, true, false, cond, false≢true}
+use mathlib.Core.List.{List, [], _∷_}
+use Prim.Native.Nat.{ℕ, _≤_}
+use native.Mathlib.Omega.{arith}
+use lib.Dec.{eqb}
+use borrow.Author.Tests.{eqb-true, eq-eqb}
+use Rattle.image.specs.Good.{imageAnswer}
+use Rattle.header.specs.declared.Header.{Header}
+use Rattle.stream.specs.Stream.{Verdict, more, broken, whole, Streams, Offer, offer, settled}
+use Rattle.stream.specs.Steps.{follows}
+use Rattle.stream.specs.Tail.{isBroken}
+use Rattle.stream.proofs.Offers.{offer-step}
+use Rattle.rules.specs.State.{Slot, free, peer, Peer, State, isPeer, firstBy, putSlot, withStream}
+use Rattle.rules.specs.Judge.{judged}
+use Rattle.rules.specs.Calls.{Step, stays, slotAt, noPiece, offered, offeredTo, pieceAt, piece}
+use Rattle.rules.specs.declared.Taken.{Taken}
+use Rattle.rules.proofs.First.{first-passes, taken-below}
+use Rattle.book.specs.Lists.{underImage}
+use Rattle.book.specs.Messages.{Takes}
+use Rattle.book.proofs.Numbers.{isJudged, judged-low, judged-proper}
+use Rattle.book.proofs.Images.{image-refuses}
+use Rattle.book.proofs.Ways.{at-open}
+
+-- ---- numbers
+
+judged-no-fault : (a : ℕ) → isJudged a ≡ true → 1 ≤ a → a ≤ 9 → ⊥
+judged-no-fault a h l k = go (judged-low a h)
+  where
+    go : (a ≡ 0) ⊎ ((20 ≤ a) × (a ≤ 26)) → ⊥
+    go (inl q) = omega arith
+    go (inr q) = omega (arith, q .0)
+
+judged-few : (a : ℕ) → isJudged a ≡ true → a ≤ 26
+judged-few a h = go (judged-low a h)
+  where
+    go : (a ≡ 0) ⊎ ((20 ≤ a) × (a ≤ 26)) → a ≤ 26
+    go (inl q) = omega arith
+    go (inr q) = q .1
+
+-- ---- the peer that a number finds
+
+pub number-found : {S : Type 0} (s : State S) (n : ℕ) (p : Peer S) → slotAt s (firstBy (isPeer n) (s .slots)) ≡ peer p → p .number ≡ n
+number-found s n p e =
+    eqb-true (p .number) n
+    (sym (ap (isPeer n) e) ∙ first-passes (isPeer n) (s .slots) free (taken-below (s .slots) (firstBy (isPeer n) (s .slots)) p e))
+
+module _ {S : Type 0} (O : Streams S) where
+  -- the stream that a broken head leaves is judged so
+  offer-breaks : (t : S) (p : List ℕ) (a : ℕ) → offer O t p .verdict ≡ broken a → O .judge (offer O t p .stream) ≡ broken a
+  unfolding offer
+  offer-breaks t [] a e = let z : _≡_ {A = ℕ} 0 1 = cc in absurd (omega arith)
+  offer-breaks t (b ∷ p) a e =
+      ap (λ (o : Offer S). O .judge (o .stream)) (offer-step O t b p)
+      ∙ go (O .judge (O .push t b)) refl (ap (λ (o : Offer S). o .verdict) (sym (offer-step O t b p)) ∙ e) (offer-breaks (O .push t b) p a)
+    where
+      go : (v : Verdict) → O .judge (O .push t b) ≡ v → follows v (O .push t b) (offer O (O .push t b) p) .verdict ≡ broken a
+          → (offer O (O .push t b) p .verdict ≡ broken a → O .judge (offer O (O .push t b) p .stream) ≡ broken a)
+          → O .judge (follows v (O .push t b) (offer O (O .push t b) p) .stream) ≡ broken a
+      go more q c ih = ih c
+      go (broken n) q c ih = q ∙ c
+      go (whole k y) q c ih = let z : _≡_ {A = ℕ} 0 1 = cc in absurd (omega arith)
+
+  module _ (image : List ℕ) (z : State S) (i : ℕ) (q : Peer S) (k : ℕ) where
+    fault-broken : (v : Verdict) (a : ℕ) → offered image z i q k v .result .judgement .answer ≡ a → 1 ≤ a → a ≤ 9 → v ≡ broken a
+    fault-broken more a e l m = absurd (omega arith)
+    fault-broken (broken c) a e l m = ap broken e
+    fault-broken (whole h x) a e l m =
+        let j = judged image z i q h x .judgement .answer in
+        absurd (judged-no-fault j (judged-proper image z i q x h) (omega arith) (omega arith))
+
+    judged-whole : (v : Verdict) → ((a : ℕ) → v ≡ broken a → (1 ≤ a) × (a ≤ 9)) → isJudged (offered image z i q k v .result .judgement .answer) ≡ true
+        → (h : List ℕ) × (x : Header) × (v ≡ whole h x)
+    judged-whole more f e = absurd (false≢true e)
+    judged-whole (broken c) f e = absurd (judged-no-fault c e (f c refl .0) (f c refl .1))
+    judged-whole (whole h x) f e = (h, x, refl)
+
+  module _ (shut : (t : S) → O .closed t ≡ isBroken (O .judge t)) (image : List ℕ) (s : State S) (n : ℕ) (bytes : List ℕ) where
+    abbrev place : ℕ
+    place = firstBy (isPeer n) (s .slots)
+
+    -- a piece under an image
+    abbrev pub pieceUnder : Step S Taken
+    pieceUnder = underImage noPiece image s (piece O image s n bytes)
+
+    -- ---- a piece that is taken
+
+    abbrev comes : (p : Peer S) → Verdict → Step S Taken
+    comes p v =
+        let o = offer O (p .stream) bytes in
+        let q = withStream p (settled O v (o .stream)) in
+        offered image (putSlot s place (peer q)) place q (o .taken) v
+
+    takes-is : (t : Takes O s image n) → pieceUnder ≡ comes (t .sender) (offer O (t .sender .stream) bytes .verdict)
+    takes-is t = rw (eq-eqb (imageAnswer image) 0 (t .passed)) (at-open O shut image n s (t .sender) (t .sits) (t .unbroken) bytes)
+
+    takes-at : (y : Slot S) → slotAt s place ≡ y → imageAnswer image ≡ 0 → pieceAt O image s place y bytes .result .judgement .answer ≤ 26 → Takes O s image n
+    takes-at free e i l = absurd (omega arith)
+    takes-at (peer p) e i l = go (O .closed (p .stream)) refl l
+      where
+        go : (c : Bool) → O .closed (p .stream) ≡ c
+            → cond c (stays s (noPiece 40)) (offeredTo O image s place p (offer O (p .stream) bytes)) .result .judgement .answer ≤ 26
+            → Takes O s image n
+        go true c k = absurd (omega arith)
+        go false c k = record { passed = i; sender = p; sits = e; unbroken = c }
+
+    -- an answer below 30 says that it was
+    pub low-takes : pieceUnder .result .judgement .answer ≤ 26 → Takes O s image n
+    unfolding piece
+    low-takes l = go (eqb (imageAnswer image) 0) refl l
+      where
+        go : (c : Bool) → eqb (imageAnswer image) 0 ≡ c
+            → cond c (piece O image s n bytes) (stays s (noPiece (imageAnswer image))) .result .judgement .answer ≤ 26
+            → Takes O s image n
+        go true e k = takes-at (slotAt s place) refl (eqb-true (imageAnswer image) 0 e) k
+        go false e k = absurd (omega (arith, image-refuses image e .high))
+
+    -- ---- a head that breaks
+
+    pub record Breaks (a : ℕ) : Type 0 where
+      pub takes : Takes O s image n
+      pub stream : S
+      pub reads : O .judge stream ≡ broken a
+      pub state : pieceUnder .state ≡ putSlot s place (peer (withStream (takes .sender) stream))
+
+    pub piece-breaks : (a : ℕ) → pieceUnder .result .judgement .answer ≡ a → 1 ≤ a → a ≤ 9 → Breaks a
+    piece-breaks a e l k =
+        let t = low-takes (omega arith) in
+        let p = t .sender in
+        let o = offer O (p .stream) bytes in
+        let q = withStream p (settled O (o .verdict) (o .stream)) in
+        let c = takes-is t in
+        let v = fault-broken image (putSlot s place (peer q)) place q (o .taken) (o .verdict) a (sym (ap (λ (z : Step S Taken). z .result .judgement .answer) c) ∙ e) l k in
+        record { takes = t; stream = o .stream; reads = offer-breaks (p .stream) bytes a v; state = ap (λ (z : Step S Taken). z .state) (c ∙ ap (comes p) v) }
+
+    -- ---- a message that ends
+
+    pub piece-ends : (faults : (t : S) (a : ℕ) → offer O t bytes .verdict ≡ broken a → (1 ≤ a) × (a ≤ 9)) → isJudged (pieceUnder .result .judgement .answer) ≡ true
+        → (t : Takes O s image n) × (h : List ℕ) × (x : Header) × (offer O (t .sender .stream) bytes .verdict ≡ whole h x)
+    piece-ends faults j =
+        let t = low-takes (judged-few (pieceUnder .result .judgement .answer) j) in
+        let p = t .sender in
+        let o = offer O (p .stream) bytes in
+        let q = withStream p (settled O (o .verdict) (o .stream)) in
+        let w = judged-whole image (putSlot s place (peer q)) place q (o .taken) (o .verdict) (faults (p .stream)) (ap (λ (z : Step S Taken). isJudged (z .result .judgement .answer)) (sym (takes-is t)) ∙ j) in
+        (t, w .0, w .1, w .2)
+
+    -- the sender, with its message consumed
+    abbrev pub consumed : Peer S → Peer S
+    consumed p = withStream p (O .next (offer O (p .stream) bytes .stream))
+
+    pub ends-is : (t : Takes O s image n) (h : List ℕ) (x : Header) → offer O (t .sender .stream) bytes .verdict ≡ whole h x
+        → pieceUnder ≡ comes (t .sender) (whole h x)
+    ends-is t h x e = takes-is t ∙ ap (comes (t .sender)) e
