@@ -1,4 +1,4 @@
--- `wire::equal_words` meets its contract. Assumes nothing.
+-- `wire::equal_words` meets its contract.
 use Prim.Native.Nat.{_-_}
 use lib.ListN.{length}
 use Rattle.wire.proofs.Blocks.{Equals, equal}
@@ -18,11 +18,12 @@ equal-words-spec =
     Inv-loop
     μ-loop
     (λ c. search equal)
+    (λ c κs. search equal)
+    (λ c. search equal)
     (λ c. search equal)
     (λ c κs. search equal)
     (λ c. search equal)
     (λ c. search equal)
     (λ c. search equal)
     (λ c. search equal)
-    (λ c κs. search equal)
     (λ c. search equal))
