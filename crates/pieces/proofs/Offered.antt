@@ -71,7 +71,7 @@ module _ (image : List ℕ) (s : State Tail) (i : ℕ) (p : Peer Tail) (o : Offe
   broken-step a e = rw e
 
   -- over the state z in which the message is consumed, and its peer q
-  whole-step : (h : List ℕ) (x : Header) → o .verdict ≡ whole h x → (z : State Tail) (q : Peer Tail) → z ≡ putSlot s i (peer (withStream p fresh)) → q ≡ withStream p fresh
+  pub whole-step : (h : List ℕ) (x : Header) → o .verdict ≡ whole h x → (z : State Tail) (q : Peer Tail) → z ≡ putSlot s i (peer (withStream p fresh)) → q ≡ withStream p fresh
       → offeredTo tails image s i p o
       ≡ record { state = judged image z i q h x .state; result = record { judgement = judged image z i q h x .judgement; taken = o .taken } }
   whole-step h x e z q a b = rw (e, a, b)

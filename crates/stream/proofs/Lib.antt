@@ -8,3 +8,4 @@ mod Gives
 mod Beginning
 mod Onward
 mod Tests
+pub mod Once
