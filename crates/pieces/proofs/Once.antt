@@ -25,7 +25,7 @@ use Rattle.rules.specs.Judge.{judged}
 use Rattle.rules.specs.Calls.{offeredTo, piece}
 use Rattle.rules.specs.declared.Judgement.{Judgement}
 use Rattle.rules.specs.declared.Taken.{Taken}
-use Rattle.memory.specs.Layout.{slotStart, takenAt}
+use Rattle.memory.specs.Layout.{slotStart, takenAt, headRoom}
 use Rattle.memory.specs.Encoding.{stateOf}
 use Rattle.memory.specs.Places.{Found}
 use Rattle.memory.specs.Sound.{Held}
@@ -36,7 +36,7 @@ use Rattle.pieces.proofs.Seats.{peer-is, fine}
 use Rattle.pieces.proofs.Offered.{whole-step, piece-seat, piece-offered, piecing}
 
 -- a head that is whole is small, so that its length and its body's are a number of the machine
-pub once-small : (bytes : List ℕ) (x : Header) {q : Reading} → q ≡ readHeader bytes → q ≡ Whole x → x .head ≤ 2048
+pub once-small : (bytes : List ℕ) (x : Header) {q : Reading} → q ≡ readHeader bytes → q ≡ Whole x → x .head ≤ headRoom
 once-small bytes x a b = whole-fits bytes x (sym a ∙ b) .head-small
 
 module _ (image m bytes : List ℕ) (f : (j : ℕ) → Fits w8 (getD m j 0)) (i : ℕ) (s : Seated m i) (n : peerAt m i .stream .taken ≡ 0) where

@@ -24,7 +24,7 @@ ghost use Rattle.slots.specs.Slots.{peerAt, Seated};
 ghost use Rattle.pieces.specs.Fed.{streamIn, Opens, Fed, FedAt, cleared, headIn, behindIn, Completed};
 ghost use Rattle.image.specs.Contracts.{GoodImage};
 ghost use Rattle.rules.specs.Calls.{offeredTo, piece};
-ghost use Rattle.memory.specs.Layout.{memoryLength};
+ghost use Rattle.memory.specs.Layout.{memoryLength, headRoom};
 ghost use Rattle.memory.specs.Encoding.{stateOf};
 ghost use Rattle.memory.specs.Sound.{Held};
 ghost use Rattle.memory.specs.Calls.{stored, Did};
@@ -70,7 +70,7 @@ fn is_closed_at(memory: &[u8], i: usize) -> bool
 
 // The message of slot i is consumed: no byte of it is kept. Its head has n bytes, and what is behind them is zero.
 fn settle_at(memory: &mut [u8], i: usize, n: usize)
-    requires { ⌜ (length (now memory) ≡ memoryLength) × (i < 16) × (n ≤ 2048) × (behindIn (now memory) i n ≡ replicate (2048 - n) 0) ⌝ }
+    requires { ⌜ (length (now memory) ≡ memoryLength) × (i < 16) × (n ≤ headRoom) × (behindIn (now memory) i n ≡ replicate (headRoom - n) 0) ⌝ }
     ensures { λ r. ⌜ now (memory .exit) ≡ cleared (now (memory .entry)) i ⌝ }
 {
     let from = SLOTS_AT + SLOT_LENGTH * i + TAKEN_AT;
@@ -80,7 +80,7 @@ fn settle_at(memory: &mut [u8], i: usize, n: usize)
 
 // A copy of the first n bytes of the head that slot i keeps.
 fn head_of(memory: &[u8], i: usize, n: usize) -> [u8; 2048]
-    requires { ⌜ (length (now memory) ≡ memoryLength) × (i < 16) × (n ≤ 2048) ⌝ }
+    requires { ⌜ (length (now memory) ≡ memoryLength) × (i < 16) × (n ≤ headRoom) ⌝ }
     ensures { λ r. ⌜ take n r ≡ headIn (now (memory .entry)) i n ⌝ }
 {
     let mut head = [0u8; 2048];
@@ -133,7 +133,7 @@ fn piece_at(image: &[u8], memory: &mut [u8], i: usize, bytes: &[u8]) -> Taken
 
 // How long a whole message is: its head and its body.
 fn length_of(header: Header) -> usize
-    requires { ⌜ header .head ≤ 2048 ⌝ }
+    requires { ⌜ header .head ≤ headRoom ⌝ }
     ensures { λ r. ⌜ r ≡ header .head + header .body ⌝ }
 {
     header.head + header.body as usize
