@@ -16,6 +16,7 @@ use Rattle.names.specs.declared.Form.the-variants.{WellKnown}
 use Rattle.policy.specs.Names.{owns}
 use Rattle.rules.specs.Addresses.{ownable}
 use Rattle.rules.specs.Calls.{isOwner}
+use Rattle.memory.specs.Layout.{slotStart, firstName, nameWidth}
 use Rattle.memory.specs.Encoding.{stateOf}
 use Rattle.memory.specs.Good.{goodNames}
 use Rattle.memory.specs.Places.{Found}
@@ -32,13 +33,13 @@ pub ruleset ownables = (is-ownable, needs)
 
 -- ---- name j: x is its text, as the code cuts it
 
-module _ (m : List ℕ) (i j b : ℕ) (e : b ≡ getD m (4 + 3292 * i + 212 + 256 * j) 0) where
+module _ (m : List ℕ) (i j b : ℕ) (e : b ≡ getD m (slotStart i + firstName + nameWidth * j) 0) where
   -- the text that the code lends
   abbrev text : List ℕ
-  text = take (4 + 3292 * i + 212 + 256 * j + 1 + b - (4 + 3292 * i + 212 + 256 * j + 1)) (drop (4 + 3292 * i + 212 + 256 * j + 1) m)
+  text = take (slotStart i + firstName + nameWidth * j + 1 + b - (slotStart i + firstName + nameWidth * j + 1)) (drop (slotStart i + firstName + nameWidth * j + 1) m)
 
   text-is : text ≡ nameAt m i j
-  text-is = cut-at (4 + 3292 * i + 212 + 256 * j + 1) b m ∙ rw e
+  text-is = cut-at (slotStart i + firstName + nameWidth * j + 1) b m ∙ rw e
 
   module _ (o : Bool) (p : o ≡ ownable text) where
     pub name-bad : not o ≡ true → false ≡ nameTest m i j
@@ -68,7 +69,7 @@ pub naming-begins : {m : List ℕ} {i count : ℕ} → count ≡ length (peerAt 
 naming-begins e h = record { few = h; counted = e; left = refl }
 
 module _ {m : List ℕ} {i count j : ℕ} (l : Naming m i count j) where
-  module _ (h : j < count) (b : getD m (4 + 3292 * i + 212 + 256 * j) 0 < 256) {r : Bool} (e : r ≡ nameTest m i j) where
+  module _ (h : j < count) (b : getD m (slotStart i + firstName + nameWidth * j) 0 < 256) {r : Bool} (e : r ≡ nameTest m i j) where
     -- name j, and those after it
     step : goodNames (drop j (peerAt m i .names)) (drop (i + 1) (stateOf m .slots))
         ≡ nameTest m i j && goodNames (drop (j + 1) (peerAt m i .names)) (drop (i + 1) (stateOf m .slots))

@@ -22,6 +22,7 @@ use Rattle.tables.proofs.Same.{same-zeros, same-split, table-same, plain-always
 use Rattle.policy.specs.Names.{cellOf, nameOf}
 use Rattle.stream.specs.Tail.{Tail}
 use Rattle.rules.specs.State.{Slot, free, peer}
+use Rattle.memory.specs.Layout.{memoryLength, slotLength, slotStart, gidsAt, gidWidth, gidRoom, gidsLength, pendingAt, callWidth, callRoom, pendingLength, namesAt, firstName, nameWidth, nameRoom, namesLength, takenAt, headAt, firstByte, headRoom, streamLength}
 use Rattle.memory.specs.Encoding.{pendingBytes, headBytes, peerBytes, slotBytes, wordOf, pendingOf, slotOf}
 use Rattle.memory.specs.Places.{peerFrom}
 use Rattle.memory.proofs.Reading.{slot-take, peer-from}
@@ -94,47 +95,47 @@ pending-again b l f =
 
 -- ---- a whole slot
 
-module _ (m : List ℕ) (f : (i : ℕ) → getD m i 0 < 256) (a : ℕ) (h : a + 3292 ≤ length m) where
-  head-is : tableOf 1 2048 front (drop (a + 1240) m) ≡ take (min (wordAt Little m (a + 1240)) 2048) (drop (a + 1244) m)
+module _ (m : List ℕ) (f : (i : ℕ) → getD m i 0 < 256) (a : ℕ) (h : a + slotLength ≤ length m) where
+  head-is : tableOf 1 headRoom front (drop (a + headAt) m) ≡ take (min (wordAt Little m (a + headAt)) headRoom) (drop (a + firstByte) m)
   head-is =
-      let e : a + 1240 + 4 ≡ a + 1244 = omega arith in
-      sym (head-of (drop (a + 1240) m) (omega (arith, length-drop (a + 1240) m))) ∙ rw (word-front m (a + 1240), drop-drop 4 (a + 1240) m, e)
+      let e : a + headAt + 4 ≡ a + firstByte = omega arith in
+      sym (head-of (drop (a + headAt) m) (omega (arith, length-drop (a + headAt) m))) ∙ rw (word-front m (a + headAt), drop-drop 4 (a + headAt) m, e)
 
-  head-plain : same (headBytes (take (min (wordAt Little m (a + 1240)) 2048) (drop (a + 1244) m))) (take 2052 (drop (a + 1240) m)) ≡ tableTest m (a + 1240) 1 2048
+  head-plain : same (headBytes (take (min (wordAt Little m (a + headAt)) headRoom) (drop (a + firstByte) m))) (take 2052 (drop (a + headAt) m)) ≡ tableTest m (a + headAt) 1 headRoom
   head-plain =
-      ap (λ (z : List ℕ). same z (take 2052 (drop (a + 1240) m))) (ap headBytes (sym head-is) ∙ head-table (tableOf 1 2048 front (drop (a + 1240) m)))
-      ∙ table-plain m f 1 2048 single single-length front single-plain (a + 1240) (omega arith) (omega arith)
+      ap (λ (z : List ℕ). same z (take 2052 (drop (a + headAt) m))) (ap headBytes (sym head-is) ∙ head-table (tableOf 1 headRoom front (drop (a + headAt) m)))
+      ∙ table-plain m f 1 headRoom single single-length front single-plain (a + headAt) (omega arith) (omega arith)
 
-  pub peer-plain : same (peerBytes (peerFrom m a)) (take 3292 (drop a m))
-      ≡ tableTest m (a + 8) 4 16
-      && (tableTest m (a + 76) 8 16
-      && ((leb (wordAt Little m (a + 208)) 4 && plainCells cellOf nameOf 256 (wordAt Little m (a + 208)) (take 1024 (drop (a + 212) m)))
-      && tableTest m (a + 1240) 1 2048))
+  pub peer-plain : same (peerBytes (peerFrom m a)) (take slotLength (drop a m))
+      ≡ tableTest m (a + gidsAt) gidWidth gidRoom
+      && (tableTest m (a + pendingAt) callWidth callRoom
+      && ((leb (wordAt Little m (a + namesAt)) 4 && plainCells cellOf nameOf 256 (wordAt Little m (a + namesAt)) (take (nameWidth * nameRoom) (drop (a + firstName) m)))
+      && tableTest m (a + headAt) 1 headRoom))
   unfolding peerBytes
   peer-plain =
-      let g = tableBytes 4 16 wordBytes (tableOf 4 16 wordOf (drop (a + 8) m)) in
-      let p = tableBytes 8 16 pendingBytes (tableOf 8 16 pendingOf (drop (a + 76) m)) in
-      let n = tableBytes 256 4 cellOf (tableOf 256 4 nameOf (drop (a + 208) m)) in
-      let t = headBytes (take (min (wordAt Little m (a + 1240)) 2048) (drop (a + 1244) m)) in
-      let u : a + 4 + 4 ≡ a + 8 = omega arith in
-      let v : a + 8 + 68 ≡ a + 76 = omega arith in
-      let w : a + 76 + 132 ≡ a + 208 = omega arith in
-      let x : a + 208 + 1028 ≡ a + 1236 = omega arith in
-      let y : a + 1236 + 4 ≡ a + 1240 = omega arith in
-      let z : a + 208 + 4 ≡ a + 212 = omega arith in
-      word-same m f (wordBytes (wordAt Little m (a + 4)) ++ (g ++ (p ++ (n ++ (wordBytes (wordAt Little m (a + 1236)) ++ t))))) a 3292 (omega arith) (omega arith)
-      ∙ word-same m f (g ++ (p ++ (n ++ (wordBytes (wordAt Little m (a + 1236)) ++ t)))) (a + 4) 3288 (omega arith) (omega arith)
+      let g = tableBytes gidWidth gidRoom wordBytes (tableOf gidWidth gidRoom wordOf (drop (a + gidsAt) m)) in
+      let p = tableBytes callWidth callRoom pendingBytes (tableOf callWidth callRoom pendingOf (drop (a + pendingAt) m)) in
+      let n = tableBytes nameWidth nameRoom cellOf (tableOf nameWidth nameRoom nameOf (drop (a + namesAt) m)) in
+      let t = headBytes (take (min (wordAt Little m (a + headAt)) headRoom) (drop (a + firstByte) m)) in
+      let u : a + 4 + 4 ≡ a + gidsAt = omega arith in
+      let v : a + gidsAt + gidsLength ≡ a + pendingAt = omega arith in
+      let w : a + pendingAt + pendingLength ≡ a + namesAt = omega arith in
+      let x : a + namesAt + namesLength ≡ a + takenAt = omega arith in
+      let y : a + takenAt + 4 ≡ a + headAt = omega arith in
+      let z : a + namesAt + 4 ≡ a + firstName = omega arith in
+      word-same m f (wordBytes (wordAt Little m (a + 4)) ++ (g ++ (p ++ (n ++ (wordBytes (wordAt Little m (a + takenAt)) ++ t))))) a slotLength (omega arith) (omega arith)
+      ∙ word-same m f (g ++ (p ++ (n ++ (wordBytes (wordAt Little m (a + takenAt)) ++ t)))) (a + 4) 3288 (omega arith) (omega arith)
       ∙ rw u
-      (same-part g (p ++ (n ++ (wordBytes (wordAt Little m (a + 1236)) ++ t))) m (a + 8) 68 3284 (table-length 4 16 wordBytes (tableOf 4 16 wordOf (drop (a + 8) m))) (omega arith)
-      ∙ rw (v, table-plain m f 4 16 wordBytes word-length wordOf bytes-again (a + 8) (omega arith) (omega arith))
-      (ap (λ (b : Bool). tableTest m (a + 8) 4 16 && b)
-      (same-part p (n ++ (wordBytes (wordAt Little m (a + 1236)) ++ t)) m (a + 76) 132 3216 (table-length 8 16 pendingBytes (tableOf 8 16 pendingOf (drop (a + 76) m))) (omega arith)
-      ∙ rw (w, table-plain m f 8 16 pendingBytes pending-length pendingOf pending-again (a + 76) (omega arith) (omega arith))
-      (ap (λ (b : Bool). tableTest m (a + 76) 8 16 && b)
-      (same-part n (wordBytes (wordAt Little m (a + 1236)) ++ t) m (a + 208) 1028 3084 (table-length 256 4 cellOf (tableOf 256 4 nameOf (drop (a + 208) m))) (omega arith)
-      ∙ rw (x, table-cells m f 256 4 cellOf cell-length nameOf (a + 208) (omega arith) (omega arith), z)
-      (ap (λ (b : Bool). (leb (wordAt Little m (a + 208)) 4 && plainCells cellOf nameOf 256 (wordAt Little m (a + 208)) (take 1024 (drop (a + 212) m))) && b)
-      (word-same m f t (a + 1236) 2056 (omega arith) (omega arith) ∙ rw y head-plain)))))))
+      (same-part g (p ++ (n ++ (wordBytes (wordAt Little m (a + takenAt)) ++ t))) m (a + gidsAt) gidsLength (slotLength - gidsAt) (table-length gidWidth gidRoom wordBytes (tableOf gidWidth gidRoom wordOf (drop (a + gidsAt) m))) (omega arith)
+      ∙ rw (v, table-plain m f gidWidth gidRoom wordBytes word-length wordOf bytes-again (a + gidsAt) (omega arith) (omega arith))
+      (ap (λ (b : Bool). tableTest m (a + gidsAt) gidWidth gidRoom && b)
+      (same-part p (n ++ (wordBytes (wordAt Little m (a + takenAt)) ++ t)) m (a + pendingAt) pendingLength (slotLength - pendingAt) (table-length callWidth callRoom pendingBytes (tableOf callWidth callRoom pendingOf (drop (a + pendingAt) m))) (omega arith)
+      ∙ rw (w, table-plain m f callWidth callRoom pendingBytes pending-length pendingOf pending-again (a + pendingAt) (omega arith) (omega arith))
+      (ap (λ (b : Bool). tableTest m (a + pendingAt) callWidth callRoom && b)
+      (same-part n (wordBytes (wordAt Little m (a + takenAt)) ++ t) m (a + namesAt) namesLength (slotLength - namesAt) (table-length nameWidth nameRoom cellOf (tableOf nameWidth nameRoom nameOf (drop (a + namesAt) m))) (omega arith)
+      ∙ rw (x, table-cells m f nameWidth nameRoom cellOf cell-length nameOf (a + namesAt) (omega arith) (omega arith), z)
+      (ap (λ (b : Bool). (leb (wordAt Little m (a + namesAt)) 4 && plainCells cellOf nameOf 256 (wordAt Little m (a + namesAt)) (take (nameWidth * nameRoom) (drop (a + firstName) m))) && b)
+      (word-same m f t (a + takenAt) streamLength (omega arith) (omega arith) ∙ rw y head-plain)))))))
 
 and-assoc : (a b c d : Bool) → a && (b && (c && d)) ≡ a && b && c && d
 and-assoc true true c d = refl
@@ -142,25 +143,25 @@ and-assoc true false c d = refl
 and-assoc false b c d = refl
 
 -- slot i has a peer, and is the bytes of what is read off it where it has its shape
-pub slot-plain : (m : List ℕ) → ((i : ℕ) → getD m i 0 < 256) → length m ≡ 52676 → (i : ℕ) → i < 16 → (wordAt Little m (4 + 3292 * i) ≡ 0 → ⊥)
-    → same (slotBytes (slotOf (take 3292 (drop (4 + 3292 * i) m)))) (take 3292 (drop (4 + 3292 * i) m)) ≡ shapeTest m i
+pub slot-plain : (m : List ℕ) → ((i : ℕ) → getD m i 0 < 256) → length m ≡ memoryLength → (i : ℕ) → i < 16 → (wordAt Little m (slotStart i) ≡ 0 → ⊥)
+    → same (slotBytes (slotOf (take slotLength (drop (slotStart i) m)))) (take slotLength (drop (slotStart i) m)) ≡ shapeTest m i
 unfolding slotOf slotBytes shapeTest cellsTest
 slot-plain m f l i h e =
-    let a = 4 + 3292 * i in
-    let q : slotOf (take 3292 (drop a m)) ≡ peer (peerFrom m a)
+    let a = slotStart i in
+    let q : slotOf (take slotLength (drop a m)) ≡ peer (peerFrom m a)
     = slot-take (drop a m) ∙ rw (word-front m a, ne-eqb (wordAt Little m a) 0 e) (ap peer (peer-from m a)) in
-    ap (λ (x : Slot Tail). same (slotBytes x) (take 3292 (drop a m))) q
+    ap (λ (x : Slot Tail). same (slotBytes x) (take slotLength (drop a m))) q
     ∙ peer-plain m f a (omega arith)
-    ∙ and-assoc (tableTest m (a + 8) 4 16) (tableTest m (a + 76) 8 16)
-    (leb (wordAt Little m (a + 208)) 4 && plainCells cellOf nameOf 256 (wordAt Little m (a + 208)) (take 1024 (drop (a + 212) m)))
-    (tableTest m (a + 1240) 1 2048)
+    ∙ and-assoc (tableTest m (a + gidsAt) gidWidth gidRoom) (tableTest m (a + pendingAt) callWidth callRoom)
+    (leb (wordAt Little m (a + namesAt)) 4 && plainCells cellOf nameOf 256 (wordAt Little m (a + namesAt)) (take (nameWidth * nameRoom) (drop (a + firstName) m)))
+    (tableTest m (a + headAt) 1 headRoom)
 
 -- a free slot is all zero
-pub free-plain : (m : List ℕ) → length m ≡ 52676 → (i : ℕ) → i < 16 → wordAt Little m (4 + 3292 * i) ≡ 0
-    → same (slotBytes (slotOf (take 3292 (drop (4 + 3292 * i) m)))) (take 3292 (drop (4 + 3292 * i) m)) ≡ allZero (take 3292 (drop (4 + 3292 * i) m))
+pub free-plain : (m : List ℕ) → length m ≡ memoryLength → (i : ℕ) → i < 16 → wordAt Little m (slotStart i) ≡ 0
+    → same (slotBytes (slotOf (take slotLength (drop (slotStart i) m)))) (take slotLength (drop (slotStart i) m)) ≡ allZero (take slotLength (drop (slotStart i) m))
 unfolding slotOf slotBytes
 free-plain m l i h e =
-    let a = 4 + 3292 * i in
-    let q : slotOf (take 3292 (drop a m)) ≡ free = slot-take (drop a m) ∙ rw (word-front m a, e) in
-    let k : length (take 3292 (drop a m)) ≡ 3292 = length-take-le 3292 (drop a m) (omega (arith, length-drop a m)) in
-    ap (λ (x : Slot Tail). same (slotBytes x) (take 3292 (drop a m))) q ∙ rw k at (same-zeros (take 3292 (drop a m)))
+    let a = slotStart i in
+    let q : slotOf (take slotLength (drop a m)) ≡ free = slot-take (drop a m) ∙ rw (word-front m a, e) in
+    let k : length (take slotLength (drop a m)) ≡ slotLength = length-take-le slotLength (drop a m) (omega (arith, length-drop a m)) in
+    ap (λ (x : Slot Tail). same (slotBytes x) (take slotLength (drop a m))) q ∙ rw k at (same-zeros (take slotLength (drop a m)))

@@ -19,6 +19,7 @@ use Rattle.wire.proofs.Parts.{drop-take}
 use Rattle.tables.specs.Tables.{plainCells}
 use Rattle.tables.proofs.Same.{same-pad, plain-next, plain-end}
 use Rattle.policy.specs.Names.{cellOf, nameOf}
+use Rattle.memory.specs.Layout.{memoryLength, slotStart, namesAt, firstName, nameWidth, nameRoom, takenAt, headRoom}
 use Rattle.memory.proofs.Frame.{cell-length}
 use Rattle.slots.proofs.Cells.{cell-front}
 use Rattle.audit.specs.Tests.{plainCell, tableTest, cellsTest}
@@ -28,7 +29,7 @@ use Rattle.audit.specs.Tests.{plainCell, tableTest, cellsTest}
 pub scale-low : (w n k : ℕ) → n ≤ k → w * n ≤ w * k
 scale-low w n k h = mul-le-mul-left w h
 
-pub scale-fits : (w n k : ℕ) → n ≤ k → w * k ≤ 2048 → Fits w64 (w * n)
+pub scale-fits : (w n k : ℕ) → n ≤ k → w * k ≤ headRoom → Fits w64 (w * n)
 scale-fits w n k h l = record { fits = omega (arith, mul-le-mul-left w h) }
 
 pub ruleset scaling = (scale-low, scale-fits, needs)
@@ -77,30 +78,30 @@ module _ (m : List ℕ) (a b : ℕ) (e : b ≡ getD m a 0) (s : b < 256) (l : a 
       cell-split (take 256 (drop a m)) (rw (length-take 256 (drop a m)) (omega (arith, length-drop a m)))
       ∙ rw (front-is, rest, name-length, eq-eqb b b refl, same-pad b 255 (take 255 (drop (a + 1) m)) rest-length, k, drop-part b 255 (255 - b) (drop (a + 1) m) (omega arith), drop-drop b (a + 1) m)
 
-pub cell-is : (m : List ℕ) (i j b : ℕ) (r : Bool) → length m ≡ 52676 → i < 16 → j < 4 → b ≡ getD m (4 + 3292 * i + 212 + 256 * j) 0 → b < 256
-    → r ≡ allZero (take (4 + 3292 * i + 212 + 256 * j + 256 - (4 + 3292 * i + 212 + 256 * j + 1 + b)) (drop (4 + 3292 * i + 212 + 256 * j + 1 + b) m))
+pub cell-is : (m : List ℕ) (i j b : ℕ) (r : Bool) → length m ≡ memoryLength → i < 16 → j < 4 → b ≡ getD m (slotStart i + firstName + nameWidth * j) 0 → b < 256
+    → r ≡ allZero (take (slotStart i + firstName + nameWidth * j + 256 - (slotStart i + firstName + nameWidth * j + 1 + b)) (drop (slotStart i + firstName + nameWidth * j + 1 + b) m))
     → r ≡ plainCell m i j
 unfolding plainCell
-cell-is m i j b r l h k e s z = z ∙ sym (cell-plain m (4 + 3292 * i + 212 + 256 * j) b e s (omega arith))
+cell-is m i j b r l h k e s z = z ∙ sym (cell-plain m (slotStart i + firstName + nameWidth * j) b e s (omega arith))
 
 pub ruleset cell-tests = (cell-is, needs)
 
 -- ---- the cells of a slot, of which j are tested
 
 abbrev region : List ℕ → ℕ → List ℕ
-region m i = take 1024 (drop (4 + 3292 * i + 212) m)
+region m i = take (nameWidth * nameRoom) (drop (slotStart i + firstName) m)
 
 pub record Celling (m : List ℕ) (i n j : ℕ) : Type 0 where
   pub few : n ≤ 4
   pub inside : j ≤ n
-  pub counted : n ≡ wordAt Little m (4 + 3292 * i + 208)
-  pub left : cellsTest m i ≡ plainCells cellOf nameOf 256 (n - j) (drop (256 * j) (region m i))
+  pub counted : n ≡ wordAt Little m (slotStart i + namesAt)
+  pub left : cellsTest m i ≡ plainCells cellOf nameOf 256 (n - j) (drop (nameWidth * j) (region m i))
 
-pub celling-many : (m : List ℕ) (i n : ℕ) → n ≡ wordAt Little m (4 + 3292 * i + 208) → 4 < n → false ≡ cellsTest m i
+pub celling-many : (m : List ℕ) (i n : ℕ) → n ≡ wordAt Little m (slotStart i + namesAt) → 4 < n → false ≡ cellsTest m i
 unfolding cellsTest
 celling-many m i n e h = rw (← e, lt-leb n 4 h)
 
-pub celling-begins : {m : List ℕ} {i n : ℕ} → n ≡ wordAt Little m (4 + 3292 * i + 208) → n ≤ 4 → Celling m i n 0
+pub celling-begins : {m : List ℕ} {i n : ℕ} → n ≡ wordAt Little m (slotStart i + namesAt) → n ≤ 4 → Celling m i n 0
 unfolding cellsTest
 celling-begins {m} {i} {n} e h =
     let k : n - 0 ≡ n = omega arith in
@@ -108,16 +109,16 @@ celling-begins {m} {i} {n} e h =
 
 module _ {m : List ℕ} {i n j : ℕ} (l : Celling m i n j) where
   module _ (h : j < n) {r : Bool} (e : r ≡ plainCell m i j) where
-    cell-at : take 256 (drop (256 * j) (region m i)) ≡ take 256 (drop (4 + 3292 * i + 212 + 256 * j) m)
+    cell-at : take 256 (drop (nameWidth * j) (region m i)) ≡ take 256 (drop (slotStart i + firstName + nameWidth * j) m)
     cell-at =
         let f : n ≤ 4 = l .few in
-        rw (drop-part (256 * j) 1024 (1024 - 256 * j) (drop (4 + 3292 * i + 212) m) (omega arith), drop-drop (256 * j) (4 + 3292 * i + 212) m)
-        (take-take 256 (1024 - 256 * j) (drop (4 + 3292 * i + 212 + 256 * j) m) (omega arith))
+        rw (drop-part (nameWidth * j) (nameWidth * nameRoom) ((nameWidth * nameRoom) - nameWidth * j) (drop (slotStart i + firstName) m) (omega arith), drop-drop (nameWidth * j) (slotStart i + firstName) m)
+        (take-take 256 ((nameWidth * nameRoom) - nameWidth * j) (drop (slotStart i + firstName + nameWidth * j) m) (omega arith))
 
-    step : plainCells cellOf nameOf 256 (n - j) (drop (256 * j) (region m i)) ≡ plainCell m i j && plainCells cellOf nameOf 256 (n - (j + 1)) (drop (256 * (j + 1)) (region m i))
+    step : plainCells cellOf nameOf 256 (n - j) (drop (nameWidth * j) (region m i)) ≡ plainCell m i j && plainCells cellOf nameOf 256 (n - (j + 1)) (drop (256 * (j + 1)) (region m i))
     unfolding plainCell
     step =
-        let k : 256 * j + 256 ≡ 256 * (j + 1) = omega arith in
+        let k : nameWidth * j + 256 ≡ 256 * (j + 1) = omega arith in
         plain-next 256 cellOf cell-length nameOf n j (region m i) h ∙ rw (cell-at, k)
 
     pub celling-more : not r ≡ false → Celling m i n (j + 1)
@@ -128,15 +129,15 @@ module _ {m : List ℕ} {i n j : ℕ} (l : Celling m i n j) where
     celling-stops t = sym (l .left ∙ step ∙ rw (← e, not-true r t))
 
   pub celling-ends : n ≤ j → (r : Bool)
-      → r ≡ allZero (take (4 + 3292 * i + 1236 - (4 + 3292 * i + 212 + 256 * j)) (drop (4 + 3292 * i + 212 + 256 * j) m))
+      → r ≡ allZero (take (slotStart i + takenAt - (slotStart i + firstName + nameWidth * j)) (drop (slotStart i + firstName + nameWidth * j) m))
       → r ≡ cellsTest m i
   celling-ends h r z =
       let f : n ≤ 4 = l .few in
       let g : j ≤ n = l .inside in
-      let k : 4 + 3292 * i + 1236 - (4 + 3292 * i + 212 + 256 * j) ≡ 1024 - 256 * j = omega arith in
+      let k : slotStart i + takenAt - (slotStart i + firstName + nameWidth * j) ≡ (nameWidth * nameRoom) - nameWidth * j = omega arith in
       z
       ∙ sym (l .left
       ∙ plain-end 256 cellOf cell-length nameOf n j (region m i) h
-      ∙ rw (drop-part (256 * j) 1024 (1024 - 256 * j) (drop (4 + 3292 * i + 212) m) (omega arith), drop-drop (256 * j) (4 + 3292 * i + 212) m, k))
+      ∙ rw (drop-part (nameWidth * j) (nameWidth * nameRoom) ((nameWidth * nameRoom) - nameWidth * j) (drop (slotStart i + firstName) m) (omega arith), drop-drop (nameWidth * j) (slotStart i + firstName) m, k))
 
 pub ruleset celling = (celling-many, celling-begins, celling-more, celling-stops, celling-ends, needs)

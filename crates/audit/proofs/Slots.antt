@@ -19,6 +19,7 @@ use Rattle.tables.specs.Tables.{parts}
 use Rattle.tables.proofs.Cells.{parts-length}
 use Rattle.stream.specs.Tail.{goodTail}
 use Rattle.rules.specs.State.{free, peer, isPeer}
+use Rattle.memory.specs.Layout.{memoryLength, slotLength, slotStart, gidsAt, gidWidth, gidRoom, pendingAt, callWidth, callRoom, takenAt, headAt, firstByte, headRoom}
 use Rattle.memory.specs.Encoding.{slotOf, slotBytes, stateOf}
 use Rattle.memory.specs.Good.{goodNames, goodPending, goodPeer, goodSlot, goodSlots, plain, good}
 use Rattle.memory.specs.Places.{numberAt, Found}
@@ -30,9 +31,9 @@ use Rattle.audit.proofs.Plain.{slot-plain, free-plain}
 
 -- ---- its shape
 
-pub shape-is : (m : List ℕ) (i : ℕ) (a b c d : Bool) → a ≡ tableTest m (4 + 3292 * i + 8) 4 16 → b ≡ tableTest m (4 + 3292 * i + 76) 8 16
+pub shape-is : (m : List ℕ) (i : ℕ) (a b c d : Bool) → a ≡ tableTest m (slotStart i + gidsAt) gidWidth gidRoom → b ≡ tableTest m (slotStart i + pendingAt) callWidth callRoom
     → c ≡ cellsTest m i
-    → d ≡ tableTest m (4 + 3292 * i + 1240) 1 2048
+    → d ≡ tableTest m (slotStart i + headAt) 1 headRoom
     → a && b && c && d ≡ shapeTest m i
 unfolding shapeTest
 shape-is m i a b c d p q r s = rw (p, q, r, s)
@@ -41,17 +42,17 @@ pub ruleset shapes = (shape-is, needs)
 
 -- ---- its stream
 
-pub stream-is : (m : List ℕ) (i t n s : ℕ) (r : Bool) → t ≡ wordAt Little m (4 + 3292 * i + 1236) → n ≡ wordAt Little m (4 + 3292 * i + 1240) → s ≡ min n 2048
-    → r ≡ goodTail (record { taken = t; head = take s (take (4 + 3292 * i + 1244 + 2048 - (4 + 3292 * i + 1244)) (drop (4 + 3292 * i + 1244) m)) })
+pub stream-is : (m : List ℕ) (i t n s : ℕ) (r : Bool) → t ≡ wordAt Little m (slotStart i + takenAt) → n ≡ wordAt Little m (slotStart i + headAt) → s ≡ min n headRoom
+    → r ≡ goodTail (record { taken = t; head = take s (take (slotStart i + firstByte + headRoom - (slotStart i + firstByte)) (drop (slotStart i + firstByte) m)) })
     → r ≡ goodTail (peerAt m i .stream)
 stream-is m i t n s r p q e z =
-    let k : s ≤ 2048 = omega arith in
-    z ∙ rw (cut-at (4 + 3292 * i + 1244) 2048 m, take-take s 2048 (drop (4 + 3292 * i + 1244) m) k, p, e, q)
+    let k : s ≤ headRoom = omega arith in
+    z ∙ rw (cut-at (slotStart i + firstByte) headRoom m, take-take s headRoom (drop (slotStart i + firstByte) m) k, p, e, q)
 
-pub stream-small : (m : List ℕ) (i n s : ℕ) → length m ≡ 52676 → i < 16 → s ≡ min n 2048
-    → s ≤ length (take (4 + 3292 * i + 1244 + 2048 - (4 + 3292 * i + 1244)) (drop (4 + 3292 * i + 1244) m))
+pub stream-small : (m : List ℕ) (i n s : ℕ) → length m ≡ memoryLength → i < 16 → s ≡ min n headRoom
+    → s ≤ length (take (slotStart i + firstByte + headRoom - (slotStart i + firstByte)) (drop (slotStart i + firstByte) m))
 stream-small m i n s l h e =
-    rw (cut-at (4 + 3292 * i + 1244) 2048 m, length-take-le 2048 (drop (4 + 3292 * i + 1244) m) (omega (arith, length-drop (4 + 3292 * i + 1244) m)))
+    rw (cut-at (slotStart i + firstByte) headRoom m, length-take-le headRoom (drop (slotStart i + firstByte) m) (omega (arith, length-drop (slotStart i + firstByte) m)))
     (omega arith)
 
 pub ruleset streams = (stream-is, stream-small, needs)
@@ -80,9 +81,9 @@ module _ (m : List ℕ) (i n last : ℕ) (e : n ≡ numberAt m i) where
           le-leb n last b,
           found-any (isPeer n) m (i + 1) f g,
           le-ltb f 16 c,
-          le-leb (length (peerAt m i .gids)) 16 (omega (arith, gids-many m (4 + 3292 * i))),
-          le-leb (length (peerAt m i .pending)) 16 (omega (arith, pending-many m (4 + 3292 * i))),
-          le-leb (length (peerAt m i .names)) 4 (omega (arith, names-many m (4 + 3292 * i))),
+          le-leb (length (peerAt m i .gids)) 16 (omega (arith, gids-many m (slotStart i))),
+          le-leb (length (peerAt m i .pending)) 16 (omega (arith, pending-many m (slotStart i))),
+          le-leb (length (peerAt m i .names)) 4 (omega (arith, names-many m (slotStart i))),
           x,
           y,
           z,
@@ -92,21 +93,21 @@ pub ruleset peers = (peer-high, peer-twice, peer-good, needs)
 
 -- ---- the slot
 
-module _ (m : List ℕ) (f : (i : ℕ) → Fits w8 (getD m i 0)) (l : length m ≡ 52676) (i : ℕ) (h : i < 16) (n last : ℕ) (e : n ≡ numberAt m i) where
-  slot-is : slotOf (take 3292 (drop (4 + 3292 * i) m)) ≡ getD (stateOf m .slots) i free
+module _ (m : List ℕ) (f : (i : ℕ) → Fits w8 (getD m i 0)) (l : length m ≡ memoryLength) (i : ℕ) (h : i < 16) (n last : ℕ) (e : n ≡ numberAt m i) where
+  slot-is : slotOf (take slotLength (drop (slotStart i) m)) ≡ getD (stateOf m .slots) i free
   slot-is = sym (slot-at m i h)
 
-  pub slot-unused : n ≡ 0 → (r : Bool) → r ≡ allZero (take (4 + 3292 * i + 3292 - (4 + 3292 * i)) (drop (4 + 3292 * i) m)) → r ≡ slotTest m i last
+  pub slot-unused : n ≡ 0 → (r : Bool) → r ≡ allZero (take (slotStart i + slotLength - (slotStart i)) (drop (slotStart i) m)) → r ≡ slotTest m i last
   unfolding slotTest
   slot-unused z r q =
-      let s : slotOf (take 3292 (drop (4 + 3292 * i) m)) ≡ free = slot-is ∙ slot-free m i h (sym e ∙ z) in
-      q ∙ rw (cut-at (4 + 3292 * i) 3292 m, ← free-plain m l i h (sym e ∙ z), s)
+      let s : slotOf (take slotLength (drop (slotStart i) m)) ≡ free = slot-is ∙ slot-free m i h (sym e ∙ z) in
+      q ∙ rw (cut-at (slotStart i) slotLength m, ← free-plain m l i h (sym e ∙ z), s)
 
   module _ (z : n ≡ 0 → ⊥) where
-    slot-used : slotOf (take 3292 (drop (4 + 3292 * i) m)) ≡ peer (peerAt m i)
+    slot-used : slotOf (take slotLength (drop (slotStart i) m)) ≡ peer (peerAt m i)
     slot-used = slot-is ∙ slot-peer m i h (λ y. z (e ∙ y))
 
-    shaped : same (slotBytes (slotOf (take 3292 (drop (4 + 3292 * i) m)))) (take 3292 (drop (4 + 3292 * i) m)) ≡ shapeTest m i
+    shaped : same (slotBytes (slotOf (take slotLength (drop (slotStart i) m)))) (take slotLength (drop (slotStart i) m)) ≡ shapeTest m i
     shaped = slot-plain m (λ j. f j .fits) l i h (λ y. z (e ∙ y))
 
     pub slot-shapeless : (s : Bool) → s ≡ shapeTest m i → not s ≡ true → false ≡ slotTest m i last
@@ -128,7 +129,7 @@ pub ruleset slot-tests = (slot-unused, slot-shapeless, slot-good, one-or-more, n
 
 -- what the slots from i on come to
 unfoldable pub leftGood : List ℕ → ℕ → ℕ → Bool
-leftGood m last i = goodSlots (stateOf m .slots) last (drop i (stateOf m .slots)) && plain (drop i (parts 3292 16 (drop 4 m)))
+leftGood m last i = goodSlots (stateOf m .slots) last (drop i (stateOf m .slots)) && plain (drop i (parts slotLength 16 (drop 4 m)))
 
 mix : (a b c d : Bool) → (a && b) && (c && d) ≡ (a && c) && (b && d)
 mix true true c d = refl
@@ -139,27 +140,27 @@ mix false b c d = refl
 left-step : (m : List ℕ) (last i : ℕ) → i < 16 → leftGood m last i ≡ slotTest m i last && leftGood m last (i + 1)
 unfolding leftGood goodSlots plain slotTest
 left-step m last i h =
-    let p = parts 3292 16 (drop 4 m) in
-    let b = take 3292 (drop (4 + 3292 * i) m) in
+    let p = parts slotLength 16 (drop 4 m) in
+    let b = take slotLength (drop (slotStart i) m) in
     let s : drop i (stateOf m .slots) ≡ slotOf b ∷ drop (i + 1) (stateOf m .slots)
     = drop-cons (stateOf m .slots) i free (rw (sixteen m) h) ∙ rw (slot-at m i h, add-one) in
-    let q : drop i p ≡ b ∷ drop (i + 1) p = drop-cons p i [] (rw (parts-length 3292 16 (drop 4 m)) h) ∙ rw (slot-part m i h, add-one) in
+    let q : drop i p ≡ b ∷ drop (i + 1) p = drop-cons p i [] (rw (parts-length slotLength 16 (drop 4 m)) h) ∙ rw (slot-part m i h, add-one) in
     rw (s, q)
     (mix (goodSlot (stateOf m .slots) last (slotOf b) (drop (i + 1) (stateOf m .slots))) (goodSlots (stateOf m .slots) last (drop (i + 1) (stateOf m .slots)))
     (same (slotBytes (slotOf b)) b) (plain (drop (i + 1) p)))
 
 pub record Auditing (m : List ℕ) (last i : ℕ) : Type 0 where
-  pub sized : length m ≡ 52676
+  pub sized : length m ≡ memoryLength
   pub inside : i ≤ 16
   pub left : good m ≡ leftGood m last i
 
-pub wrong-length : (m : List ℕ) → (length m ≡ 52676 → ⊥) → false ≡ good m
+pub wrong-length : (m : List ℕ) → (length m ≡ memoryLength → ⊥) → false ≡ good m
 unfolding good
-wrong-length m h = rw (ne-eqb (length m) 52676 h)
+wrong-length m h = rw (ne-eqb (length m) memoryLength h)
 
-pub auditing-begins : {m : List ℕ} {last : ℕ} → length m ≡ 52676 → last ≡ stateOf m .last → Auditing m last 0
+pub auditing-begins : {m : List ℕ} {last : ℕ} → length m ≡ memoryLength → last ≡ stateOf m .last → Auditing m last 0
 unfolding good leftGood
-auditing-begins {m} {last} l e = record { sized = l; inside = omega arith; left = rw (eq-eqb (length m) 52676 l, e) }
+auditing-begins {m} {last} l e = record { sized = l; inside = omega arith; left = rw (eq-eqb (length m) memoryLength l, e) }
 
 module _ {m : List ℕ} {last i : ℕ} (a : Auditing m last i) where
   module _ (h : i < 16) {r : Bool} (e : r ≡ slotTest m i last) where
@@ -175,7 +176,7 @@ module _ {m : List ℕ} {last i : ℕ} (a : Auditing m last i) where
       sym (a .left
       ∙ rw (
         drop-of-length-le (stateOf m .slots) {i = i} (rw (sixteen m) h),
-        drop-of-length-le (parts 3292 16 (drop 4 m)) {i = i} (rw (parts-length 3292 16 (drop 4 m)) h),
+        drop-of-length-le (parts slotLength 16 (drop 4 m)) {i = i} (rw (parts-length slotLength 16 (drop 4 m)) h),
       ))
 
 pub ruleset auditing = (wrong-length, auditing-begins, auditing-more, auditing-stops, auditing-ends, needs)

@@ -14,7 +14,7 @@ use Rattle.rules.specs.Addresses.{ownable}
 use Rattle.rules.specs.Pending.{awaits}
 use Rattle.rules.specs.Calls.{isOwner}
 use Rattle.tables.specs.Tables.{plainCells}
-use Rattle.memory.specs.Layout.{slotStart, slotLength, namesAt, firstName, pendingAt, gidsAt, headAt, firstCallee, firstSerial}
+use Rattle.memory.specs.Layout.{slotLength, slotStart, gidsAt, gidWidth, gidRoom, pendingAt, firstCallee, firstSerial, callWidth, callRoom, namesAt, firstName, nameWidth, nameRoom, headAt, headRoom}
 use Rattle.memory.specs.Encoding.{slotBytes, slotOf, stateOf}
 use Rattle.memory.specs.Good.{nobody, goodSlot}
 use Rattle.slots.specs.Slots.{peerAt, nameAt}
@@ -27,10 +27,10 @@ nameTest m i j =
 
 -- the callee and the serial of pending call j
 abbrev pub calleeAt : List ℕ → ℕ → ℕ → ℕ
-calleeAt m i j = wordAt Little m (slotStart i + (firstCallee + 8 * j))
+calleeAt m i j = wordAt Little m (slotStart i + (firstCallee + callWidth * j))
 
 abbrev pub serialAt : List ℕ → ℕ → ℕ → ℕ
-serialAt m i j = wordAt Little m (slotStart i + (firstSerial + 8 * j))
+serialAt m i j = wordAt Little m (slotStart i + (firstSerial + callWidth * j))
 
 unfoldable pub callTest : List ℕ → ℕ → ℕ → Bool
 callTest m i j =
@@ -49,21 +49,21 @@ tableTest m at w k =
 -- behind name j of slot i its cell is zero
 unfoldable pub plainCell : List ℕ → ℕ → ℕ → Bool
 plainCell m i j =
-    let c = take 256 (drop (slotStart i + firstName + 256 * j) m) in
+    let c = take 256 (drop (slotStart i + firstName + nameWidth * j) m) in
     same (cellOf (nameOf c)) c
 
 -- the names of slot i are at most 4, with zeros behind each and behind the last
 unfoldable pub cellsTest : List ℕ → ℕ → Bool
 cellsTest m i =
     leb (wordAt Little m (slotStart i + namesAt)) 4
-    && plainCells cellOf nameOf 256 (wordAt Little m (slotStart i + namesAt)) (take 1024 (drop (slotStart i + firstName) m))
+    && plainCells cellOf nameOf 256 (wordAt Little m (slotStart i + namesAt)) (take (nameWidth * nameRoom) (drop (slotStart i + firstName) m))
 
 unfoldable pub shapeTest : List ℕ → ℕ → Bool
 shapeTest m i =
-    tableTest m (slotStart i + gidsAt) 4 16
-    && tableTest m (slotStart i + pendingAt) 8 16
+    tableTest m (slotStart i + gidsAt) gidWidth gidRoom
+    && tableTest m (slotStart i + pendingAt) callWidth callRoom
     && cellsTest m i
-    && tableTest m (slotStart i + headAt) 1 2048
+    && tableTest m (slotStart i + headAt) 1 headRoom
 
 -- ---- a slot
 

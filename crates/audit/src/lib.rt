@@ -17,7 +17,7 @@ ghost use mathlib.Core.Path.{_≡_};
 ghost use Prim.Native.Nat.{_+_, _*_, _≤_, _<_};
 ghost use lib.ListN.{length, drop, getD};
 ghost use Rattle.rules.specs.Addresses.{ownable};
-ghost use Rattle.memory.specs.Layout.{slotStart, memoryLength, firstName};
+ghost use Rattle.memory.specs.Layout.{memoryLength, slotStart, firstName, nameWidth, headRoom};
 ghost use Rattle.memory.specs.Encoding.{stateOf};
 ghost use Rattle.memory.specs.Good.{goodNames, goodPending, goodPeer, good};
 ghost use Rattle.memory.specs.Places.{numberAt};
@@ -35,7 +35,7 @@ pub fn is_ownable(name: &[u8]) -> bool
 // Name j of slot i is ownable, and stands nowhere else from there on.
 fn is_name_good(memory: &[u8], i: usize, j: usize) -> bool
     requires { ⌜ (length (now memory) ≡ memoryLength) × (i < 16) × (j < 4) ⌝ }
-    ensures { λ r. ⌜ (r ≡ nameTest (now (memory .entry)) i j) × (getD (now (memory .entry)) (slotStart i + firstName + 256 * j) 0 < 256) ⌝ }
+    ensures { λ r. ⌜ (r ≡ nameTest (now (memory .entry)) i j) × (getD (now (memory .entry)) (slotStart i + firstName + nameWidth * j) 0 < 256) ⌝ }
 {
     let at = SLOTS_AT + SLOT_LENGTH * i + FIRST_NAME + 256 * j;
     let from = at + 1;
@@ -100,7 +100,7 @@ fn are_calls_good(memory: &[u8], i: usize) -> bool
 
 // w times n, where w times k is small.
 fn scaled(w: usize, n: usize, k: usize) -> usize
-    requires { ⌜ (n ≤ k) × (w * k ≤ 2048) ⌝ }
+    requires { ⌜ (n ≤ k) × (w * k ≤ headRoom) ⌝ }
     ensures { λ r. ⌜ (r ≡ w * n) × (w * n ≤ w * k) ⌝ }
 {
     w * n
@@ -108,7 +108,7 @@ fn scaled(w: usize, n: usize, k: usize) -> usize
 
 // The table at a place has at most k things of w bytes, and zeros behind them.
 fn is_table(memory: &[u8], at: usize, w: usize, k: usize) -> bool
-    requires { ⌜ (length (now memory) ≡ memoryLength) × (w * k ≤ 2048) × (at + 4 + w * k ≤ memoryLength) ⌝ }
+    requires { ⌜ (length (now memory) ≡ memoryLength) × (w * k ≤ headRoom) × (at + 4 + w * k ≤ memoryLength) ⌝ }
     ensures { λ r. ⌜ r ≡ tableTest (now (memory .entry)) at w k ⌝ }
 {
     let n = wire::u32_at(Order::Little, memory, at) as usize;

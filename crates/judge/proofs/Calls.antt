@@ -11,6 +11,7 @@ use Rattle.wire.specs.Words.{wordBytes}
 use Rattle.wire.proofs.Words.{word-length}
 use Rattle.tables.specs.Cut.{cutOut, Cell, without}
 use Rattle.tables.proofs.Written.{put-joined, part-cell, remove-written}
+use Rattle.memory.specs.Layout.{memoryLength, slotStart, pendingAt, firstCallee, callWidth, callRoom, pendingLength}
 use Rattle.memory.specs.Encoding.{pendingBytes}
 use Rattle.memory.proofs.Frame.{pending-length}
 use Rattle.memory.proofs.Puts.{pending-stands, pending-put, call-appended}
@@ -20,13 +21,13 @@ use Rattle.judge.specs.Steps.{Began, Ended}
 -- ---- one more
 
 pub call-began : (m m₁ m₂ m₃ : List ℕ) (i n callee serial : ℕ) → Seated m i → n ≡ length (peerAt m i .pending) → n < 16 → ((j : ℕ) → Fits w8 (getD m j 0))
-    → m₁ ≡ take (4 + 3292 * i + 80 + 8 * n) m ++ (wordBytes callee ++ drop (4 + 3292 * i + 80 + 8 * n + 4) m)
-    → m₂ ≡ take (4 + 3292 * i + 80 + 8 * n + 4) m₁ ++ (wordBytes serial ++ drop (4 + 3292 * i + 80 + 8 * n + 4 + 4) m₁)
-    → m₃ ≡ take (4 + 3292 * i + 76) m₂ ++ (wordBytes (n + 1) ++ drop (4 + 3292 * i + 76 + 4) m₂)
+    → m₁ ≡ take (slotStart i + firstCallee + callWidth * n) m ++ (wordBytes callee ++ drop (slotStart i + firstCallee + callWidth * n + 4) m)
+    → m₂ ≡ take (slotStart i + firstCallee + callWidth * n + 4) m₁ ++ (wordBytes serial ++ drop (slotStart i + firstCallee + callWidth * n + 4 + 4) m₁)
+    → m₃ ≡ take (slotStart i + pendingAt) m₂ ++ (wordBytes (n + 1) ++ drop (slotStart i + pendingAt + 4) m₂)
     → Began m i callee serial m₃
 call-began m m₁ m₂ m₃ i n callee serial p q l b e₁ e₂ e₃ =
-    let c : ℕ = 4 + 3292 * i + 80 + 8 * n in
-    let s : length m ≡ 52676 = p .sized in
+    let c : ℕ = slotStart i + firstCallee + callWidth * n in
+    let s : length m ≡ memoryLength = p .sized in
     let o : i < 16 = p .below in
     let e : m₂ ≡ take c m ++ ((wordBytes callee ++ wordBytes serial) ++ drop (c + 8) m)
     = e₂
@@ -43,20 +44,20 @@ pub ruleset beginning = (call-began, needs)
 
 -- call k stands in the cells
 pub call-cell : (m : List ℕ) (i n k : ℕ) → Seated m i → n ≤ 16 → k < n
-    → Cell (take (4 + 3292 * i + 76 + 132 - (4 + 3292 * i + 76)) (drop (4 + 3292 * i + 76) m)) (4 + 8 * k) 8 (4 + 8 * n)
-call-cell m i n k p f l = part-cell 8 16 k n m (4 + 3292 * i + 76) (omega (arith, p .sized, p .below)) f l
+    → Cell (take (slotStart i + pendingAt + pendingLength - (slotStart i + pendingAt)) (drop (slotStart i + pendingAt) m)) (4 + callWidth * k) 8 (4 + callWidth * n)
+call-cell m i n k p f l = part-cell callWidth callRoom k n m (slotStart i + pendingAt) (omega (arith, p .sized, p .below)) f l
 
 pub call-ended : (m t : List ℕ) (i n k : ℕ) → Seated m i → n ≡ length (peerAt m i .pending) → n ≤ 16 → k < n → ((j : ℕ) → Fits w8 (getD m j 0))
     → t
     ≡ wordBytes (n - 1)
-    ++ cutOut 8 (8 * n) (8 * k) (drop 4 (take (4 + 3292 * i + 76 + 132 - (4 + 3292 * i + 76)) (drop (4 + 3292 * i + 76) m)))
+    ++ cutOut 8 (callWidth * n) (callWidth * k) (drop 4 (take (slotStart i + pendingAt + pendingLength - (slotStart i + pendingAt)) (drop (slotStart i + pendingAt) m)))
     → Ended m i k
-    (take (4 + 3292 * i + 76) m ++ (t ++ drop (4 + 3292 * i + 76 + 132 - (4 + 3292 * i + 76)) (drop (4 + 3292 * i + 76) m)))
+    (take (slotStart i + pendingAt) m ++ (t ++ drop (slotStart i + pendingAt + pendingLength - (slotStart i + pendingAt)) (drop (slotStart i + pendingAt) m)))
 call-ended m t i n k p e f l b et =
     let ws = peerAt m i .pending in
     record {
       is =
-          remove-written 8 16 pendingBytes pending-length ws k m t (4 + 3292 * i + 76) n
+          remove-written callWidth callRoom pendingBytes pending-length ws k m t (slotStart i + pendingAt) n
           (pending-stands m (λ j. b j .fits) (p .held) i (p .below) (p .some)) e f l et
           ∙ sym (pending-put m (λ j. b j .fits) (p .held) i (p .below) (p .some) (without k ws));
     }

@@ -22,6 +22,7 @@ use Rattle.policy.proofs.Cells.{bus-names}
 use Rattle.rules.specs.Judge.{refusal}
 use Rattle.rules.specs.declared.Judgement.{Judgement}
 use Rattle.rules.specs.declared.Receiver.the-variants as to
+use Rattle.memory.specs.Layout.{memoryLength, slotStart, firstName, nameWidth}
 use Rattle.memory.specs.Places.{numberAt}
 use Rattle.memory.proofs.Reading.{slot-free, slot-peer}
 use Rattle.memory.proofs.Held.{held-counted}
@@ -37,7 +38,7 @@ ask-is image direction uid gids count names x r e = e ∙ rw (sub-zero count)
 pub ruleset asking = (ask-is, needs)
 
 pub asks-peer : (image : List ℕ) (direction : ℕ) (m : List ℕ) (i : ℕ) (names head : List ℕ) (x : Header) {u : ℕ} {g : Gids}
-    → u ≡ wordAt Little m (4 + 3292 * i + 4) → GidsOf m i g
+    → u ≡ wordAt Little m (slotStart i + 4) → GidsOf m i g
     → {r : Bool} → r ≡ mayTransact image direction (record { 0 = u }) (take (g .count) (g .list)) (namesIn names) (messageOf head x)
     → Asks image direction m i names head x r
 asks-peer image direction m i names head x e g q = record { is = q ∙ rw (e, g .are) }
@@ -46,20 +47,20 @@ pub ruleset asking-peer = (asks-peer, needs)
 
 pub says-is : (image : List ℕ) (direction : ℕ) (m : List ℕ) (s o : ℕ) (head : List ℕ) (x : Header) → Seated m o → ((j : ℕ) → Fits w8 (getD m j 0))
     → {n : ℕ} → n ≡ length (peerAt m o .names)
-    → {end : ℕ} → end ≡ 4 + 3292 * o + 212 + 256 * n
+    → {end : ℕ} → end ≡ slotStart o + firstName + nameWidth * n
     → {r : Bool}
-    → Asks image direction m s (take (end - (4 + 3292 * o + 212)) (drop (4 + 3292 * o + 212) m)) head x r
+    → Asks image direction m s (take (end - (slotStart o + firstName)) (drop (slotStart o + firstName) m)) head x r
     → Says image direction m s o head x r
 says-is image direction m s o head x p b {n} e t a =
     let h : o < 16 = p .below in
-    let l : length m ≡ 52676 = p .sized in
+    let l : length m ≡ memoryLength = p .sized in
     let c = held-counted m o (p .held) h (p .some) in
-    let q : namesIn (take (256 * n) (drop (4 + 3292 * o + 212) m)) ≡ peerAt m o .names
-    = names-in m (4 + 3292 * o) n (λ j. b j .fits) (omega arith) (e ∙ c .names) (omega (arith, c .names, c .fewNames)) in
-    record { is = a .is ∙ rw (t, cut-at (4 + 3292 * o + 212) (256 * n) m, q) }
+    let q : namesIn (take (nameWidth * n) (drop (slotStart o + firstName) m)) ≡ peerAt m o .names
+    = names-in m (slotStart o) n (λ j. b j .fits) (omega arith) (e ∙ c .names) (omega (arith, c .names, c .fewNames)) in
+    record { is = a .is ∙ rw (t, cut-at (slotStart o + firstName) (nameWidth * n) m, q) }
 
 -- the cells' length, whichever factor comes first
-pub cells-end : (a n : ℕ) → a + n * 256 ≡ a + 256 * n
+pub cells-end : (a n : ℕ) → a + n * 256 ≡ a + nameWidth * n
 cells-end a n = omega arith
 
 pub ruleset saying = (says-is, cells-end, needs)

@@ -9,6 +9,7 @@ use Rattle.tables.specs.Tables.{tableBytes, tableOf}
 use Rattle.stream.specs.Tail.{Tail}
 use Rattle.rules.specs.State.{Slot, peer}
 use Rattle.rules.specs.Pending.{endedAll, bereft}
+use Rattle.memory.specs.Layout.{pendingAt, callWidth, callRoom, namesAt}
 use Rattle.memory.specs.Encoding.{pendingBytes, pendingOf, slotBytes, peerOf, slotOf}
 use Rattle.memory.proofs.Reading.{part-free, part-peer}
 use Rattle.memory.proofs.Fields.{put-pending}
@@ -21,7 +22,7 @@ bereft-free c b p e =
     sym p ∙ ap slotBytes q ∙ sym (ap (λ (x : Slot Tail). slotBytes (bereft c x)) q)
 
 pub bereft-peer : (c : ℕ) (b : List ℕ) → slotBytes (slotOf b) ≡ b → (wordAt Little b 0 ≡ 0 → ⊥)
-    → take 76 b ++ (tableBytes 8 16 pendingBytes (endedAll c (peerOf b .pending)) ++ drop 208 b) ≡ changed (bereft c) b
+    → take pendingAt b ++ (tableBytes callWidth callRoom pendingBytes (endedAll c (peerOf b .pending)) ++ drop namesAt b) ≡ changed (bereft c) b
 bereft-peer c b p e =
     let x = peerOf b in
     let q = part-peer b e in
@@ -29,8 +30,8 @@ bereft-peer c b p e =
     sym
     (ap (λ (y : Slot Tail). slotBytes (bereft c y)) q
     ∙ put-pending x (endedAll c (x .pending))
-    ∙ ap (λ (z : List ℕ). take 76 z ++ (tableBytes 8 16 pendingBytes (endedAll c (x .pending)) ++ drop 208 z)) s)
+    ∙ ap (λ (z : List ℕ). take pendingAt z ++ (tableBytes callWidth callRoom pendingBytes (endedAll c (x .pending)) ++ drop namesAt z)) s)
 
-pub pending-of : (b : List ℕ) → peerOf b .pending ≡ tableOf 8 16 pendingOf (drop 76 b)
+pub pending-of : (b : List ℕ) → peerOf b .pending ≡ tableOf callWidth callRoom pendingOf (drop pendingAt b)
 unfolding peerOf
 pending-of b = refl

@@ -16,6 +16,7 @@ use Rattle.tables.proofs.Table.{table-length, table-many, table-count, table-ag
 use Rattle.tables.proofs.Change.{without-length, map-without, removed, table-remove}
 use Rattle.rules.specs.State.{Pending}
 use Rattle.rules.specs.Pending.{endedAll}
+use Rattle.memory.specs.Layout.{callWidth, callRoom, pendingLength}
 use Rattle.memory.specs.Encoding.{pendingBytes, pendingOf}
 use Rattle.memory.proofs.Frame.{pending-length}
 use Rattle.memory.proofs.Again.{pending-back}
@@ -31,7 +32,7 @@ parts-back (suc n) d b =
     ap₂ _∷_ (pending-back (pendingOf (take 8 d)) (word-fits (take 8 d) 0 f) (word-fits (take 8 d) 4 f)) (parts-back n (drop 8 d) (bytes-drop 8 d b))
 
 table-back : (t : List ℕ) → ((i : ℕ) → getD t i 0 < 256)
-    → map pendingOf (map pendingBytes (tableOf 8 16 pendingOf t)) ≡ tableOf 8 16 pendingOf t
+    → map pendingOf (map pendingBytes (tableOf callWidth callRoom pendingOf t)) ≡ tableOf callWidth callRoom pendingOf t
 unfolding tableOf
 table-back t b = parts-back (min (wordAt Little t 0) 16) (drop 4 t) (bytes-drop 4 t b)
 
@@ -39,20 +40,20 @@ table-back t b = parts-back (min (wordAt Little t 0) 16) (drop 4 t) (bytes-drop 
 pub record Ending (c : ℕ) (ws₀ : List Pending) (t : List ℕ) (n j : ℕ) : Type 0 where
   pub calls : List Pending
   pub back : map pendingOf (map pendingBytes calls) ≡ calls
-  pub is : t ≡ tableBytes 8 16 pendingBytes calls
-  pub sized : length t ≡ 132
+  pub is : t ≡ tableBytes callWidth callRoom pendingBytes calls
+  pub sized : length t ≡ pendingLength
   pub count : n ≡ length calls
   pub few : n ≤ 16
   pub below : j ≤ n
   pub left : Leaving c ws₀ calls j
 
-pub ending-begins : (c : ℕ) (t : List ℕ) (n : ℕ) → length t ≡ 132 → ((i : ℕ) → Fits w8 (getD t i 0))
-    → t ≡ tableBytes 8 16 pendingBytes (tableOf 8 16 pendingOf t) → n ≡ wordAt Little t 0 → Ending c (tableOf 8 16 pendingOf t) t n 0
+pub ending-begins : (c : ℕ) (t : List ℕ) (n : ℕ) → length t ≡ pendingLength → ((i : ℕ) → Fits w8 (getD t i 0))
+    → t ≡ tableBytes callWidth callRoom pendingBytes (tableOf callWidth callRoom pendingOf t) → n ≡ wordAt Little t 0 → Ending c (tableOf callWidth callRoom pendingOf t) t n 0
 ending-begins c t n l b e en =
-    let ws = tableOf 8 16 pendingOf t in
-    let k : length ws ≡ min (wordAt Little t 0) 16 = table-many 8 16 pendingOf t in
+    let ws = tableOf callWidth callRoom pendingOf t in
+    let k : length ws ≡ min (wordAt Little t 0) 16 = table-many callWidth callRoom pendingOf t in
     let q : wordAt Little t 0 ≡ length ws
-    = ap (λ (z : List ℕ). wordAt Little z 0) (e ∙ sym (append-nil (tableBytes 8 16 pendingBytes ws))) ∙ table-count 8 16 pendingBytes ws [] (omega arith) in
+    = ap (λ (z : List ℕ). wordAt Little z 0) (e ∙ sym (append-nil (tableBytes callWidth callRoom pendingBytes ws))) ∙ table-count callWidth callRoom pendingBytes ws [] (omega arith) in
     record {
       calls = ws;
       back = table-back t (λ i. b i .fits);
@@ -65,42 +66,42 @@ ending-begins c t n l b e en =
     }
 
 module _ {c : ℕ} {ws₀ : List Pending} {t : List ℕ} {n j : ℕ} (g : Ending c ws₀ t n j) (h : j < n) where
-  pub ending-cell : Cell t (4 + 8 * j) 8 (4 + 8 * n)
+  pub ending-cell : Cell t (4 + callWidth * j) 8 (4 + callWidth * n)
   ending-cell =
-      let l : length t ≡ 132 = g .sized in
+      let l : length t ≡ pendingLength = g .sized in
       let f : n ≤ 16 = g .few in
       record { inside = omega arith; room = omega arith }
 
-  read : tableOf 8 16 pendingOf t ≡ g .calls
+  read : tableOf callWidth callRoom pendingOf t ≡ g .calls
   read =
       let ws = g .calls in
       let m : n ≡ length ws = g .count in
       let f : n ≤ 16 = g .few in
-      ap (tableOf 8 16 pendingOf) (g .is ∙ sym (append-nil (tableBytes 8 16 pendingBytes ws)))
-      ∙ table-again 8 16 pendingBytes pending-length pendingOf ws [] (omega arith) (omega arith) (g .back)
+      ap (tableOf callWidth callRoom pendingOf) (g .is ∙ sym (append-nil (tableBytes callWidth callRoom pendingBytes ws)))
+      ∙ table-again callWidth callRoom pendingBytes pending-length pendingOf ws [] (omega arith) (omega arith) (g .back)
 
-  callee-at : getD (g .calls) j (pendingOf []) .callee ≡ wordAt Little t (4 + 8 * j)
+  callee-at : getD (g .calls) j (pendingOf []) .callee ≡ wordAt Little t (4 + callWidth * j)
   callee-at =
       let m : n ≡ length (g .calls) = g .count in
-      let l : j < length (tableOf 8 16 pendingOf t) = rw read (omega arith) in
-      let q : getD (g .calls) j (pendingOf []) ≡ pendingOf (take 8 (drop (4 + 8 * j) t)) = rw read at (table-at 8 16 pendingOf t j l) in
+      let l : j < length (tableOf callWidth callRoom pendingOf t) = rw read (omega arith) in
+      let q : getD (g .calls) j (pendingOf []) ≡ pendingOf (take 8 (drop (4 + callWidth * j) t)) = rw read at (table-at callWidth callRoom pendingOf t j l) in
       ap (λ (w : Pending). w .callee) q
-      ∙ word-part t (4 + 8 * j) 8 0 (omega arith)
+      ∙ word-part t (4 + callWidth * j) 8 0 (omega arith)
       ∙ ap (wordAt Little t) (omega arith)
 
-  module _ (k : ℕ) (e : k ≡ wordAt Little t (4 + 8 * j)) where
+  module _ (k : ℕ) (e : k ≡ wordAt Little t (4 + callWidth * j)) where
     pub ending-out : k ≡ c → (t₁ : List ℕ) → t₁ ≡ wordBytes (n - 1) ++ removed 8 n j (drop 4 t) → Ending c ws₀ t₁ (n - 1) j
     ending-out q t₁ e₁ =
         let ws = g .calls in
         let m : n ≡ length ws = g .count in
         let f : n ≤ 16 = g .few in
         let l : length (without j ws) + 1 ≡ length ws = without-length j ws (omega arith) in
-        let is : t₁ ≡ tableBytes 8 16 pendingBytes (without j ws) = e₁ ∙ sym (table-remove 8 16 pendingBytes pending-length ws j t n (g .is) m f h) in
+        let is : t₁ ≡ tableBytes callWidth callRoom pendingBytes (without j ws) = e₁ ∙ sym (table-remove callWidth callRoom pendingBytes pending-length ws j t n (g .is) m f h) in
         record {
           calls = without j ws;
           back = ap (map pendingOf) (map-without pendingBytes j ws) ∙ map-without pendingOf j (map pendingBytes ws) ∙ ap (without j) (g .back);
           is = is;
-          sized = ap length is ∙ table-length 8 16 pendingBytes (without j ws);
+          sized = ap length is ∙ table-length callWidth callRoom pendingBytes (without j ws);
           count = omega arith;
           few = omega arith;
           below = omega arith;
@@ -121,9 +122,9 @@ module _ {c : ℕ} {ws₀ : List Pending} {t : List ℕ} {n j : ℕ} (g : Ending
           left = leaving-stays c ws₀ (g .calls) j (g .left) (pendingOf []) (omega arith) (λ z. q (e ∙ sym callee-at ∙ z));
         }
 
-pub ending-ends : {c : ℕ} {ws₀ : List Pending} {t : List ℕ} {n j : ℕ} → Ending c ws₀ t n j → n ≤ j → t ≡ tableBytes 8 16 pendingBytes (endedAll c ws₀)
+pub ending-ends : {c : ℕ} {ws₀ : List Pending} {t : List ℕ} {n j : ℕ} → Ending c ws₀ t n j → n ≤ j → t ≡ tableBytes callWidth callRoom pendingBytes (endedAll c ws₀)
 ending-ends {c} {ws₀} {n = n} {j = j} g h =
     let m : n ≡ length (g .calls) = g .count in
-    g .is ∙ ap (tableBytes 8 16 pendingBytes) (leaving-ends c ws₀ (g .calls) j (g .left) (omega arith))
+    g .is ∙ ap (tableBytes callWidth callRoom pendingBytes) (leaving-ends c ws₀ (g .calls) j (g .left) (omega arith))
 
 pub ruleset ending = (ending-begins, ending-cell, ending-out, ending-stays, ending-ends, needs)

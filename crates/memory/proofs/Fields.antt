@@ -15,7 +15,7 @@ use Rattle.tables.proofs.Table.{table-length, table-count, table-again}
 use Rattle.policy.specs.Names.{cellOf}
 use Rattle.stream.specs.Tail.{Tail}
 use Rattle.rules.specs.State.{Pending, Peer, free, peer, State, putSlot, withNames, withPending, withStream}
-use Rattle.memory.specs.Layout.{slotStart}
+use Rattle.memory.specs.Layout.{slotLength, slotStart, gidWidth, gidRoom, pendingAt, callWidth, callRoom, namesAt, nameWidth, nameRoom, takenAt, streamLength}
 use Rattle.memory.specs.Encoding.{pendingBytes, streamBytes, peerBytes, slotBytes, memoryOf}
 use Rattle.memory.proofs.Frame.{head-length, put-memory, memory-at}
 
@@ -51,44 +51,44 @@ unfoldable pub beforeGids : Peer Tail → List ℕ
 beforeGids p = wordBytes (p .number) ++ wordBytes (p .uid)
 
 unfoldable pub beforePending : Peer Tail → List ℕ
-beforePending p = beforeGids p ++ tableBytes 4 16 wordBytes (p .gids)
+beforePending p = beforeGids p ++ tableBytes gidWidth gidRoom wordBytes (p .gids)
 
 unfoldable pub beforeNames : Peer Tail → List ℕ
-beforeNames p = beforePending p ++ tableBytes 8 16 pendingBytes (p .pending)
+beforeNames p = beforePending p ++ tableBytes callWidth callRoom pendingBytes (p .pending)
 
 unfoldable pub beforeStream : Peer Tail → List ℕ
-beforeStream p = beforeNames p ++ tableBytes 256 4 cellOf (p .names)
+beforeStream p = beforeNames p ++ tableBytes nameWidth nameRoom cellOf (p .names)
 
-pub stream-length : (t : Tail) → length (streamBytes t) ≡ 2056
+pub stream-length : (t : Tail) → length (streamBytes t) ≡ streamLength
 stream-length t = simp (length-append, word-length, head-length)
 
 -- ---- the tables of a peer in its bytes, and the stream behind them
 
 pub gids-in : (p : Peer Tail)
-    → Within 4 16 wordBytes (p .gids) (beforeGids p)
-    (tableBytes 8 16 pendingBytes (p .pending) ++ (tableBytes 256 4 cellOf (p .names) ++ streamBytes (p .stream))) 8 (slotBytes (peer p))
+    → Within gidWidth gidRoom wordBytes (p .gids) (beforeGids p)
+    (tableBytes callWidth callRoom pendingBytes (p .pending) ++ (tableBytes nameWidth nameRoom cellOf (p .names) ++ streamBytes (p .stream))) 8 (slotBytes (peer p))
 unfolding slotBytes peerBytes beforeGids
 gids-in p =
     record { start = simp (length-append, word-length); is = sym (append-assoc (wordBytes (p .number)) (wordBytes (p .uid)) _) }
 
 pub pending-in : (p : Peer Tail)
-    → Within 8 16 pendingBytes (p .pending) (beforePending p) (tableBytes 256 4 cellOf (p .names) ++ streamBytes (p .stream)) 76 (slotBytes (peer p))
+    → Within callWidth callRoom pendingBytes (p .pending) (beforePending p) (tableBytes nameWidth nameRoom cellOf (p .names) ++ streamBytes (p .stream)) pendingAt (slotBytes (peer p))
 unfolding beforePending
 pending-in p =
     record {
       start = simp (length-append, gids-in p .start, table-length);
-      is = gids-in p .is ∙ sym (append-assoc (beforeGids p) (tableBytes 4 16 wordBytes (p .gids)) _);
+      is = gids-in p .is ∙ sym (append-assoc (beforeGids p) (tableBytes gidWidth gidRoom wordBytes (p .gids)) _);
     }
 
-pub names-in : (p : Peer Tail) → Within 256 4 cellOf (p .names) (beforeNames p) (streamBytes (p .stream)) 208 (slotBytes (peer p))
+pub names-in : (p : Peer Tail) → Within nameWidth nameRoom cellOf (p .names) (beforeNames p) (streamBytes (p .stream)) namesAt (slotBytes (peer p))
 unfolding beforeNames
 names-in p =
     record {
       start = simp (length-append, pending-in p .start, table-length);
-      is = pending-in p .is ∙ sym (append-assoc (beforePending p) (tableBytes 8 16 pendingBytes (p .pending)) _);
+      is = pending-in p .is ∙ sym (append-assoc (beforePending p) (tableBytes callWidth callRoom pendingBytes (p .pending)) _);
     }
 
-pub before-stream : (p : Peer Tail) → length (beforeStream p) ≡ 1236
+pub before-stream : (p : Peer Tail) → length (beforeStream p) ≡ takenAt
 unfolding beforeStream
 before-stream p = simp (length-append, names-in p .start, table-length)
 
@@ -96,40 +96,40 @@ pub split-stream : (p : Peer Tail) → slotBytes (peer p) ≡ beforeStream p ++ 
 unfolding beforeStream
 split-stream p =
     names-in p .is
-    ∙ sym (append-assoc (beforeNames p) (tableBytes 256 4 cellOf (p .names)) (streamBytes (p .stream)))
-    ∙ ap (λ (z : List ℕ). (beforeNames p ++ tableBytes 256 4 cellOf (p .names)) ++ z) (sym (append-nil (streamBytes (p .stream))))
+    ∙ sym (append-assoc (beforeNames p) (tableBytes nameWidth nameRoom cellOf (p .names)) (streamBytes (p .stream)))
+    ∙ ap (λ (z : List ℕ). (beforeNames p ++ tableBytes nameWidth nameRoom cellOf (p .names)) ++ z) (sym (append-nil (streamBytes (p .stream))))
 
 -- ---- a field put
 
 pub put-pending : (p : Peer Tail) (ws : List Pending) → slotBytes (peer (withPending p ws))
-    ≡ take 76 (slotBytes (peer p)) ++ (tableBytes 8 16 pendingBytes ws ++ drop 208 (slotBytes (peer p)))
+    ≡ take pendingAt (slotBytes (peer p)) ++ (tableBytes callWidth callRoom pendingBytes ws ++ drop namesAt (slotBytes (peer p)))
 unfolding beforePending beforeGids
 put-pending p ws = table-put (pending-in p) (pending-in (withPending p ws))
 
 pub put-names : (p : Peer Tail) (ns : List (List ℕ)) → slotBytes (peer (withNames p ns))
-    ≡ take 208 (slotBytes (peer p)) ++ (tableBytes 256 4 cellOf ns ++ drop 1236 (slotBytes (peer p)))
+    ≡ take namesAt (slotBytes (peer p)) ++ (tableBytes nameWidth nameRoom cellOf ns ++ drop takenAt (slotBytes (peer p)))
 unfolding beforeNames beforePending beforeGids
 put-names p ns = table-put (names-in p) (names-in (withNames p ns))
 
 pub put-stream : (p : Peer Tail) (t : Tail) → slotBytes (peer (withStream p t))
-    ≡ take 1236 (slotBytes (peer p)) ++ streamBytes t
+    ≡ take takenAt (slotBytes (peer p)) ++ streamBytes t
 unfolding beforeStream beforeNames beforePending beforeGids
 put-stream p t =
-    rw (split-stream (withStream p t), split-stream p, take-at (beforeStream p) (streamBytes (p .stream) ++ []) 1236 (before-stream p))
+    rw (split-stream (withStream p t), split-stream p, take-at (beforeStream p) (streamBytes (p .stream) ++ []) takenAt (before-stream p))
     (ap (λ (z : List ℕ). beforeStream p ++ z) (append-nil (streamBytes t)))
 
 -- ---- a field put in memory: `new` are the c bytes at b of slot i that differ
 
 pub put-field : (s : State Tail) (i : ℕ) (p q : Peer Tail) (new : List ℕ) (b c : ℕ) → i < length (s .slots) → getD (s .slots) i free ≡ peer p
-    → b + c ≤ 3292 → slotBytes (peer q) ≡ take b (slotBytes (peer p)) ++ (new ++ drop (b + c) (slotBytes (peer p)))
+    → b + c ≤ slotLength → slotBytes (peer q) ≡ take b (slotBytes (peer p)) ++ (new ++ drop (b + c) (slotBytes (peer p)))
     → memoryOf (putSlot s i (peer q)) ≡ take (slotStart i + b) (memoryOf s) ++ (new ++ drop (slotStart i + b + c) (memoryOf s))
 put-field s i p q new b c h e l f =
-    let g : take 3292 (drop (slotStart i) (memoryOf s)) ≡ slotBytes (peer p) = memory-at s i h ∙ ap slotBytes e in
+    let g : take slotLength (drop (slotStart i) (memoryOf s)) ≡ slotBytes (peer p) = memory-at s i h ∙ ap slotBytes e in
     put-memory s i (peer q) h
-    ∙ rw (f, ← g) (part-nested (memoryOf s) new (slotStart i) b c 3292 l)
+    ∙ rw (f, ← g) (part-nested (memoryOf s) new (slotStart i) b c slotLength l)
 
 -- ---- the stream read off the bytes of a peer
 
-pub stream-bytes : (p : Peer Tail) → drop 1236 (slotBytes (peer p)) ≡ streamBytes (p .stream)
+pub stream-bytes : (p : Peer Tail) → drop takenAt (slotBytes (peer p)) ≡ streamBytes (p .stream)
 stream-bytes p =
-    rw (split-stream p, append-nil (streamBytes (p .stream))) (drop-at (beforeStream p) (streamBytes (p .stream)) 1236 (before-stream p))
+    rw (split-stream p, append-nil (streamBytes (p .stream))) (drop-at (beforeStream p) (streamBytes (p .stream)) takenAt (before-stream p))

@@ -1,7 +1,7 @@
 -- Slots in bytes: each is 3,292 long, so that a slot is put by its bytes alone, and the others stay.
 use mathlib.Core.List.{List, _++_, append-assoc}
 use mathlib.Core.Path.{_≡_, refl, ap₂, _∙_}
-use Prim.Native.Nat.{ℕ, _+_, _*_, _<_}
+use Prim.Native.Nat.{ℕ, _+_, _*_, _<_, _-_}
 use native.Mathlib.Omega.{arith}
 use lib.ListN.{length, getD, take, drop, replicate, length-append, length-replicate, replicate-append-replicate}
 use lib.Seq.{drop-at, drop-drop}
@@ -17,7 +17,7 @@ use Rattle.policy.specs.Names.{cellOf}
 use Rattle.stream.specs.Tail.{Tail}
 use Rattle.rules.specs.State.{Pending, Peer, Slot, free, peer, State, putSlot}
 use Rattle.rules.specs.Calls.{empty}
-use Rattle.memory.specs.Layout.{slotStart}
+use Rattle.memory.specs.Layout.{memoryLength, slotLength, slotStart, headRoom}
 use Rattle.memory.specs.Encoding.{pendingBytes, headBytes, peerBytes, slotBytes, memoryOf}
 
 -- ---- widths
@@ -32,22 +32,22 @@ cell-length name = omega (arith, pad-length 255 name)
 
 pub head-length : (h : List ℕ) → length (headBytes h) ≡ 2052
 unfolding headBytes
-head-length h = length-append (wordBytes (length h)) (pad 2048 h) ∙ omega (arith, word-length (length h), pad-length 2048 h)
+head-length h = length-append (wordBytes (length h)) (pad headRoom h) ∙ omega (arith, word-length (length h), pad-length headRoom h)
 
-pub peer-length : (p : Peer Tail) → length (peerBytes p) ≡ 3292
+pub peer-length : (p : Peer Tail) → length (peerBytes p) ≡ slotLength
 unfolding peerBytes
 peer-length p = simp (length-append, word-length, table-length, head-length)
 
-pub slot-length : (x : Slot Tail) → length (slotBytes x) ≡ 3292
+pub slot-length : (x : Slot Tail) → length (slotBytes x) ≡ slotLength
 unfolding slotBytes
-slot-length free = length-replicate {A = ℕ} 3292 0
+slot-length free = length-replicate {A = ℕ} slotLength 0
 slot-length (peer p) = peer-length p
 
-pub memory-length : (s : State Tail) → length (s .slots) ≡ 16 → length (memoryOf s) ≡ 52676
+pub memory-length : (s : State Tail) → length (s .slots) ≡ 16 → length (memoryOf s) ≡ memoryLength
 unfolding memoryOf
 memory-length s e =
     length-append (wordBytes (s .last)) (cells slotBytes (s .slots))
-    ∙ omega (arith, cells-length 3292 slotBytes slot-length (s .slots), word-length (s .last))
+    ∙ omega (arith, cells-length slotLength slotBytes slot-length (s .slots), word-length (s .last))
 
 -- ---- frames
 
@@ -58,15 +58,15 @@ memory-slots s = drop-at (wordBytes (s .last)) (cells slotBytes (s .slots)) 4 (w
 
 -- slot i put by its bytes
 pub put-memory : (s : State Tail) (i : ℕ) (x : Slot Tail) → i < length (s .slots)
-    → memoryOf (putSlot s i x) ≡ take (slotStart i) (memoryOf s) ++ (slotBytes x ++ drop (slotStart i + 3292) (memoryOf s))
+    → memoryOf (putSlot s i x) ≡ take (slotStart i) (memoryOf s) ++ (slotBytes x ++ drop (slotStart i + slotLength) (memoryOf s))
 unfolding memoryOf
 put-memory s i x h =
-    let e : 4 + 3292 * i + 3292 ≡ 4 + (3292 * i + 3292) = omega arith in
+    let e : slotStart i + slotLength ≡ 4 + (slotLength * i + slotLength) = omega arith in
     rw (
       e,
-      take-past (wordBytes (s .last)) (cells slotBytes (s .slots)) 4 (3292 * i) (word-length (s .last)),
-      drop-past (wordBytes (s .last)) (cells slotBytes (s .slots)) 4 (3292 * i + 3292) (word-length (s .last)),
-      cells-put 3292 slotBytes slot-length (s .slots) i x h,
+      take-past (wordBytes (s .last)) (cells slotBytes (s .slots)) 4 (slotLength * i) (word-length (s .last)),
+      drop-past (wordBytes (s .last)) (cells slotBytes (s .slots)) 4 (slotLength * i + slotLength) (word-length (s .last)),
+      cells-put slotLength slotBytes slot-length (s .slots) i x h,
       append-assoc (wordBytes (s .last)),
     )
 
@@ -77,9 +77,9 @@ put-last s n = rw (drop-at (wordBytes (s .last)) (cells slotBytes (s .slots)) 4 
 
 -- slot i stands at its place
 pub memory-at : (s : State Tail) (i : ℕ) → i < length (s .slots)
-    → take 3292 (drop (slotStart i) (memoryOf s)) ≡ slotBytes (getD (s .slots) i free)
+    → take slotLength (drop (slotStart i) (memoryOf s)) ≡ slotBytes (getD (s .slots) i free)
 memory-at s i h =
-    rw (← drop-drop (3292 * i) 4 (memoryOf s), memory-slots s) (cells-at 3292 slotBytes slot-length (s .slots) i free h)
+    rw (← drop-drop (slotLength * i) 4 (memoryOf s), memory-slots s) (cells-at slotLength slotBytes slot-length (s .slots) i free h)
 
 -- ---- the empty guard
 
@@ -87,10 +87,10 @@ pub word-zero : wordBytes 0 ≡ replicate 4 0
 unfolding wordBytes
 word-zero = refl
 
-pub free-bytes : slotBytes free ≡ replicate 3292 0
+pub free-bytes : slotBytes free ≡ replicate slotLength 0
 unfolding slotBytes
 free-bytes = refl
 
-pub empty-bytes : memoryOf empty ≡ replicate 52676 0
+pub empty-bytes : memoryOf empty ≡ replicate memoryLength 0
 unfolding memoryOf
-empty-bytes = ap₂ _++_ word-zero (cells-zeros 3292 slotBytes free free-bytes 16) ∙ replicate-append-replicate {A = ℕ} 4 52672 0
+empty-bytes = ap₂ _++_ word-zero (cells-zeros slotLength slotBytes free free-bytes 16) ∙ replicate-append-replicate {A = ℕ} 4 (slotLength * 16) 0

@@ -16,7 +16,7 @@ use Rattle.tables.specs.Tables.{cells, parts, tableOf}
 use Rattle.tables.proofs.Words.{bytes-take, bytes-drop, word-fits, word-cut}
 use Rattle.stream.specs.Tail.{Tail}
 use Rattle.rules.specs.State.{Pending, Slot, free, peer, putSlot}
-use Rattle.memory.specs.Layout.{slotStart}
+use Rattle.memory.specs.Layout.{memoryLength, slotLength, slotStart, gidWidth, gidRoom, pendingAt, callWidth, callRoom}
 use Rattle.memory.specs.Encoding.{slotBytes, memoryOf, wordOf, pendingOf, peerOf, slotOf, stateOf}
 use Rattle.memory.specs.Good.{goodSlots, plain, good}
 use Rattle.memory.specs.Sound.{headOctets, word32, narrow, Sound, Held}
@@ -26,47 +26,47 @@ use Rattle.memory.proofs.Reading.{sixteen}
 
 -- ---- the parts of the test
 
-pub good-sized : (m : List ℕ) → good m ≡ true → length m ≡ 52676
+pub good-sized : (m : List ℕ) → good m ≡ true → length m ≡ memoryLength
 unfolding good
 good-sized m e =
-    let g = goodSlots (stateOf m .slots) (stateOf m .last) (stateOf m .slots) && plain (parts 3292 16 (drop 4 m)) in
-    eqb-true (length m) 52676 (both-first (eqb (length m) 52676) g e)
+    let g = goodSlots (stateOf m .slots) (stateOf m .last) (stateOf m .slots) && plain (parts slotLength 16 (drop 4 m)) in
+    eqb-true (length m) memoryLength (both-first (eqb (length m) memoryLength) g e)
 
 good-rest : (m : List ℕ) → good m ≡ true
-    → goodSlots (stateOf m .slots) (stateOf m .last) (stateOf m .slots) && plain (parts 3292 16 (drop 4 m)) ≡ true
+    → goodSlots (stateOf m .slots) (stateOf m .last) (stateOf m .slots) && plain (parts slotLength 16 (drop 4 m)) ≡ true
 unfolding good
 good-rest m e =
-    let g = goodSlots (stateOf m .slots) (stateOf m .last) (stateOf m .slots) && plain (parts 3292 16 (drop 4 m)) in
-    both-second (eqb (length m) 52676) g e
+    let g = goodSlots (stateOf m .slots) (stateOf m .last) (stateOf m .slots) && plain (parts slotLength 16 (drop 4 m)) in
+    both-second (eqb (length m) memoryLength) g e
 
 pub good-slots : (m : List ℕ) → good m ≡ true → goodSlots (stateOf m .slots) (stateOf m .last) (stateOf m .slots) ≡ true
 good-slots m e =
-    both-first (goodSlots (stateOf m .slots) (stateOf m .last) (stateOf m .slots)) (plain (parts 3292 16 (drop 4 m))) (good-rest m e)
+    both-first (goodSlots (stateOf m .slots) (stateOf m .last) (stateOf m .slots)) (plain (parts slotLength 16 (drop 4 m))) (good-rest m e)
 
-pub good-plain : (m : List ℕ) → good m ≡ true → plain (parts 3292 16 (drop 4 m)) ≡ true
+pub good-plain : (m : List ℕ) → good m ≡ true → plain (parts slotLength 16 (drop 4 m)) ≡ true
 good-plain m e =
-    both-second (goodSlots (stateOf m .slots) (stateOf m .last) (stateOf m .slots)) (plain (parts 3292 16 (drop 4 m))) (good-rest m e)
+    both-second (goodSlots (stateOf m .slots) (stateOf m .last) (stateOf m .slots)) (plain (parts slotLength 16 (drop 4 m))) (good-rest m e)
 
 pub held-of : (m : List ℕ) → good m ≡ true → Held m
 held-of m e = record { sized = good-sized m e; held = e }
 
 -- ---- good bytes are those of the state that is read off them
 
-plain-slots : (n : ℕ) (d : List ℕ) → length d ≡ 3292 * n → plain (parts 3292 n d) ≡ true → cells slotBytes (map slotOf (parts 3292 n d)) ≡ d
+plain-slots : (n : ℕ) (d : List ℕ) → length d ≡ slotLength * n → plain (parts slotLength n d) ≡ true → cells slotBytes (map slotOf (parts slotLength n d)) ≡ d
 unfolding parts plain cells
 plain-slots zero [] l e = refl
 plain-slots zero (x ∷ d) l e = absurd (omega arith)
 plain-slots (suc n) d l e =
-    let b = take 3292 d in
-    let r = parts 3292 n (drop 3292 d) in
+    let b = take slotLength d in
+    let r = parts slotLength n (drop slotLength d) in
     ap₂ _++_ (same-eq (slotBytes (slotOf b)) b (both-first (same (slotBytes (slotOf b)) b) (plain r) e))
-    (plain-slots n (drop 3292 d) (length-drop 3292 d ∙ omega arith) (both-second (same (slotBytes (slotOf b)) b) (plain r) e))
-    ∙ take-append-drop 3292 d
+    (plain-slots n (drop slotLength d) (length-drop slotLength d ∙ omega arith) (both-second (same (slotBytes (slotOf b)) b) (plain r) e))
+    ∙ take-append-drop slotLength d
 
 pub good-is : (m : List ℕ) → ((i : ℕ) → getD m i 0 < 256) → good m ≡ true → memoryOf (stateOf m) ≡ m
 unfolding memoryOf stateOf
 good-is m b e =
-    let l : length m ≡ 52676 = good-sized m e in
+    let l : length m ≡ memoryLength = good-sized m e in
     ap (λ (z : List ℕ). wordBytes (wordAt Little m 0) ++ z) (plain-slots 16 (drop 4 m) (length-drop 4 m ∙ omega arith) (good-plain m e))
     ∙ sym (word-cut m (omega arith) b)
 
@@ -96,8 +96,8 @@ slot-narrow b f = go (eqb (wordAt Little b 0) 0)
     go true = refl
     go false =
         let u = word-narrow 4 b f in
-        let v = every-table word32 wordOf 4 16 (word-narrow 0) (drop 8 b) (bytes-drop 8 b f) in
-        let x = every-table (λ (w : Pending). word32 (w .serial)) pendingOf 8 16 (word-narrow 4) (drop 76 b) (bytes-drop 76 b f) in
+        let v = every-table word32 wordOf gidWidth gidRoom (word-narrow 0) (drop 8 b) (bytes-drop 8 b f) in
+        let x = every-table (λ (w : Pending). word32 (w .serial)) pendingOf callWidth callRoom (word-narrow 4) (drop pendingAt b) (bytes-drop pendingAt b f) in
         rw (u, v, x)
 
 pub good-sound : (m : List ℕ) → ((i : ℕ) → getD m i 0 < 256) → good m ≡ true → Sound (stateOf m)
@@ -107,18 +107,18 @@ good-sound m b e =
       sixteen = sixteen m;
       fits = word-fits m 0 b;
       slots = good-slots m e;
-      narrows = every-parts narrow slotOf 3292 slot-narrow 16 (drop 4 m) (bytes-drop 4 m b);
-      octets = every-parts headOctets slotOf 3292 slot-octets 16 (drop 4 m) (bytes-drop 4 m b);
+      narrows = every-parts narrow slotOf slotLength slot-narrow 16 (drop 4 m) (bytes-drop 4 m b);
+      octets = every-parts headOctets slotOf slotLength slot-octets 16 (drop 4 m) (bytes-drop 4 m b);
     }
 
 -- ---- a slot and the last number put in good memory
 
 module _ (m : List ℕ) (b : (i : ℕ) → getD m i 0 < 256) (g : good m ≡ true) where
   pub framed : (i : ℕ) (x : Slot Tail) → i < 16
-      → memoryOf (putSlot (stateOf m) i x) ≡ take (slotStart i) m ++ (slotBytes x ++ drop (slotStart i + 3292) m)
+      → memoryOf (putSlot (stateOf m) i x) ≡ take (slotStart i) m ++ (slotBytes x ++ drop (slotStart i + slotLength) m)
   framed i x h = rw (good-is m b g) at (put-memory (stateOf m) i x (rw (sixteen m) h))
 
   pub seated : (n i : ℕ) (x : Slot Tail) → i < 16
       → memoryOf (record { last = n; slots = set (stateOf m .slots) i x })
-      ≡ wordBytes n ++ drop 4 (take (slotStart i) m ++ (slotBytes x ++ drop (slotStart i + 3292) m))
+      ≡ wordBytes n ++ drop 4 (take (slotStart i) m ++ (slotBytes x ++ drop (slotStart i + slotLength) m))
   seated n i x h = put-last (putSlot (stateOf m) i x) n ∙ ap (λ (y : List ℕ). wordBytes n ++ drop 4 y) (framed i x h)

@@ -8,6 +8,7 @@ use Rattle.wire.specs.Bytes.{front}
 use Rattle.wire.specs.Words.{wordAt}
 use Rattle.wire.specs.declared.Order.the-variants.{Little}
 use Rattle.tables.specs.Tables.{cells, parts, tableBytes, tableOf}
+use Rattle.memory.specs.Layout.{headRoom}
 use Rattle.memory.specs.Encoding.{headBytes}
 
 abbrev pub single : ℕ → List ℕ
@@ -21,7 +22,7 @@ unfolding cells
 cells-single [] = refl
 cells-single (x ∷ h) = ap (λ (z : List ℕ). x ∷ z) (cells-single h)
 
-pub head-table : (h : List ℕ) → headBytes h ≡ tableBytes 1 2048 single h
+pub head-table : (h : List ℕ) → headBytes h ≡ tableBytes 1 headRoom single h
 unfolding headBytes tableBytes
 head-table h = rw (cells-single h)
 
@@ -32,9 +33,9 @@ fronts (suc n) [] h = absurd (omega arith)
 fronts (suc n) (x ∷ d) h = ap (λ (z : List ℕ). x ∷ z) (fronts n d (omega arith))
 
 -- what the bytes of a head say
-pub head-of : (d : List ℕ) → 2052 ≤ length d → take (min (wordAt Little d 0) 2048) (drop 4 d) ≡ tableOf 1 2048 front d
+pub head-of : (d : List ℕ) → 2052 ≤ length d → take (min (wordAt Little d 0) headRoom) (drop 4 d) ≡ tableOf 1 headRoom front d
 unfolding tableOf
-head-of d h = sym (fronts (min (wordAt Little d 0) 2048) (drop 4 d) (omega (arith, length-drop 4 d)))
+head-of d h = sym (fronts (min (wordAt Little d 0) headRoom) (drop 4 d) (omega (arith, length-drop 4 d)))
 
 pub single-plain : (b : List ℕ) → length b ≡ 1 → ((i : ℕ) → getD b i 0 < 256) → single (front b) ≡ b
 single-plain [] l f = absurd (omega arith)

@@ -14,6 +14,7 @@ use Rattle.wire.proofs.Parts.{drop-take}
 use Rattle.tables.proofs.Words.{word-front, bytes-take, bytes-drop}
 use Rattle.tables.proofs.Cells.{parts-take}
 use Rattle.policy.specs.Names.{nameOf, cellNames, namesIn}
+use Rattle.memory.specs.Layout.{namesAt, firstName, nameWidth, takenAt}
 use Rattle.memory.specs.Places.{peerFrom}
 
 -- a name is read no further than its cell
@@ -27,19 +28,19 @@ names-cells zero d b = refl
 names-cells (suc n) d b = ap₂ _∷_ (sym (name-take d (b 0))) (names-cells n (drop 256 d) (bytes-drop 256 d b))
 
 -- the n cells in use, n being the count
-pub names-in : (m : List ℕ) (a n : ℕ) → ((i : ℕ) → getD m i 0 < 256) → a + 1236 ≤ length m → n ≡ wordAt Little m (a + 208) → n ≤ 4
-    → namesIn (take (256 * n) (drop (a + 212) m)) ≡ peerFrom m a .names
+pub names-in : (m : List ℕ) (a n : ℕ) → ((i : ℕ) → getD m i 0 < 256) → a + takenAt ≤ length m → n ≡ wordAt Little m (a + namesAt) → n ≤ 4
+    → namesIn (take (nameWidth * n) (drop (a + firstName) m)) ≡ peerFrom m a .names
 unfolding namesIn tableOf
 names-in m a n b l e h =
-    let d = drop (a + 212) m in
-    let s = take (256 * n) d in
-    let k : length s ≡ 256 * n = length-take-le (256 * n) d (omega (arith, length-drop (a + 212) m)) in
+    let d = drop (a + firstName) m in
+    let s = take (nameWidth * n) d in
+    let k : length s ≡ nameWidth * n = length-take-le (nameWidth * n) d (omega (arith, length-drop (a + firstName) m)) in
     let q : length s / 256 ≡ n = ap (λ (z : ℕ). z / 256) k ∙ mul-div-cancel-left n (omega arith) in
-    let c : min (wordAt Little m (a + 208)) 4 ≡ n = rw (← e) (min-eq-left h) in
-    let f : a + 208 + 4 ≡ a + 212 = omega arith in
-    let r : map nameOf (parts 256 (min (wordAt Little (drop (a + 208) m) 0) 4) (drop 4 (drop (a + 208) m))) ≡ map nameOf (parts 256 n d)
-    = rw (word-front m (a + 208), c, drop-drop 4 (a + 208) m, f) in
+    let c : min (wordAt Little m (a + namesAt)) 4 ≡ n = rw (← e) (min-eq-left h) in
+    let f : a + namesAt + 4 ≡ a + firstName = omega arith in
+    let r : map nameOf (parts 256 (min (wordAt Little (drop (a + namesAt) m) 0) 4) (drop 4 (drop (a + namesAt) m))) ≡ map nameOf (parts 256 n d)
+    = rw (word-front m (a + namesAt), c, drop-drop 4 (a + namesAt) m, f) in
     rw q
-    (names-cells n s (bytes-take (256 * n) d (bytes-drop (a + 212) m b))
-    ∙ ap (map nameOf) (parts-take 256 n (256 * n) d (omega arith))
+    (names-cells n s (bytes-take (nameWidth * n) d (bytes-drop (a + firstName) m b))
+    ∙ ap (map nameOf) (parts-take 256 n (nameWidth * n) d (omega arith))
     ∙ sym r)

@@ -14,6 +14,7 @@ use Rattle.policy.specs.Names.{cellOf}
 use Rattle.stream.specs.Tail.{tails}
 use Rattle.rules.specs.State.{peer}
 use Rattle.rules.specs.Calls.{newcomer}
+use Rattle.memory.specs.Layout.{slotLength, firstGid, gidWidth, gidRoom, pendingAt, callWidth, callRoom, pendingLength, namesAt, nameWidth, nameRoom, namesLength, headRoom, streamLength}
 use Rattle.memory.specs.Encoding.{pendingBytes, headBytes, peerBytes, slotBytes}
 use Rattle.memory.proofs.Frame.{word-zero}
 use Rattle.memory.proofs.Heads.{single, head-table}
@@ -27,31 +28,31 @@ zeros : (a b : ℕ) (p q : List ℕ) → p ≡ replicate a 0 → q ≡ replicate
 zeros a b p q e f = ap₂ _++_ e f ∙ replicate-append-replicate {A = ℕ} a b 0
 
 pub newcomer-bytes : (n uid : ℕ) (gids : List ℕ)
-    → slotBytes (peer (newcomer tails n uid gids)) ≡ wordBytes n ++ (wordBytes uid ++ (tableBytes 4 16 wordBytes gids ++ replicate 3216 0))
+    → slotBytes (peer (newcomer tails n uid gids)) ≡ wordBytes n ++ (wordBytes uid ++ (tableBytes gidWidth gidRoom wordBytes gids ++ replicate (slotLength - pendingAt) 0))
 unfolding slotBytes peerBytes
 newcomer-bytes n uid gids =
-    let P = tableBytes 8 16 pendingBytes [] in
-    let N = tableBytes 256 4 cellOf [] in
+    let P = tableBytes callWidth callRoom pendingBytes [] in
+    let N = tableBytes nameWidth nameRoom cellOf [] in
     let H = headBytes [] in
-    let h : H ≡ replicate 2052 0 = head-table [] ∙ table-none 1 2048 single in
+    let h : H ≡ replicate 2052 0 = head-table [] ∙ table-none 1 headRoom single in
     let t = zeros 4 2052 (wordBytes 0) H word-zero h in
-    let u = zeros 1028 2056 N (wordBytes 0 ++ H) (table-none 256 4 cellOf) t in
-    let v = zeros 132 3084 P (N ++ (wordBytes 0 ++ H)) (table-none 8 16 pendingBytes) u in
-    ap (λ (z : List ℕ). wordBytes n ++ (wordBytes uid ++ (tableBytes 4 16 wordBytes gids ++ z))) v
+    let u = zeros namesLength streamLength N (wordBytes 0 ++ H) (table-none nameWidth nameRoom cellOf) t in
+    let v = zeros pendingLength (slotLength - namesAt) P (N ++ (wordBytes 0 ++ H)) (table-none callWidth callRoom pendingBytes) u in
+    ap (λ (z : List ℕ). wordBytes n ++ (wordBytes uid ++ (tableBytes gidWidth gidRoom wordBytes gids ++ z))) v
 
 -- the gids' cells, and zeros
 pub newcomer-spread : (n uid : ℕ) (gids : List ℕ) → length gids ≤ 16
     → slotBytes (peer (newcomer tails n uid gids))
-    ≡ wordBytes n ++ (wordBytes uid ++ (wordBytes (length gids) ++ (cells wordBytes gids ++ replicate (3280 - 4 * length gids) 0)))
+    ≡ wordBytes n ++ (wordBytes uid ++ (wordBytes (length gids) ++ (cells wordBytes gids ++ replicate ((slotLength - firstGid) - 4 * length gids) 0)))
 unfolding tableBytes
 newcomer-spread n uid gids h =
     let c = cells wordBytes gids in
     let x = 64 - 4 * length gids in
-    let e : x + 3216 ≡ 3280 - 4 * length gids = omega arith in
-    let s : (wordBytes (length gids) ++ pad 64 c) ++ replicate 3216 0 ≡ wordBytes (length gids) ++ (c ++ replicate (3280 - 4 * length gids) 0)
-    = append-assoc (wordBytes (length gids)) (pad 64 c) (replicate 3216 0)
+    let e : x + (slotLength - pendingAt) ≡ (slotLength - firstGid) - 4 * length gids = omega arith in
+    let s : (wordBytes (length gids) ++ pad 64 c) ++ replicate (slotLength - pendingAt) 0 ≡ wordBytes (length gids) ++ (c ++ replicate ((slotLength - firstGid) - 4 * length gids) 0)
+    = append-assoc (wordBytes (length gids)) (pad 64 c) (replicate (slotLength - pendingAt) 0)
     ∙ ap (λ (z : List ℕ). wordBytes (length gids) ++ z)
-    (ap (λ (z : List ℕ). z ++ replicate 3216 0) (table-spread 4 16 wordBytes word-length gids h)
-    ∙ append-assoc c (replicate x 0) (replicate 3216 0)
-    ∙ ap (λ (z : List ℕ). c ++ z) (replicate-append-replicate {A = ℕ} x 3216 0 ∙ ap (λ (k : ℕ). replicate k 0) e)) in
+    (ap (λ (z : List ℕ). z ++ replicate (slotLength - pendingAt) 0) (table-spread gidWidth gidRoom wordBytes word-length gids h)
+    ∙ append-assoc c (replicate x 0) (replicate (slotLength - pendingAt) 0)
+    ∙ ap (λ (z : List ℕ). c ++ z) (replicate-append-replicate {A = ℕ} x (slotLength - pendingAt) 0 ∙ ap (λ (k : ℕ). replicate k 0) e)) in
     newcomer-bytes n uid gids ∙ ap (λ (z : List ℕ). wordBytes n ++ (wordBytes uid ++ z)) s

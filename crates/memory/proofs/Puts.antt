@@ -13,7 +13,7 @@ use Rattle.tables.proofs.Written.{append-written}
 use Rattle.policy.specs.Names.{cellOf}
 use Rattle.stream.specs.Tail.{Tail}
 use Rattle.rules.specs.State.{Pending, Peer, peer, putSlot, withNames, withPending, withStream}
-use Rattle.memory.specs.Layout.{slotStart}
+use Rattle.memory.specs.Layout.{slotLength, slotStart, pendingAt, firstCallee, callWidth, callRoom, pendingLength, namesAt, firstName, nameWidth, nameRoom, namesLength, takenAt, streamLength}
 use Rattle.memory.specs.Encoding.{pendingBytes, streamBytes, slotBytes, memoryOf, stateOf}
 use Rattle.memory.specs.Sound.{Held}
 use Rattle.memory.proofs.Frame.{pending-length, cell-length, slot-length}
@@ -24,10 +24,10 @@ use Rattle.memory.proofs.Good.{good-is}
 use Rattle.memory.proofs.Held.{held-peer}
 
 -- a part of a part
-part-of : (m : List ℕ) (a b c : ℕ) → b + c ≤ 3292 → take c (drop b (take 3292 (drop a m))) ≡ take c (drop (a + b) m)
+part-of : (m : List ℕ) (a b c : ℕ) → b + c ≤ slotLength → take c (drop b (take slotLength (drop a m))) ≡ take c (drop (a + b) m)
 part-of m a b c h =
-    let x = 3292 - b in
-    let e : 3292 ≡ b + x = omega arith in
+    let x = slotLength - b in
+    let e : slotLength ≡ b + x = omega arith in
     ap (λ (n : ℕ). take c (drop b (take n (drop a m)))) e
     ∙ ap (take c) (drop-take b x (drop a m))
     ∙ take-take c x (drop b (drop a m)) (omega arith)
@@ -36,21 +36,21 @@ part-of m a b c h =
 module _ (m : List ℕ) (bytes : (j : ℕ) → getD m j 0 < 256) (g : Held m) (i : ℕ) (h : i < 16) (some : numberAt m i ≡ 0 → ⊥) where
   -- ---- the tables of slot i
 
-  pub names-stand : take 1028 (drop (slotStart i + 208) m) ≡ tableBytes 256 4 cellOf (peerFrom m (slotStart i) .names)
+  pub names-stand : take namesLength (drop (slotStart i + namesAt) m) ≡ tableBytes nameWidth nameRoom cellOf (peerFrom m (slotStart i) .names)
   names-stand =
-      sym (part-of m (slotStart i) 208 1028 (omega arith))
-      ∙ ap (λ (z : List ℕ). take 1028 (drop 208 z)) (held-peer m i g h some)
+      sym (part-of m (slotStart i) namesAt namesLength (omega arith))
+      ∙ ap (λ (z : List ℕ). take namesLength (drop namesAt z)) (held-peer m i g h some)
       ∙ table-part (names-in (peerFrom m (slotStart i)))
 
-  pub pending-stands : take 132 (drop (slotStart i + 76) m) ≡ tableBytes 8 16 pendingBytes (peerFrom m (slotStart i) .pending)
+  pub pending-stands : take pendingLength (drop (slotStart i + pendingAt) m) ≡ tableBytes callWidth callRoom pendingBytes (peerFrom m (slotStart i) .pending)
   pending-stands =
-      sym (part-of m (slotStart i) 76 132 (omega arith))
-      ∙ ap (λ (z : List ℕ). take 132 (drop 76 z)) (held-peer m i g h some)
+      sym (part-of m (slotStart i) pendingAt pendingLength (omega arith))
+      ∙ ap (λ (z : List ℕ). take pendingLength (drop pendingAt z)) (held-peer m i g h some)
       ∙ table-part (pending-in (peerFrom m (slotStart i)))
 
   -- ---- a field put in slot i: `new` are the c bytes at b of it that differ
 
-  pub field-put : (q : Peer Tail) (new : List ℕ) (b c : ℕ) → b + c ≤ 3292
+  pub field-put : (q : Peer Tail) (new : List ℕ) (b c : ℕ) → b + c ≤ slotLength
       → slotBytes (peer q) ≡ take b (slotBytes (peer (peerFrom m (slotStart i)))) ++ (new ++ drop (b + c) (slotBytes (peer (peerFrom m (slotStart i)))))
       → memoryOf (putSlot (stateOf m) i (peer q)) ≡ take (slotStart i + b) m ++ (new ++ drop (slotStart i + b + c) m)
   field-put q new b c l e =
@@ -58,51 +58,51 @@ module _ (m : List ℕ) (bytes : (j : ℕ) → getD m j 0 < 256) (g : Held m) (i
       (put-field (stateOf m) i (peerFrom m (slotStart i)) q new b c (rw (sixteen m) h) (slot-peer m i h some) l e)
 
   pub names-put : (ns : List (List ℕ)) → memoryOf (putSlot (stateOf m) i (peer (withNames (peerFrom m (slotStart i)) ns)))
-      ≡ take (slotStart i + 208) m ++ (tableBytes 256 4 cellOf ns ++ drop (slotStart i + 208 + 1028) m)
+      ≡ take (slotStart i + namesAt) m ++ (tableBytes nameWidth nameRoom cellOf ns ++ drop (slotStart i + namesAt + namesLength) m)
   names-put ns =
       let p = peerFrom m (slotStart i) in
-      field-put (withNames p ns) (tableBytes 256 4 cellOf ns) 208 1028 (omega arith) (put-names p ns)
+      field-put (withNames p ns) (tableBytes nameWidth nameRoom cellOf ns) namesAt namesLength (omega arith) (put-names p ns)
 
   pub pending-put : (ws : List Pending) → memoryOf (putSlot (stateOf m) i (peer (withPending (peerFrom m (slotStart i)) ws)))
-      ≡ take (slotStart i + 76) m ++ (tableBytes 8 16 pendingBytes ws ++ drop (slotStart i + 76 + 132) m)
+      ≡ take (slotStart i + pendingAt) m ++ (tableBytes callWidth callRoom pendingBytes ws ++ drop (slotStart i + pendingAt + pendingLength) m)
   pending-put ws =
       let p = peerFrom m (slotStart i) in
-      field-put (withPending p ws) (tableBytes 8 16 pendingBytes ws) 76 132 (omega arith) (put-pending p ws)
+      field-put (withPending p ws) (tableBytes callWidth callRoom pendingBytes ws) pendingAt pendingLength (omega arith) (put-pending p ws)
 
   pub stream-put : (t : Tail) → memoryOf (putSlot (stateOf m) i (peer (withStream (peerFrom m (slotStart i)) t)))
-      ≡ take (slotStart i + 1236) m ++ (streamBytes t ++ drop (slotStart i + 1236 + 2056) m)
+      ≡ take (slotStart i + takenAt) m ++ (streamBytes t ++ drop (slotStart i + takenAt + streamLength) m)
   stream-put t =
       let p = peerFrom m (slotStart i) in
       let s = slotBytes (peer p) in
       let x = streamBytes t in
-      let e : x ≡ x ++ drop 3292 s = sym (ap (λ (z : List ℕ). x ++ z) (drop-of-length-le s {i = 3292} (omega (arith, slot-length (peer p)))) ∙ append-nil x) in
-      field-put (withStream p t) x 1236 2056 (omega arith) (put-stream p t ∙ ap (λ (z : List ℕ). take 1236 s ++ z) e)
+      let e : x ≡ x ++ drop slotLength s = sym (ap (λ (z : List ℕ). x ++ z) (drop-of-length-le s {i = slotLength} (omega (arith, slot-length (peer p)))) ∙ append-nil x) in
+      field-put (withStream p t) x takenAt streamLength (omega arith) (put-stream p t ∙ ap (λ (z : List ℕ). take takenAt s ++ z) e)
 
   -- ---- the writes that make them; n is the count that the code read, c where the cell stands
 
-  room : (k : ℕ) → k ≤ 3292 → slotStart i + k ≤ length m
+  room : (k : ℕ) → k ≤ slotLength → slotStart i + k ≤ length m
   room k l = omega (arith, g .sized)
 
-  pub name-appended : (name m₁ m₂ : List ℕ) (n c : ℕ) → n ≡ length (peerFrom m (slotStart i) .names) → n < 4 → c ≡ slotStart i + 212 + 256 * n
+  pub name-appended : (name m₁ m₂ : List ℕ) (n c : ℕ) → n ≡ length (peerFrom m (slotStart i) .names) → n < 4 → c ≡ slotStart i + firstName + nameWidth * n
       → m₁ ≡ take c m ++ (cellOf name ++ drop (c + 256) m)
-      → m₂ ≡ take (slotStart i + 208) m₁ ++ (wordBytes (n + 1) ++ drop (slotStart i + 208 + 4) m₁)
+      → m₂ ≡ take (slotStart i + namesAt) m₁ ++ (wordBytes (n + 1) ++ drop (slotStart i + namesAt + 4) m₁)
       → m₂ ≡ memoryOf (putSlot (stateOf m) i (peer (withNames (peerFrom m (slotStart i)) (peerFrom m (slotStart i) .names ++ (name ∷ [])))))
   name-appended name m₁ m₂ n c e l ec e₁ e₂ =
       let a = slotStart i in
       let ns = peerFrom m a .names in
-      let f : c ≡ a + 208 + (4 + 256 * n) = omega arith in
-      append-written 256 4 cellOf cell-length ns name m m₁ m₂ (a + 208) c n (omega (arith, room 1236 (omega arith))) names-stand
+      let f : c ≡ a + namesAt + (4 + nameWidth * n) = omega arith in
+      append-written nameWidth nameRoom cellOf cell-length ns name m m₁ m₂ (a + namesAt) c n (omega (arith, room takenAt (omega arith))) names-stand
       e l f e₁ e₂
       ∙ sym (names-put (ns ++ (name ∷ [])))
 
-  pub call-appended : (w : Pending) (m₁ m₂ : List ℕ) (n c : ℕ) → n ≡ length (peerFrom m (slotStart i) .pending) → n < 16 → c ≡ slotStart i + 80 + 8 * n
+  pub call-appended : (w : Pending) (m₁ m₂ : List ℕ) (n c : ℕ) → n ≡ length (peerFrom m (slotStart i) .pending) → n < 16 → c ≡ slotStart i + firstCallee + callWidth * n
       → m₁ ≡ take c m ++ (pendingBytes w ++ drop (c + 8) m)
-      → m₂ ≡ take (slotStart i + 76) m₁ ++ (wordBytes (n + 1) ++ drop (slotStart i + 76 + 4) m₁)
+      → m₂ ≡ take (slotStart i + pendingAt) m₁ ++ (wordBytes (n + 1) ++ drop (slotStart i + pendingAt + 4) m₁)
       → m₂ ≡ memoryOf (putSlot (stateOf m) i (peer (withPending (peerFrom m (slotStart i)) (peerFrom m (slotStart i) .pending ++ (w ∷ [])))))
   call-appended w m₁ m₂ n c e l ec e₁ e₂ =
       let a = slotStart i in
       let ws = peerFrom m a .pending in
-      let f : c ≡ a + 76 + (4 + 8 * n) = omega arith in
-      append-written 8 16 pendingBytes pending-length ws w m m₁ m₂ (a + 76) c n (omega (arith, room 208 (omega arith))) pending-stands
+      let f : c ≡ a + pendingAt + (4 + callWidth * n) = omega arith in
+      append-written callWidth callRoom pendingBytes pending-length ws w m m₁ m₂ (a + pendingAt) c n (omega (arith, room namesAt (omega arith))) pending-stands
       e l f e₁ e₂
       ∙ sym (pending-put (ws ++ (w ∷ [])))

@@ -16,6 +16,7 @@ use Rattle.tables.proofs.Words.{word-front}
 use Rattle.policy.specs.Names.{cellOf, nameOf}
 use Rattle.stream.specs.Tail.{Tail}
 use Rattle.rules.specs.State.{Peer, free, peer}
+use Rattle.memory.specs.Layout.{slotLength, takenAt, headAt, firstByte, headRoom}
 use Rattle.memory.specs.Encoding.{pendingBytes, headBytes, peerBytes, slotBytes, wordOf, pendingOf, tailOf, peerOf, slotOf}
 use Rattle.memory.proofs.Frame.{pending-length, cell-length, free-bytes}
 use Rattle.memory.proofs.Fields.{gids-in, pending-in, names-in, table-back, stream-bytes}
@@ -31,7 +32,7 @@ pub record Fits (p : Peer Tail) : Type 0 where
   pub names : length (p .names) ≤ 4
   pub namesBack : map nameOf (map cellOf (p .names)) ≡ p .names
   pub taken : p .stream .taken < 4294967296
-  pub head : length (p .stream .head) ≤ 2048
+  pub head : length (p .stream .head) ≤ headRoom
 
 -- ---- each field
 
@@ -47,40 +48,40 @@ uid-back p h =
     ∙ word-again (p .uid) _ h
 
 -- the head behind the bytes d, of which the first 1236 are something else
-pub taken-back : (p : Peer Tail) → p .stream .taken < 4294967296 → wordAt Little (slotBytes (peer p)) 1236 ≡ p .stream .taken
+pub taken-back : (p : Peer Tail) → p .stream .taken < 4294967296 → wordAt Little (slotBytes (peer p)) takenAt ≡ p .stream .taken
 taken-back p h =
-    sym (word-front (slotBytes (peer p)) 1236)
+    sym (word-front (slotBytes (peer p)) takenAt)
     ∙ ap (λ (z : List ℕ). wordAt Little z 0) (stream-bytes p)
     ∙ word-again (p .stream .taken) (headBytes (p .stream .head)) h
 
-head-bytes : (p : Peer Tail) → drop 1240 (slotBytes (peer p)) ≡ headBytes (p .stream .head)
+head-bytes : (p : Peer Tail) → drop headAt (slotBytes (peer p)) ≡ headBytes (p .stream .head)
 head-bytes p =
-    sym (drop-drop 4 1236 (slotBytes (peer p)))
+    sym (drop-drop 4 takenAt (slotBytes (peer p)))
     ∙ ap (drop 4) (stream-bytes p)
     ∙ drop-at (wordBytes (p .stream .taken)) (headBytes (p .stream .head)) 4 (word-length (p .stream .taken))
 
-pub head-count : (p : Peer Tail) → length (p .stream .head) ≤ 2048 → wordAt Little (slotBytes (peer p)) 1240 ≡ length (p .stream .head)
+pub head-count : (p : Peer Tail) → length (p .stream .head) ≤ headRoom → wordAt Little (slotBytes (peer p)) headAt ≡ length (p .stream .head)
 unfolding headBytes
 head-count p h =
-    sym (word-front (slotBytes (peer p)) 1240)
+    sym (word-front (slotBytes (peer p)) headAt)
     ∙ ap (λ (z : List ℕ). wordAt Little z 0) (head-bytes p)
-    ∙ word-again (length (p .stream .head)) (pad 2048 (p .stream .head)) (omega arith)
+    ∙ word-again (length (p .stream .head)) (pad headRoom (p .stream .head)) (omega arith)
 
-pub head-padded : (p : Peer Tail) → drop 1244 (slotBytes (peer p)) ≡ pad 2048 (p .stream .head)
+pub head-padded : (p : Peer Tail) → drop firstByte (slotBytes (peer p)) ≡ pad headRoom (p .stream .head)
 unfolding headBytes
 head-padded p =
     let h = p .stream .head in
-    sym (drop-drop 4 1240 (slotBytes (peer p)))
+    sym (drop-drop 4 headAt (slotBytes (peer p)))
     ∙ ap (drop 4) (head-bytes p)
-    ∙ drop-at (wordBytes (length h)) (pad 2048 h) 4 (word-length (length h))
+    ∙ drop-at (wordBytes (length h)) (pad headRoom h) 4 (word-length (length h))
 
-pub tail-back : (p : Peer Tail) → p .stream .taken < 4294967296 → length (p .stream .head) ≤ 2048 → tailOf (slotBytes (peer p)) ≡ p .stream
+pub tail-back : (p : Peer Tail) → p .stream .taken < 4294967296 → length (p .stream .head) ≤ headRoom → tailOf (slotBytes (peer p)) ≡ p .stream
 unfolding tailOf
 tail-back p l h =
     let a = taken-back p l in
-    let m : min (length (p .stream .head)) 2048 ≡ length (p .stream .head) = min-eq-left h in
-    let b : take (min (wordAt Little (slotBytes (peer p)) 1240) 2048) (drop 1244 (slotBytes (peer p))) ≡ p .stream .head
-    = rw (head-count p h, m, head-padded p, pad-fits 2048 (p .stream .head) h) (take-at (p .stream .head) _ (length (p .stream .head)) refl) in
+    let m : min (length (p .stream .head)) headRoom ≡ length (p .stream .head) = min-eq-left h in
+    let b : take (min (wordAt Little (slotBytes (peer p)) headAt) headRoom) (drop firstByte (slotBytes (peer p))) ≡ p .stream .head
+    = rw (head-count p h, m, head-padded p, pad-fits headRoom (p .stream .head) h) (take-at (p .stream .head) _ (length (p .stream .head)) refl) in
     λ j. record { taken = a j; head = b j }
 
 -- ---- the whole
@@ -112,4 +113,4 @@ zeros-word n h =
 
 pub free-back : slotOf (slotBytes free) ≡ free
 unfolding slotOf
-free-back = rw (free-bytes, zeros-word 3292 (omega arith))
+free-back = rw (free-bytes, zeros-word slotLength (omega arith))

@@ -17,6 +17,7 @@ use Rattle.tables.proofs.Cells.{cells-parts}
 use Rattle.stream.proofs.Good.{tail-fits}
 use Rattle.stream.specs.Tail.{Tail}
 use Rattle.rules.specs.State.{Peer, Slot, free, peer, State}
+use Rattle.memory.specs.Layout.{memoryLength, slotLength}
 use Rattle.memory.specs.Encoding.{slotBytes, memoryOf, slotOf, stateOf}
 use Rattle.memory.specs.Good.{goodSlot, goodSlots, plain, good}
 use Rattle.memory.specs.Sound.{word32, narrow, Sound}
@@ -27,9 +28,9 @@ use Rattle.memory.proofs.Slots.{Fits, slot-back, free-back}
 use Rattle.memory.proofs.Good.{good-is, good-sound}
 
 -- the parts of the bytes of slots are the bytes of each
-slot-parts : (slots : List (Slot Tail)) → length slots ≡ 16 → parts 3292 16 (cells slotBytes slots) ≡ map slotBytes slots
+slot-parts : (slots : List (Slot Tail)) → length slots ≡ 16 → parts slotLength 16 (cells slotBytes slots) ≡ map slotBytes slots
 slot-parts slots e =
-    rw (append-nil (cells slotBytes slots), e) at (cells-parts 3292 slotBytes slot-length slots [])
+    rw (append-nil (cells slotBytes slots), e) at (cells-parts slotLength slotBytes slot-length slots [])
 
 last-back : (s : State Tail) → s .last < 4294967296 → wordAt Little (memoryOf s) 0 ≡ s .last
 unfolding memoryOf
@@ -85,7 +86,7 @@ pub state-again : (s : State Tail) → Sound s → stateOf (memoryOf s) ≡ s
 unfolding stateOf
 state-again s g =
     let a : wordAt Little (memoryOf s) 0 ≡ s .last = last-back s (g .fits) in
-    let b : map slotOf (parts 3292 16 (drop 4 (memoryOf s))) ≡ s .slots
+    let b : map slotOf (parts slotLength 16 (drop 4 (memoryOf s))) ≡ s .slots
     = rw (memory-slots s, slot-parts (s .slots) (g .sixteen)) (slots-again (s .slots) (s .last) (g .slots) (g .fits) (s .slots) (g .slots) (g .narrows)) in
     λ j. record { last = a j; slots = b j }
 
@@ -95,7 +96,7 @@ unfolding good
 good-memory s g =
     let p = plain-slots (s .slots) (s .last) (g .slots) (g .fits) (s .slots) (g .slots) (g .narrows) in
     rw (
-      eq-eqb (length (memoryOf s)) 52676 (memory-length s (g .sixteen)),
+      eq-eqb (length (memoryOf s)) memoryLength (memory-length s (g .sixteen)),
       state-again s g,
       g .slots,
       memory-slots s,

@@ -14,7 +14,7 @@ use Rattle.tables.proofs.Cells.{parts-put, map-set}
 use Rattle.tables.proofs.Sweep.{sweep, swept, sweep-begins, sweep-step, sweep-ends}
 use Rattle.stream.specs.Tail.{Tail}
 use Rattle.rules.specs.State.{Slot, free, State, putSlot}
-use Rattle.memory.specs.Layout.{slotStart}
+use Rattle.memory.specs.Layout.{memoryLength, slotLength, slotStart}
 use Rattle.memory.specs.Encoding.{slotBytes, memoryOf, slotOf, stateOf}
 use Rattle.memory.specs.Places.{putAt, changed, mapped}
 use Rattle.memory.proofs.Frame.{slot-length}
@@ -27,54 +27,54 @@ word-first m h b =
     sym (ap (take 4) (word-cut m h b) ∙ take-at (wordBytes (wordAt Little m 0)) (drop 4 m) 4 (word-length (wordAt Little m 0)))
 
 -- the first four bytes, and the slots with part i put
-put-split : (m y : List ℕ) (i : ℕ) → putAt m i y ≡ take 4 m ++ (take (3292 * i) (drop 4 m) ++ (y ++ drop (3292 * i + 3292) (drop 4 m)))
+put-split : (m y : List ℕ) (i : ℕ) → putAt m i y ≡ take 4 m ++ (take (slotLength * i) (drop 4 m) ++ (y ++ drop (slotLength * i + slotLength) (drop 4 m)))
 put-split m y i =
-    let e : 4 + 3292 * i + 3292 ≡ 4 + (3292 * i + 3292) = omega arith in
-    rw (e, take-add 4 (3292 * i) m, drop-drop (3292 * i + 3292) 4 m)
-    (append-assoc (take 4 m) (take (3292 * i) (drop 4 m)) (y ++ drop (4 + (3292 * i + 3292)) m))
+    let e : slotStart i + slotLength ≡ 4 + (slotLength * i + slotLength) = omega arith in
+    rw (e, take-add 4 (slotLength * i) m, drop-drop (slotLength * i + slotLength) 4 m)
+    (append-assoc (take 4 m) (take (slotLength * i) (drop 4 m)) (y ++ drop (4 + (slotLength * i + slotLength)) m))
 
-pub put-length : (m y : List ℕ) (i : ℕ) → i < 16 → length m ≡ 52676 → length y ≡ 3292 → length (putAt m i y) ≡ 52676
+pub put-length : (m y : List ℕ) (i : ℕ) → i < 16 → length m ≡ memoryLength → length y ≡ slotLength → length (putAt m i y) ≡ memoryLength
 put-length m y i h l k =
     let a : length (take (slotStart i) m) ≡ slotStart i = length-take-le (slotStart i) m (omega arith) in
-    let b : length (drop (slotStart i + 3292) m) ≡ 52676 - (slotStart i + 3292) = length-drop (slotStart i + 3292) m ∙ omega arith in
-    let c = length-append y (drop (slotStart i + 3292) m) in
-    length-append (take (slotStart i) m) (y ++ drop (slotStart i + 3292) m) ∙ omega arith
+    let b : length (drop (slotStart i + slotLength) m) ≡ memoryLength - (slotStart i + slotLength) = length-drop (slotStart i + slotLength) m ∙ omega arith in
+    let c = length-append y (drop (slotStart i + slotLength) m) in
+    length-append (take (slotStart i) m) (y ++ drop (slotStart i + slotLength) m) ∙ omega arith
 
 pub put-last-same : (m y : List ℕ) (i : ℕ) → 4 ≤ length m → wordAt Little (putAt m i y) 0 ≡ wordAt Little m 0
 put-last-same m y i h =
-    let z = take (3292 * i) (drop 4 m) ++ (y ++ drop (3292 * i + 3292) (drop 4 m)) in
+    let z = take (slotLength * i) (drop 4 m) ++ (y ++ drop (slotLength * i + slotLength) (drop 4 m)) in
     sym (word-take (putAt m i y) 4 0 (omega arith))
     ∙ ap (λ (b : List ℕ). wordAt Little b 0) (ap (take 4) (put-split m y i) ∙ take-at (take 4 m) z 4 (length-take-le 4 m h))
     ∙ word-take m 4 0 (omega arith)
 
-pub put-again : (m y : List ℕ) (i : ℕ) → i < 16 → length m ≡ 52676 → length y ≡ 3292 → stateOf (putAt m i y) ≡ putSlot (stateOf m) i (slotOf y)
+pub put-again : (m y : List ℕ) (i : ℕ) → i < 16 → length m ≡ memoryLength → length y ≡ slotLength → stateOf (putAt m i y) ≡ putSlot (stateOf m) i (slotOf y)
 unfolding stateOf
 put-again m y i h l k =
     let d = drop 4 m in
-    let z = take (3292 * i) d ++ (y ++ drop (3292 * i + 3292) d) in
+    let z = take (slotLength * i) d ++ (y ++ drop (slotLength * i + slotLength) d) in
     let a : wordAt Little (putAt m i y) 0 ≡ wordAt Little m 0 = put-last-same m y i (omega arith) in
     let b : drop 4 (putAt m i y) ≡ z = ap (drop 4) (put-split m y i) ∙ drop-at (take 4 m) z 4 (length-take-le 4 m (omega arith)) in
-    let c : map slotOf (parts 3292 16 (drop 4 (putAt m i y))) ≡ set (map slotOf (parts 3292 16 d)) i (slotOf y)
-    = rw (b, parts-put 3292 16 d y i h k (omega (arith, length-drop 4 m))) (map-set slotOf (parts 3292 16 d) i y) in
+    let c : map slotOf (parts slotLength 16 (drop 4 (putAt m i y))) ≡ set (map slotOf (parts slotLength 16 d)) i (slotOf y)
+    = rw (b, parts-put slotLength 16 d y i h k (omega (arith, length-drop 4 m))) (map-set slotOf (parts slotLength 16 d) i y) in
     λ j. record { last = a j; slots = c j }
 
 -- ---- each slot changed in turn
 
-cells-sweep : (f : Slot Tail → Slot Tail) (n : ℕ) (d : List ℕ) → length d ≡ 3292 * n
-    → cells slotBytes (map f (map slotOf (parts 3292 n d))) ≡ sweep (changed f) 3292 n d
+cells-sweep : (f : Slot Tail → Slot Tail) (n : ℕ) (d : List ℕ) → length d ≡ slotLength * n
+    → cells slotBytes (map f (map slotOf (parts slotLength n d))) ≡ sweep (changed f) slotLength n d
 unfolding cells parts sweep
 cells-sweep f zero [] l = refl
 cells-sweep f zero (x ∷ d) l = absurd (omega arith)
 cells-sweep f (suc n) d l =
-    ap (λ (z : List ℕ). changed f (take 3292 d) ++ z) (cells-sweep f n (drop 3292 d) (length-drop 3292 d ∙ omega arith))
+    ap (λ (z : List ℕ). changed f (take slotLength d) ++ z) (cells-sweep f n (drop slotLength d) (length-drop slotLength d ∙ omega arith))
 
 -- what is to come out is what stands before slot i already, and what the rest comes to
 pub record Sweeping (f : Slot Tail → Slot Tail) (m₀ m : List ℕ) (i : ℕ) : Type 0 where
   pub below : i ≤ 16
-  pub sized : length m ≡ 52676
-  pub left : memoryOf (mapped f (stateOf m₀)) ≡ take 4 m ++ swept (changed f) 3292 16 i (drop 4 m)
+  pub sized : length m ≡ memoryLength
+  pub left : memoryOf (mapped f (stateOf m₀)) ≡ take 4 m ++ swept (changed f) slotLength 16 i (drop 4 m)
 
-pub sweeping-begins : (f : Slot Tail → Slot Tail) (m : List ℕ) → ((i : ℕ) → getD m i 0 < 256) → length m ≡ 52676 → Sweeping f m m 0
+pub sweeping-begins : (f : Slot Tail → Slot Tail) (m : List ℕ) → ((i : ℕ) → getD m i 0 < 256) → length m ≡ memoryLength → Sweeping f m m 0
 unfolding memoryOf stateOf
 sweeping-begins f m b l =
     let d = drop 4 m in
@@ -82,21 +82,21 @@ sweeping-begins f m b l =
       below = omega arith;
       sized = l;
       left =
-          ap₂ _++_ (word-first m (omega arith) b) (cells-sweep f 16 d (length-drop 4 m ∙ omega arith) ∙ sweep-begins (changed f) 3292 16 d);
+          ap₂ _++_ (word-first m (omega arith) b) (cells-sweep f 16 d (length-drop 4 m ∙ omega arith) ∙ sweep-begins (changed f) slotLength 16 d);
     }
 
 pub sweeping-again : (f : Slot Tail → Slot Tail) (m₀ m u y : List ℕ) (i : ℕ) → Sweeping f m₀ m i → i < 16 → u ≡ putAt m i y
-    → y ≡ changed f (take 3292 (drop (slotStart i) m)) → Sweeping f m₀ u (i + 1)
+    → y ≡ changed f (take slotLength (drop (slotStart i) m)) → Sweeping f m₀ u (i + 1)
 sweeping-again f m₀ m u y i g h p e =
     let d = drop 4 m in
-    let l : length m ≡ 52676 = g .sized in
-    let k : length d ≡ 52672 = length-drop 4 m ∙ omega arith in
+    let l : length m ≡ memoryLength = g .sized in
+    let k : length d ≡ (slotLength * 16) = length-drop 4 m ∙ omega arith in
     let t : length (take 4 m) ≡ 4 = length-take-le 4 m (omega arith) in
-    let z = take (3292 * i) d ++ (y ++ drop (3292 * i + 3292) d) in
+    let z = take (slotLength * i) d ++ (y ++ drop (slotLength * i + slotLength) d) in
     let q : u ≡ take 4 m ++ z = p ∙ put-split m y i in
-    let ly : length y ≡ 3292 = ap length e ∙ slot-length (f (slotOf (take 3292 (drop (slotStart i) m)))) in
-    let ey : y ≡ changed f (take 3292 (drop (3292 * i) d)) = rw (drop-drop (3292 * i) 4 m) e in
-    let s = sweep-step (changed f) 3292 16 (swept (changed f) 3292 16 i d) d y i h (omega arith) ly refl ey in
+    let ly : length y ≡ slotLength = ap length e ∙ slot-length (f (slotOf (take slotLength (drop (slotStart i) m)))) in
+    let ey : y ≡ changed f (take slotLength (drop (slotLength * i) d)) = rw (drop-drop (slotLength * i) 4 m) e in
+    let s = sweep-step (changed f) slotLength 16 (swept (changed f) slotLength 16 i d) d y i h (omega arith) ly refl ey in
     record {
       below = omega arith;
       sized = ap length p ∙ put-length m y i h l ly;
@@ -105,10 +105,10 @@ sweeping-again f m₀ m u y i g h p e =
 
 pub sweeping-ends : (f : Slot Tail → Slot Tail) (m₀ m : List ℕ) (i : ℕ) → Sweeping f m₀ m i → 16 ≤ i → m ≡ memoryOf (mapped f (stateOf m₀))
 sweeping-ends f m₀ m i g h =
-    sym (g .left ∙ ap (λ (z : List ℕ). take 4 m ++ z) (sweep-ends (changed f) 3292 16 (drop 4 m) i h) ∙ take-append-drop 4 m)
+    sym (g .left ∙ ap (λ (z : List ℕ). take 4 m ++ z) (sweep-ends (changed f) slotLength 16 (drop 4 m) i h) ∙ take-append-drop 4 m)
 
 -- a slot freed, and then each changed
-pub swept-freed : (f : Slot Tail → Slot Tail) (m m₁ m₂ y : List ℕ) (i : ℕ) → i < 16 → length m ≡ 52676 → y ≡ slotBytes free → m₁ ≡ putAt m i y
+pub swept-freed : (f : Slot Tail → Slot Tail) (m m₁ m₂ y : List ℕ) (i : ℕ) → i < 16 → length m ≡ memoryLength → y ≡ slotBytes free → m₁ ≡ putAt m i y
     → m₂ ≡ memoryOf (mapped f (stateOf m₁)) → m₂ ≡ memoryOf (record { last = stateOf m .last; slots = map f (set (stateOf m .slots) i free) })
 swept-freed f m m₁ m₂ y i h l e p q =
     let r : stateOf m₁ ≡ putSlot (stateOf m) i free

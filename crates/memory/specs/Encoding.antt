@@ -11,7 +11,7 @@ use Rattle.tables.specs.Tables.{cells, parts, tableBytes, tableOf}
 use Rattle.policy.specs.Names.{cellOf, nameOf}
 use Rattle.stream.specs.Tail.{Tail}
 use Rattle.rules.specs.State.{Pending, Peer, Slot, free, peer, State}
-use Rattle.memory.specs.Layout.{gidsAt, pendingAt, namesAt, takenAt, headAt, slotLength}
+use Rattle.memory.specs.Layout.{slotLength, gidsAt, gidWidth, gidRoom, pendingAt, callWidth, callRoom, namesAt, nameWidth, nameRoom, takenAt, headAt, headRoom}
 
 -- ---- what a state is in bytes (rule 10.2)
 
@@ -20,7 +20,7 @@ pendingBytes w = wordBytes (w .callee) ++ wordBytes (w .serial)
 
 -- a head has room for the longest that passes, 2,048 bytes
 unfoldable pub headBytes : List ℕ → List ℕ
-headBytes h = wordBytes (length h) ++ pad 2048 h
+headBytes h = wordBytes (length h) ++ pad headRoom h
 
 abbrev pub streamBytes : Tail → List ℕ
 streamBytes t = wordBytes (t .taken) ++ headBytes (t .head)
@@ -29,9 +29,9 @@ unfoldable pub peerBytes : Peer Tail → List ℕ
 peerBytes p =
     wordBytes (p .number)
     ++ (wordBytes (p .uid)
-    ++ (tableBytes 4 16 wordBytes (p .gids)
-    ++ (tableBytes 8 16 pendingBytes (p .pending)
-    ++ (tableBytes 256 4 cellOf (p .names) ++ streamBytes (p .stream)))))
+    ++ (tableBytes gidWidth gidRoom wordBytes (p .gids)
+    ++ (tableBytes callWidth callRoom pendingBytes (p .pending)
+    ++ (tableBytes nameWidth nameRoom cellOf (p .names) ++ streamBytes (p .stream)))))
 
 -- a free slot is zeros (rule 10.5)
 unfoldable pub slotBytes : Slot Tail → List ℕ
@@ -51,16 +51,16 @@ pendingOf b = record { callee = wordAt Little b 0; serial = wordAt Little b 4 }
 
 unfoldable pub tailOf : List ℕ → Tail
 tailOf b =
-    record { taken = wordAt Little b takenAt; head = take (min (wordAt Little b headAt) 2048) (drop (headAt + 4) b) }
+    record { taken = wordAt Little b takenAt; head = take (min (wordAt Little b headAt) headRoom) (drop (headAt + 4) b) }
 
 unfoldable pub peerOf : List ℕ → Peer Tail
 peerOf b =
     record {
       number = wordAt Little b 0;
       uid = wordAt Little b 4;
-      gids = tableOf 4 16 wordOf (drop gidsAt b);
-      pending = tableOf 8 16 pendingOf (drop pendingAt b);
-      names = tableOf 256 4 nameOf (drop namesAt b);
+      gids = tableOf gidWidth gidRoom wordOf (drop gidsAt b);
+      pending = tableOf callWidth callRoom pendingOf (drop pendingAt b);
+      names = tableOf nameWidth nameRoom nameOf (drop namesAt b);
       stream = tailOf b;
     }
 

@@ -1,42 +1,94 @@
--- Where things stand in the guard's memory: the last number, then sixteen slots of one size (rule 10.1).
+-- Where things stand in the guard's memory: the last number, then sixteen slots of one size. Every place is computed from what stands before it (rule 10.1).
 use Prim.Native.Nat.{ℕ, _+_, _*_}
 
--- all of it has one length (rule 10.1)
-abbrev pub memoryLength : ℕ
-memoryLength = 52676
+-- ---- how wide a thing is, and how many of it a slot has room for
 
-abbrev pub slotLength : ℕ
-slotLength = 3292
+abbrev pub gidWidth : ℕ
+gidWidth = 4
 
--- where slot i stands (rule 10.1)
-abbrev pub slotStart : ℕ → ℕ
-slotStart i = 4 + 3292 * i
+abbrev pub gidRoom : ℕ
+gidRoom = 16
 
--- of a slot: number, uid, gids (a count and 16 of 4 bytes), pending calls (a count and 16 of 8), names (a count and 4 of 256), bytes taken of the
--- unfinished message, and its head (a count and 2,048 bytes) (rule 10.1)
+-- a pending call: the callee's number and the call's serial
+abbrev pub callWidth : ℕ
+callWidth = 8
+
+abbrev pub callRoom : ℕ
+callRoom = 16
+
+-- a name behind its length byte
+abbrev pub nameWidth : ℕ
+nameWidth = 256
+
+abbrev pub nameRoom : ℕ
+nameRoom = 4
+
+-- bytes of a head
+abbrev pub headRoom : ℕ
+headRoom = 2048
+
+-- ---- tables: a count, and room for so many things
+
+abbrev pub gidsLength : ℕ
+gidsLength = 4 + gidWidth * gidRoom
+
+abbrev pub pendingLength : ℕ
+pendingLength = 4 + callWidth * callRoom
+
+abbrev pub namesLength : ℕ
+namesLength = 4 + nameWidth * nameRoom
+
+-- a stream: how many bytes were taken, how many of them are kept, and those
+abbrev pub streamLength : ℕ
+streamLength = 4 + (4 + headRoom)
+
+-- ---- places in a slot, whose first word is the peer's number
+
+abbrev pub uidAt : ℕ
+uidAt = 4
+
 abbrev pub gidsAt : ℕ
-gidsAt = 8
+gidsAt = uidAt + 4
+
+abbrev pub firstGid : ℕ
+firstGid = gidsAt + 4
 
 abbrev pub pendingAt : ℕ
-pendingAt = 76
+pendingAt = gidsAt + gidsLength
 
 abbrev pub firstCallee : ℕ
-firstCallee = 80
+firstCallee = pendingAt + 4
 
 abbrev pub firstSerial : ℕ
-firstSerial = 84
+firstSerial = firstCallee + 4
 
 abbrev pub namesAt : ℕ
-namesAt = 208
+namesAt = pendingAt + pendingLength
 
 abbrev pub firstName : ℕ
-firstName = 212
+firstName = namesAt + 4
 
 abbrev pub takenAt : ℕ
-takenAt = 1236
+takenAt = namesAt + namesLength
 
 abbrev pub headAt : ℕ
-headAt = 1240
+headAt = takenAt + 4
 
 abbrev pub firstByte : ℕ
-firstByte = 1244
+firstByte = headAt + 4
+
+abbrev pub slotLength : ℕ
+slotLength = takenAt + streamLength
+
+-- ---- slots in memory
+
+-- behind the last number
+abbrev pub slotsAt : ℕ
+slotsAt = 4
+
+-- where slot i stands
+abbrev pub slotStart : ℕ → ℕ
+slotStart i = slotsAt + slotLength * i
+
+abbrev pub memoryLength : ℕ
+memoryLength = slotsAt + slotLength * 16

@@ -10,22 +10,22 @@ use Rattle.tables.specs.Tables.{tableOf}
 use Rattle.policy.specs.Names.{nameOf}
 use Rattle.stream.specs.Tail.{Tail}
 use Rattle.rules.specs.State.{Peer, Slot, State, firstBy}
-use Rattle.memory.specs.Layout.{slotStart}
+use Rattle.memory.specs.Layout.{slotLength, slotStart, gidsAt, gidWidth, gidRoom, pendingAt, callWidth, callRoom, namesAt, nameWidth, nameRoom, takenAt, headAt, firstByte, headRoom}
 use Rattle.memory.specs.Encoding.{wordOf, pendingOf, slotBytes, slotOf, stateOf}
 
 -- ---- the peer whose slot begins at a
 
 abbrev pub tailFrom : List ℕ → ℕ → Tail
-tailFrom m a = record { taken = wordAt Little m (a + 1236); head = take (min (wordAt Little m (a + 1240)) 2048) (drop (a + 1244) m) }
+tailFrom m a = record { taken = wordAt Little m (a + takenAt); head = take (min (wordAt Little m (a + headAt)) headRoom) (drop (a + firstByte) m) }
 
 abbrev pub peerFrom : List ℕ → ℕ → Peer Tail
 peerFrom m a =
     record {
       number = wordAt Little m a;
       uid = wordAt Little m (a + 4);
-      gids = tableOf 4 16 wordOf (drop (a + 8) m);
-      pending = tableOf 8 16 pendingOf (drop (a + 76) m);
-      names = tableOf 256 4 nameOf (drop (a + 208) m);
+      gids = tableOf gidWidth gidRoom wordOf (drop (a + gidsAt) m);
+      pending = tableOf callWidth callRoom pendingOf (drop (a + pendingAt) m);
+      names = tableOf nameWidth nameRoom nameOf (drop (a + namesAt) m);
       stream = tailFrom m a;
     }
 
@@ -44,7 +44,7 @@ pub record Found (t : Slot Tail → Bool) (m : List ℕ) (from r : ℕ) : Type 0
 
 -- m with the bytes y for those of slot i
 abbrev pub putAt : List ℕ → ℕ → List ℕ → List ℕ
-putAt m i y = take (slotStart i) m ++ (y ++ drop (slotStart i + 3292) m)
+putAt m i y = take (slotStart i) m ++ (y ++ drop (slotStart i + slotLength) m)
 
 -- a slot's bytes after f
 abbrev pub changed : (Slot Tail → Slot Tail) → List ℕ → List ℕ

@@ -14,6 +14,7 @@ use Rattle.wire.proofs.Parts.{drop-take, drop-past, part-nested, cut-two}
 use Rattle.tables.proofs.Table.{table-take}
 use Rattle.rules.specs.State.{Pending, peer}
 use Rattle.rules.specs.Pending.{endedAll, bereft}
+use Rattle.memory.specs.Layout.{memoryLength, slotLength, slotStart, pendingAt, callWidth, callRoom, pendingLength, namesAt}
 use Rattle.memory.specs.Encoding.{pendingBytes, pendingOf, slotBytes, peerOf, slotOf, memoryOf, stateOf}
 use Rattle.memory.specs.Places.{numberAt, changed}
 use Rattle.memory.proofs.Reading.{sixteen, slot-at, part-peer, part-number}
@@ -28,7 +29,7 @@ use Rattle.peers.proofs.Found.{Octets, below}
 
 module _ (m : List ℕ) (i : ℕ) (p : PlainSlot m i) (n : ℕ) (e : n ≡ numberAt m i) where
   part : List ℕ
-  part = take 3292 (drop (4 + 3292 * i) m)
+  part = take slotLength (drop (slotStart i) m)
 
   number : wordAt Little part 0 ≡ n
   unfolding part
@@ -38,55 +39,55 @@ module _ (m : List ℕ) (i : ℕ) (p : PlainSlot m i) (n : ℕ) (e : n ≡ numbe
   unfolding endedAt part
   slot-none z c =
       let q : part ≡ changed (bereft c) part = bereft-free c part (p .plain) (number ∙ z) in
-      cut-two m (4 + 3292 * i) 3292 ∙ ap (λ (y : List ℕ). take (4 + 3292 * i) m ++ (y ++ drop (4 + 3292 * i + 3292) m)) q
+      cut-two m (slotStart i) slotLength ∙ ap (λ (y : List ℕ). take (slotStart i) m ++ (y ++ drop (slotStart i + slotLength) m)) q
 
   -- the table of pending calls, as the code cuts it
-  cut-table : take (4 + 3292 * i + 76 + 132 - (4 + 3292 * i + 76)) (drop (4 + 3292 * i + 76) m) ≡ take 132 (drop 76 part)
+  cut-table : take (slotStart i + pendingAt + pendingLength - (slotStart i + pendingAt)) (drop (slotStart i + pendingAt) m) ≡ take pendingLength (drop pendingAt part)
   unfolding part
   cut-table =
-      let d = drop (4 + 3292 * i) m in
-      cut-at (4 + 3292 * i + 76) 132 m
-      ∙ ap (take 132) (sym (drop-drop 76 (4 + 3292 * i) m))
-      ∙ sym (ap (take 132) (drop-take 76 3216 d) ∙ take-take 132 3216 (drop 76 d) (omega arith))
+      let d = drop (slotStart i) m in
+      cut-at (slotStart i + pendingAt) pendingLength m
+      ∙ ap (take pendingLength) (sym (drop-drop pendingAt (slotStart i) m))
+      ∙ sym (ap (take pendingLength) (drop-take pendingAt (slotLength - pendingAt) d) ∙ take-take pendingLength (slotLength - pendingAt) (drop pendingAt d) (omega arith))
 
-  pub slot-length-is : length (take (4 + 3292 * i + 76 + 132 - (4 + 3292 * i + 76)) (drop (4 + 3292 * i + 76) m)) ≡ 132
+  pub slot-length-is : length (take (slotStart i + pendingAt + pendingLength - (slotStart i + pendingAt)) (drop (slotStart i + pendingAt) m)) ≡ pendingLength
   slot-length-is =
-      let s : length m ≡ 52676 = p .sized in
+      let s : length m ≡ memoryLength = p .sized in
       let h : i < 16 = p .below in
-      ap length (cut-at (4 + 3292 * i + 76) 132 m)
-      ∙ length-take-le 132 (drop (4 + 3292 * i + 76) m) (omega (arith, length-drop (4 + 3292 * i + 76) m))
+      ap length (cut-at (slotStart i + pendingAt) pendingLength m)
+      ∙ length-take-le pendingLength (drop (slotStart i + pendingAt) m) (omega (arith, length-drop (slotStart i + pendingAt) m))
 
   -- what it says is what the slot says
-  pending-is : tableOf 8 16 pendingOf (take 132 (drop 76 part)) ≡ peerOf part .pending
-  pending-is = table-take 8 16 pendingOf (drop 76 part) 132 (omega arith) ∙ sym (pending-of part)
+  pending-is : tableOf callWidth callRoom pendingOf (take pendingLength (drop pendingAt part)) ≡ peerOf part .pending
+  pending-is = table-take callWidth callRoom pendingOf (drop pendingAt part) pendingLength (omega arith) ∙ sym (pending-of part)
 
   module _ (z : n ≡ 0 → ⊥) where
     taken : wordAt Little part 0 ≡ 0 → ⊥
     taken y = z (sym number ∙ y)
 
-    pub slot-table : take (4 + 3292 * i + 76 + 132 - (4 + 3292 * i + 76)) (drop (4 + 3292 * i + 76) m)
-        ≡ tableBytes 8 16 pendingBytes (tableOf 8 16 pendingOf (take (4 + 3292 * i + 76 + 132 - (4 + 3292 * i + 76)) (drop (4 + 3292 * i + 76) m)))
+    pub slot-table : take (slotStart i + pendingAt + pendingLength - (slotStart i + pendingAt)) (drop (slotStart i + pendingAt) m)
+        ≡ tableBytes callWidth callRoom pendingBytes (tableOf callWidth callRoom pendingOf (take (slotStart i + pendingAt + pendingLength - (slotStart i + pendingAt)) (drop (slotStart i + pendingAt) m)))
     unfolding part
     slot-table =
         let s : slotBytes (peer (peerOf part)) ≡ part = ap slotBytes (sym (part-peer part taken)) ∙ p .plain in
-        let q : take 132 (drop 76 part) ≡ tableBytes 8 16 pendingBytes (peerOf part .pending)
-        = ap (λ (y : List ℕ). take 132 (drop 76 y)) (sym s) ∙ table-part (pending-in (peerOf part)) in
-        rw cut-table (q ∙ ap (tableBytes 8 16 pendingBytes) (sym pending-is))
+        let q : take pendingLength (drop pendingAt part) ≡ tableBytes callWidth callRoom pendingBytes (peerOf part .pending)
+        = ap (λ (y : List ℕ). take pendingLength (drop pendingAt y)) (sym s) ∙ table-part (pending-in (peerOf part)) in
+        rw cut-table (q ∙ ap (tableBytes callWidth callRoom pendingBytes) (sym pending-is))
 
     pub slot-ended : (c : ℕ) (t : List ℕ)
         → t
-        ≡ tableBytes 8 16 pendingBytes
-        (endedAll c (tableOf 8 16 pendingOf (take (4 + 3292 * i + 76 + 132 - (4 + 3292 * i + 76)) (drop (4 + 3292 * i + 76) m))))
-        → take (4 + 3292 * i + 76) m ++ (t ++ drop (4 + 3292 * i + 76 + 132 - (4 + 3292 * i + 76)) (drop (4 + 3292 * i + 76) m)) ≡ endedAt m i c
+        ≡ tableBytes callWidth callRoom pendingBytes
+        (endedAll c (tableOf callWidth callRoom pendingOf (take (slotStart i + pendingAt + pendingLength - (slotStart i + pendingAt)) (drop (slotStart i + pendingAt) m))))
+        → take (slotStart i + pendingAt) m ++ (t ++ drop (slotStart i + pendingAt + pendingLength - (slotStart i + pendingAt)) (drop (slotStart i + pendingAt) m)) ≡ endedAt m i c
     unfolding endedAt part
     slot-ended c t et =
-        let f : t ≡ tableBytes 8 16 pendingBytes (endedAll c (peerOf part .pending))
-        = et ∙ ap (λ (y : List ℕ). tableBytes 8 16 pendingBytes (endedAll c (tableOf 8 16 pendingOf y))) cut-table
-        ∙ ap (λ (ws : List Pending). tableBytes 8 16 pendingBytes (endedAll c ws)) pending-is in
-        put-at (4 + 3292 * i + 76) 132 m t
-        ∙ sym (part-nested m t (4 + 3292 * i) 76 132 3292 (omega arith))
-        ∙ ap (λ (y : List ℕ). take (4 + 3292 * i) m ++ ((take 76 part ++ (y ++ drop 208 part)) ++ drop (4 + 3292 * i + 3292) m)) f
-        ∙ ap (λ (y : List ℕ). take (4 + 3292 * i) m ++ (y ++ drop (4 + 3292 * i + 3292) m)) (bereft-peer c part (p .plain) taken)
+        let f : t ≡ tableBytes callWidth callRoom pendingBytes (endedAll c (peerOf part .pending))
+        = et ∙ ap (λ (y : List ℕ). tableBytes callWidth callRoom pendingBytes (endedAll c (tableOf callWidth callRoom pendingOf y))) cut-table
+        ∙ ap (λ (ws : List Pending). tableBytes callWidth callRoom pendingBytes (endedAll c ws)) pending-is in
+        put-at (slotStart i + pendingAt) pendingLength m t
+        ∙ sym (part-nested m t (slotStart i) pendingAt pendingLength slotLength (omega arith))
+        ∙ ap (λ (y : List ℕ). take (slotStart i) m ++ ((take pendingAt part ++ (y ++ drop namesAt part)) ++ drop (slotStart i + slotLength) m)) f
+        ∙ ap (λ (y : List ℕ). take (slotStart i) m ++ (y ++ drop (slotStart i + slotLength) m)) (bereft-peer c part (p .plain) taken)
 
 pub ruleset slot-calls = (slot-none, slot-length-is, slot-table, slot-ended, needs)
 
@@ -95,7 +96,7 @@ pub ruleset slot-calls = (slot-none, slot-length-is, slot-table, slot-ended, nee
 pub record Bereaving (m₀ m : List ℕ) (c i : ℕ) : Type 0 where
   pub sweeping : Sweeping (bereft c) m₀ m i
   pub whole : memoryOf (stateOf m₀) ≡ m₀
-  pub rest : drop (4 + 3292 * i) m ≡ drop (4 + 3292 * i) m₀
+  pub rest : drop (slotStart i) m ≡ drop (slotStart i) m₀
 
 pub bereaving-begins : (m : List ℕ) (c : ℕ) → Octets m → Encoded m → Bereaving m m c 0
 bereaving-begins m c f g =
@@ -109,9 +110,9 @@ module _ {m₀ m : List ℕ} {c i : ℕ} (b : Bereaving m₀ m c i) where
   module _ (h : i < 16) where
     pub bereaving-slot : PlainSlot m i
     bereaving-slot =
-        let a = 4 + 3292 * i in
-        let q : take 3292 (drop a m₀) ≡ slotBytes (slotOf (take 3292 (drop a m₀)))
-        = ap (λ (y : List ℕ). take 3292 (drop a y)) (sym (b .whole))
+        let a = slotStart i in
+        let q : take slotLength (drop a m₀) ≡ slotBytes (slotOf (take slotLength (drop a m₀)))
+        = ap (λ (y : List ℕ). take slotLength (drop a y)) (sym (b .whole))
         ∙ memory-at (stateOf m₀) i (rw (sixteen m₀) h)
         ∙ ap slotBytes (slot-at m₀ i h) in
         record { sized = b .sweeping .sized; below = h; plain = rw (b .rest) (sym q) }
@@ -119,19 +120,19 @@ module _ {m₀ m : List ℕ} {c i : ℕ} (b : Bereaving m₀ m c i) where
     pub bereaving-more : (u : List ℕ) → u ≡ endedAt m i c → Bereaving m₀ u c (i + 1)
     unfolding endedAt
     bereaving-more u e =
-        let a = 4 + 3292 * i in
-        let l : length m ≡ 52676 = b .sweeping .sized in
-        let y = changed (bereft c) (take 3292 (drop a m)) in
-        let ly : length y ≡ 3292 = slot-length (bereft c (slotOf (take 3292 (drop a m)))) in
+        let a = slotStart i in
+        let l : length m ≡ memoryLength = b .sweeping .sized in
+        let y = changed (bereft c) (take slotLength (drop a m)) in
+        let ly : length y ≡ slotLength = slot-length (bereft c (slotOf (take slotLength (drop a m)))) in
         let s = sweeping-again (bereft c) m₀ m u y i (b .sweeping) h e refl in
-        let n : 4 + 3292 * (i + 1) ≡ a + 3292 = omega arith in
-        let r : drop (a + 3292) u ≡ drop (a + 3292) m₀
-        = ap (drop (a + 3292)) e
-        ∙ drop-past (take a m) (y ++ drop (a + 3292) m) a 3292 (length-take-le a m (omega arith))
-        ∙ drop-at y (drop (a + 3292) m) 3292 ly
-        ∙ sym (drop-drop 3292 a m)
-        ∙ ap (drop 3292) (b .rest)
-        ∙ drop-drop 3292 a m₀ in
+        let n : 4 + slotLength * (i + 1) ≡ a + slotLength = omega arith in
+        let r : drop (a + slotLength) u ≡ drop (a + slotLength) m₀
+        = ap (drop (a + slotLength)) e
+        ∙ drop-past (take a m) (y ++ drop (a + slotLength) m) a slotLength (length-take-le a m (omega arith))
+        ∙ drop-at y (drop (a + slotLength) m) slotLength ly
+        ∙ sym (drop-drop slotLength a m)
+        ∙ ap (drop slotLength) (b .rest)
+        ∙ drop-drop slotLength a m₀ in
         record { sweeping = s; whole = b .whole; rest = rw n r }
 
   pub bereaving-ends : 16 ≤ i → m ≡ endedFor m₀ c

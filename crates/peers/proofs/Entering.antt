@@ -13,6 +13,7 @@ use Rattle.policy.specs.Decisions.{mayConnect}
 use Rattle.stream.specs.Tail.{tails}
 use Rattle.rules.specs.State.{peer, isFree}
 use Rattle.rules.specs.Calls.{newcomer, connect, noConnect}
+use Rattle.memory.specs.Layout.{slotLength, slotStart, firstGid}
 use Rattle.memory.specs.Encoding.{slotBytes, stateOf}
 use Rattle.memory.specs.Sound.{Held}
 use Rattle.memory.specs.Calls.{stored, Did}
@@ -29,8 +30,8 @@ use Rattle.peers.proofs.Zeros.{zero-rest}
 use Rattle.peers.proofs.Found.{Octets, below, did-stay, free-part}
 
 -- a newcomer's bytes are what was written, and the zeros of the slot
-seat-bytes : (m gids : List ℕ) (a n u : ℕ) → length gids ≤ 16 → take 3292 (drop a m) ≡ replicate 3292 0
-    → newBytes n u gids ++ drop (a + (12 + 4 * length gids)) m ≡ slotBytes (peer (newcomer tails n u gids)) ++ drop (a + 3292) m
+seat-bytes : (m gids : List ℕ) (a n u : ℕ) → length gids ≤ 16 → take slotLength (drop a m) ≡ replicate slotLength 0
+    → newBytes n u gids ++ drop (a + (12 + 4 * length gids)) m ≡ slotBytes (peer (newcomer tails n u gids)) ++ drop (a + slotLength) m
 unfolding newBytes
 seat-bytes m gids a n u h e =
     let k = 12 + 4 * length gids in
@@ -38,10 +39,10 @@ seat-bytes m gids a n u h e =
     let x₂ = wordBytes u in
     let x₃ = wordBytes (length gids) in
     let x₄ = cells wordBytes gids in
-    let f : 3292 - k ≡ 3280 - 4 * length gids = omega arith in
-    let z = replicate {A = ℕ} (3280 - 4 * length gids) 0 in
-    let t = drop (a + 3292) m in
-    let r : drop (a + k) m ≡ z ++ t = zero-rest m a 3292 k (omega arith) e ∙ ap (λ (c : ℕ). replicate c 0 ++ t) f in
+    let f : slotLength - k ≡ (slotLength - firstGid) - 4 * length gids = omega arith in
+    let z = replicate {A = ℕ} ((slotLength - firstGid) - 4 * length gids) 0 in
+    let t = drop (a + slotLength) m in
+    let r : drop (a + k) m ≡ z ++ t = zero-rest m a slotLength k (omega arith) e ∙ ap (λ (c : ℕ). replicate c 0 ++ t) f in
     let s : slotBytes (peer (newcomer tails n u gids)) ≡ (x₁ ++ (x₂ ++ (x₃ ++ x₄))) ++ z
     = newcomer-spread n u gids h
     ∙ sym (append-assoc x₁ (x₂ ++ (x₃ ++ x₄)) z
@@ -52,14 +53,14 @@ seat-bytes m gids a n u h e =
 -- ---- the seat
 
 pub admit-seated : (m : List ℕ) → Octets m → (i n uid : ℕ) (gids m₁ m₂ : List ℕ) → Free m i gids
-    → m₁ ≡ take (4 + 3292 * i) m ++ (newBytes n uid gids ++ drop (4 + 3292 * i + (12 + 4 * length gids)) m)
+    → m₁ ≡ take (slotStart i) m ++ (newBytes n uid gids ++ drop (slotStart i + (12 + 4 * length gids)) m)
     → m₂ ≡ wordBytes n ++ drop 4 m₁
     → m₂ ≡ admitted m i n uid gids
 unfolding admitted
 admit-seated m f i n uid gids m₁ m₂ g e₁ e₂ =
-    let a = 4 + 3292 * i in
+    let a = slotStart i in
     let x = peer (newcomer tails n uid gids) in
-    let q : m₁ ≡ take a m ++ (slotBytes x ++ drop (a + 3292) m)
+    let q : m₁ ≡ take a m ++ (slotBytes x ++ drop (a + slotLength) m)
     = e₁ ∙ ap (λ (y : List ℕ). take a m ++ y) (seat-bytes m gids a n uid (g .few) (g .zeros ∙ free-bytes)) in
     e₂ ∙ ap (λ (y : List ℕ). wordBytes n ++ drop 4 y) q ∙ sym (seated m (below m f) (g .held .held) n i x (g .below))
 

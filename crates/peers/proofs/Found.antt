@@ -9,6 +9,7 @@ use mir.Val.{Fits}
 use Rattle.stream.specs.Tail.{Tail}
 use Rattle.rules.specs.State.{free, peer, isFree, isPeer, firstBy}
 use Rattle.rules.specs.Calls.{Step, stays, slotAt}
+use Rattle.memory.specs.Layout.{slotLength, slotStart}
 use Rattle.memory.specs.Encoding.{slotBytes, stateOf}
 use Rattle.memory.specs.Sound.{Held}
 use Rattle.memory.specs.Calls.{stored, Did}
@@ -50,10 +51,10 @@ module _ (n : ℕ) (m : List ℕ) (i : ℕ) (f : Found (isPeer n) m 0 i) (h : i 
   pub peer-seated : Held m → Seated m i
   peer-seated g = record { sized = g .sized; held = g; below = found-below; some = found-some n m 0 i f found-below }
 
-pub counted : (m : List ℕ) (i : ℕ) → Seated m i → Counted m (4 + 3292 * i)
+pub counted : (m : List ℕ) (i : ℕ) → Seated m i → Counted m (slotStart i)
 counted m i g = held-counted m i (g .held) (g .below) (g .some)
 
 -- ---- a free slot
 
-pub free-part : (m : List ℕ) (i : ℕ) → Held m → Found isFree m 0 i → i < 16 → take 3292 (drop (4 + 3292 * i) m) ≡ slotBytes free
+pub free-part : (m : List ℕ) (i : ℕ) → Held m → Found isFree m 0 i → i < 16 → take slotLength (drop (slotStart i) m) ≡ slotBytes free
 free-part m i g f h = held-free m i g h (found-free m 0 i f h)

@@ -14,6 +14,7 @@ use Rattle.rules.specs.State.{free, putSlot, isPeer}
 use Rattle.rules.specs.Pending.{bereft}
 use Rattle.rules.specs.Calls.{disconnect, noGone}
 use Rattle.rules.specs.declared.Gone.{Gone}
+use Rattle.memory.specs.Layout.{memoryLength, slotLength, slotStart, takenAt}
 use Rattle.memory.specs.Encoding.{slotBytes, memoryOf, stateOf}
 use Rattle.memory.specs.Sound.{Held}
 use Rattle.memory.specs.Calls.{stored, Did}
@@ -29,19 +30,19 @@ use Rattle.peers.proofs.Found.{Octets, below, did-stay, peer-none, foun
 -- ---- a slot wiped
 
 module _ (m : List ℕ) (g : Held m) (i : ℕ) (h : i < 16) (z : List ℕ)
-    (e : z ≡ replicate (length (take (4 + 3292 * i + 3292 - (4 + 3292 * i)) (drop (4 + 3292 * i) m))) 0) where
+    (e : z ≡ replicate (length (take (slotStart i + slotLength - (slotStart i)) (drop (slotStart i) m))) 0) where
   zeros : z ≡ slotBytes free
   zeros =
-      let a = 4 + 3292 * i in
-      let s : length m ≡ 52676 = g .sized in
-      let l : length (take (a + 3292 - a) (drop a m)) ≡ 3292
-      = ap length (cut-at a 3292 m) ∙ length-take-le 3292 (drop a m) (omega (arith, length-drop a m)) in
+      let a = slotStart i in
+      let s : length m ≡ memoryLength = g .sized in
+      let l : length (take (a + slotLength - a) (drop a m)) ≡ slotLength
+      = ap length (cut-at a slotLength m) ∙ length-take-le slotLength (drop a m) (omega (arith, length-drop a m)) in
       e ∙ ap (λ (k : ℕ). replicate k 0) l ∙ sym free-bytes
 
-  wiped : take (4 + 3292 * i) m ++ (z ++ drop (4 + 3292 * i + 3292 - (4 + 3292 * i)) (drop (4 + 3292 * i) m)) ≡ putAt m i (slotBytes free)
-  wiped = put-at (4 + 3292 * i) 3292 m z ∙ ap (λ (y : List ℕ). putAt m i y) zeros
+  wiped : take (slotStart i) m ++ (z ++ drop (slotStart i + slotLength - (slotStart i)) (drop (slotStart i) m)) ≡ putAt m i (slotBytes free)
+  wiped = put-at (slotStart i) slotLength m z ∙ ap (λ (y : List ℕ). putAt m i y) zeros
 
-  pub leave-encoded : Octets m → Encoded (take (4 + 3292 * i) m ++ (z ++ drop (4 + 3292 * i + 3292 - (4 + 3292 * i)) (drop (4 + 3292 * i) m)))
+  pub leave-encoded : Octets m → Encoded (take (slotStart i) m ++ (z ++ drop (slotStart i + slotLength - (slotStart i)) (drop (slotStart i) m)))
   leave-encoded f =
       let u = putAt m i (slotBytes free) in
       let s : stateOf u ≡ putSlot (stateOf m) i free
@@ -54,10 +55,10 @@ module _ (m : List ℕ) (g : Held m) (i : ℕ) (h : i < 16) (z : List ℕ)
       rw wiped q
 
   pub leave-gone : (c : ℕ) (m₂ : List ℕ)
-      → m₂ ≡ endedFor (take (4 + 3292 * i) m ++ (z ++ drop (4 + 3292 * i + 3292 - (4 + 3292 * i)) (drop (4 + 3292 * i) m))) c → m₂ ≡ gone m i c
+      → m₂ ≡ endedFor (take (slotStart i) m ++ (z ++ drop (slotStart i + slotLength - (slotStart i)) (drop (slotStart i) m))) c → m₂ ≡ gone m i c
   unfolding endedFor gone
   leave-gone c m₂ q =
-      swept-freed (bereft c) m (take (4 + 3292 * i) m ++ (z ++ drop (4 + 3292 * i + 3292 - (4 + 3292 * i)) (drop (4 + 3292 * i) m))) m₂
+      swept-freed (bereft c) m (take (slotStart i) m ++ (z ++ drop (slotStart i + slotLength - (slotStart i)) (drop (slotStart i) m))) m₂
       (slotBytes free) i h (g .sized) refl wiped q
 
 pub ruleset leaving = (leave-encoded, leave-gone, needs)
@@ -69,7 +70,7 @@ module _ (m : List ℕ) (f : Octets m) (g : Held m) (n i : ℕ) (e : Found (isPe
   unfolding disconnect
   disconnect-none q r d = did-stay m f g r (disconnect tails (stateOf m) n) (rw (peer-none n m i e q, d))
 
-  pub disconnect-gone : (i ≡ 16 → ⊥) → (b : ℕ) → b ≡ wordAt Little m (4 + 3292 * i + 1236) → (m₂ : List ℕ) → m₂ ≡ gone m i n
+  pub disconnect-gone : (i ≡ 16 → ⊥) → (b : ℕ) → b ≡ wordAt Little m (slotStart i + takenAt) → (m₂ : List ℕ) → m₂ ≡ gone m i n
       → Did (stored (disconnect tails (stateOf m) n)) (record { answer = 0; bytes = b }) m₂
   unfolding disconnect gone
   disconnect-gone q b eb m₂ em =

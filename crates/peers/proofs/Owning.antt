@@ -21,6 +21,7 @@ use Rattle.policy.specs.declared.Uid.{Uid}
 use Rattle.rules.specs.State.{isPeer}
 use Rattle.rules.specs.Addresses.{ownable}
 use Rattle.rules.specs.Calls.{isOwner, own}
+use Rattle.memory.specs.Layout.{memoryLength, slotStart, namesAt, firstName, nameWidth, nameRoom, namesLength}
 use Rattle.memory.specs.Encoding.{stateOf}
 use Rattle.memory.specs.Sound.{Held}
 use Rattle.memory.specs.Calls.{stored, Did}
@@ -43,7 +44,7 @@ pub may-own-front : (image : List ℕ) (uid : Uid) (gids : List ℕ) (count : �
     → r ≡ mayOwn image uid (take (count - 0) gids) name → r ≡ mayOwn image uid (take count gids) name
 may-own-front image uid gids count name r e = e ∙ rw (sub-zero count)
 
-pub may-own-is : (image m name : List ℕ) (i u : ℕ) (g : Gids) (r : Bool) → GidsOf m i g → u ≡ wordAt Little m (4 + 3292 * i + 4)
+pub may-own-is : (image m name : List ℕ) (i u : ℕ) (g : Gids) (r : Bool) → GidsOf m i g → u ≡ wordAt Little m (slotStart i + 4)
     → r ≡ mayOwn image (record { 0 = u }) (take (g .count) (g .list)) name
     → r ≡ mayOwn image (record { 0 = peerAt m i .uid }) (peerAt m i .gids) name
 may-own-is image m name i u g r h e q = q ∙ rw (h .are, e)
@@ -55,9 +56,9 @@ pub ruleset asking = (may-own-front, may-own-is, needs)
 module _ (m y name : List ℕ) (at : ℕ) (g : Naming m at name) where
   pub name-room : at + 1 + length name ≤ length (set m at (length name))
   name-room =
-      let s : length m ≡ 52676 = g .sized in
+      let s : length m ≡ memoryLength = g .sized in
       let k : length name ≤ 255 = g .short in
-      let r : at + 256 ≤ 52676 = g .room in
+      let r : at + 256 ≤ memoryLength = g .room in
       rw (length-set m at (length name)) (omega arith)
 
   pub name-put : y ≡ name
@@ -65,8 +66,8 @@ module _ (m y name : List ℕ) (at : ℕ) (g : Naming m at name) where
       ≡ take at m ++ (nameBytes name ++ drop (at + (1 + length name)) m)
   unfolding nameBytes
   name-put e =
-      let s : length m ≡ 52676 = g .sized in
-      let r : at + 256 ≤ 52676 = g .room in
+      let s : length m ≡ memoryLength = g .sized in
+      let r : at + 256 ≤ memoryLength = g .room in
       let n = length name in
       let u = set m at n in
       let t : take (at + 1) u ≡ take at m ++ (n ∷ []) = rw add-one (take-suc-set m at n (omega arith)) in
@@ -80,16 +81,16 @@ module _ (m y name : List ℕ) (at : ℕ) (g : Naming m at name) where
       ≡ length m
   unfolding nameBytes
   name-sized e =
-      let s : length m ≡ 52676 = g .sized in
+      let s : length m ≡ memoryLength = g .sized in
       let k : length name ≤ 255 = g .short in
-      let r : at + 256 ≤ 52676 = g .room in
+      let r : at + 256 ≤ memoryLength = g .room in
       ap length (name-put e) ∙ put-sized m (nameBytes name) at (1 + length name) (omega arith) (omega arith)
 
 pub ruleset naming = (name-room, name-put, name-sized, needs)
 
 -- ---- the name granted: n is how many slot i has
 
-module _ (m : List ℕ) (f : Octets m) (i : ℕ) (g : Seated m i) (name : List ℕ) (n : ℕ) (en : n ≡ wordAt Little m (4 + 3292 * i + 208)) where
+module _ (m : List ℕ) (f : Octets m) (i : ℕ) (g : Seated m i) (name : List ℕ) (n : ℕ) (en : n ≡ wordAt Little m (slotStart i + namesAt)) where
   many : length (peerAt m i .names) ≡ n
   many = counted m i g .names ∙ sym en
 
@@ -99,32 +100,32 @@ module _ (m : List ℕ) (f : Octets m) (i : ℕ) (g : Seated m i) (name : List �
 
   module _ (l : n < 4) where
     -- the cell behind those in use is zero
-    room : take 256 (drop (4 + 3292 * i + 212 + 256 * n) m) ≡ replicate 256 0
+    room : take 256 (drop (slotStart i + firstName + nameWidth * n) m) ≡ replicate 256 0
     room =
-        let a = 4 + 3292 * i in
-        let k = 4 + 256 * n in
-        let x = 1024 - 256 * n in
-        let d = drop (a + 208) m in
-        let s : 1028 ≡ k + x = omega arith in
-        let t : a + 208 + k ≡ a + 212 + 256 * n = omega arith in
-        let z : drop k (take 1028 d) ≡ replicate x 0
-        = table-unused 256 4 cellOf cell-length (peerAt m i .names) (take 1028 d) n
+        let a = slotStart i in
+        let k = 4 + nameWidth * n in
+        let x = (nameWidth * nameRoom) - nameWidth * n in
+        let d = drop (a + namesAt) m in
+        let s : namesLength ≡ k + x = omega arith in
+        let t : a + namesAt + k ≡ a + firstName + nameWidth * n = omega arith in
+        let z : drop k (take namesLength d) ≡ replicate x 0
+        = table-unused nameWidth nameRoom cellOf cell-length (peerAt m i .names) (take namesLength d) n
         (names-stand m (below m f) (g .held) i (g .below) (g .some)) (sym many) (omega arith) in
-        let y : drop k (take 1028 d) ≡ take x (drop (a + 212 + 256 * n) m)
+        let y : drop k (take namesLength d) ≡ take x (drop (a + firstName + nameWidth * n) m)
         = ap (λ (c : ℕ). drop k (take c d)) s
         ∙ drop-take k x d
-        ∙ ap (take x) (drop-drop k (a + 208) m ∙ ap (λ (c : ℕ). drop c m) t) in
-        sym (take-take 256 x (drop (a + 212 + 256 * n) m) (omega arith))
+        ∙ ap (take x) (drop-drop k (a + namesAt) m ∙ ap (λ (c : ℕ). drop c m) t) in
+        sym (take-take 256 x (drop (a + firstName + nameWidth * n) m) (omega arith))
         ∙ ap (take 256) (sym y ∙ z)
         ∙ take-zeros 256 x (omega arith)
 
     pub grant-done : length name ≤ 255 → (m₁ m₂ : List ℕ)
-        → m₁ ≡ take (4 + 3292 * i + 212 + 256 * n) m ++ (nameBytes name ++ drop (4 + 3292 * i + 212 + 256 * n + (1 + length name)) m)
-        → m₂ ≡ take (4 + 3292 * i + 208) m₁ ++ (wordBytes (n + 1) ++ drop (4 + 3292 * i + 208 + 4) m₁)
+        → m₁ ≡ take (slotStart i + firstName + nameWidth * n) m ++ (nameBytes name ++ drop (slotStart i + firstName + nameWidth * n + (1 + length name)) m)
+        → m₂ ≡ take (slotStart i + namesAt) m₁ ++ (wordBytes (n + 1) ++ drop (slotStart i + namesAt + 4) m₁)
         → Did (stored (granted m i name)) 0 m₂
     unfolding granted nameBytes cellOf
     grant-done k m₁ m₂ e₁ e₂ =
-        let c = 4 + 3292 * i + 212 + 256 * n in
+        let c = slotStart i + firstName + nameWidth * n in
         let u = length name in
         let t = drop (c + 256) m in
         let v : 256 - (1 + u) ≡ 255 - u = omega arith in

@@ -18,6 +18,7 @@ use Rattle.policy.specs.Names.{cellOf, owns}
 use Rattle.rules.specs.State.{isPeer, firstBy}
 use Rattle.rules.specs.Addresses.{ownable}
 use Rattle.rules.specs.Calls.{release, released}
+use Rattle.memory.specs.Layout.{slotStart, namesAt, nameWidth, nameRoom, namesLength}
 use Rattle.memory.specs.Encoding.{stateOf}
 use Rattle.memory.specs.Sound.{Held}
 use Rattle.memory.specs.Calls.{stored, Did}
@@ -33,7 +34,7 @@ use Rattle.peers.proofs.Found.{Octets, below, did-stay, peer-none, peer
 -- ---- 35, and the name taken out: j is its place, n how many names there are
 
 module _ (m : List ℕ) (f : Octets m) (i : ℕ) (g : Seated m i) (name : List ℕ) (j : ℕ) (a : j ≡ namePlace m i name 0) (n : ℕ)
-    (en : n ≡ wordAt Little m (4 + 3292 * i + 208)) where
+    (en : n ≡ wordAt Little m (slotStart i + namesAt)) where
   many : length (peerAt m i .names) ≡ n
   many = counted m i g .names ∙ sym en
 
@@ -48,21 +49,21 @@ module _ (m : List ℕ) (f : Octets m) (i : ℕ) (g : Seated m i) (name : List �
   give-none h = did-stay m f (g .held) 35 (givenUp m i name) (rw (owned, le-ltb j n h))
 
   module _ (h : j < n) where
-    pub give-table : Cell (take (4 + 3292 * i + 208 + 1028 - (4 + 3292 * i + 208)) (drop (4 + 3292 * i + 208) m)) (4 + 256 * j) 256 (4 + 256 * n)
-    give-table = part-cell 256 4 j n m (4 + 3292 * i + 208) (omega (arith, g .sized, g .below)) (omega (arith, counted m i g .fewNames)) h
+    pub give-table : Cell (take (slotStart i + namesAt + namesLength - (slotStart i + namesAt)) (drop (slotStart i + namesAt) m)) (4 + nameWidth * j) 256 (4 + nameWidth * n)
+    give-table = part-cell nameWidth nameRoom j n m (slotStart i + namesAt) (omega (arith, g .sized, g .below)) (omega (arith, counted m i g .fewNames)) h
 
     pub give-done : (t : List ℕ)
         → t
         ≡ wordBytes (n - 1)
-        ++ cutOut 256 (256 * n) (256 * j) (drop 4 (take (4 + 3292 * i + 208 + 1028 - (4 + 3292 * i + 208)) (drop (4 + 3292 * i + 208) m)))
+        ++ cutOut 256 (nameWidth * n) (nameWidth * j) (drop 4 (take (slotStart i + namesAt + namesLength - (slotStart i + namesAt)) (drop (slotStart i + namesAt) m)))
         → Did (stored (givenUp m i name)) 0
-        (take (4 + 3292 * i + 208) m ++ (t ++ drop (4 + 3292 * i + 208 + 1028 - (4 + 3292 * i + 208)) (drop (4 + 3292 * i + 208) m)))
+        (take (slotStart i + namesAt) m ++ (t ++ drop (slotStart i + namesAt + namesLength - (slotStart i + namesAt)) (drop (slotStart i + namesAt) m)))
     unfolding givenUp
     give-done t et =
         let ns = peerAt m i .names in
         let few : n ≤ 4 = omega (arith, counted m i g .fewNames) in
         let o : released name ns ≡ without j ns = released-without name ns ∙ ap (λ (k : ℕ). without k ns) (sym place) in
-        let z = remove-written 256 4 cellOf cell-length ns j m t (4 + 3292 * i + 208) n
+        let z = remove-written nameWidth nameRoom cellOf cell-length ns j m t (slotStart i + namesAt) n
         (names-stand m (below m f) (g .held) i (g .below) (g .some)) (sym many) few h et
         ∙ sym (names-put m (below m f) (g .held) i (g .below) (g .some) (without j ns)) in
         rw (owned, lt-ltb j n h, o) (record { result = refl; memory = z })

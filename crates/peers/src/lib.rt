@@ -24,7 +24,7 @@ ghost use Rattle.policy.specs.Decisions.{mayOwn};
 ghost use Rattle.stream.specs.Tail.{tails};
 ghost use Rattle.rules.specs.Pending.{endedAll};
 ghost use Rattle.rules.specs.Calls.{connect, own, release, disconnect};
-ghost use Rattle.memory.specs.Layout.{slotStart, memoryLength};
+ghost use Rattle.memory.specs.Layout.{memoryLength, slotStart, callWidth, callRoom, pendingLength};
 ghost use Rattle.memory.specs.Encoding.{pendingBytes, pendingOf, stateOf};
 ghost use Rattle.memory.specs.Sound.{Held};
 ghost use Rattle.memory.specs.Calls.{stored, Did};
@@ -94,8 +94,8 @@ pub fn connect(image: &[u8], memory: &mut [u8], uid: u32, gids: &[u32]) -> Conne
 
 // Ends every call to the callee in a table of pending calls.
 fn end_calls(table: &mut [u8], callee: u32)
-    requires { ⌜ (length (now table) ≡ 132) × (now table ≡ tableBytes 8 16 pendingBytes (tableOf 8 16 pendingOf (now table))) ⌝ }
-    ensures { λ r. ⌜ now (table .exit) ≡ tableBytes 8 16 pendingBytes (endedAll callee (tableOf 8 16 pendingOf (now (table .entry)))) ⌝ }
+    requires { ⌜ (length (now table) ≡ pendingLength) × (now table ≡ tableBytes callWidth callRoom pendingBytes (tableOf callWidth callRoom pendingOf (now table))) ⌝ }
+    ensures { λ r. ⌜ now (table .exit) ≡ tableBytes callWidth callRoom pendingBytes (endedAll callee (tableOf callWidth callRoom pendingOf (now (table .entry)))) ⌝ }
 {
     let mut n = wire::u32_at(Order::Little, table, 0);
     let mut j: u32 = 0;

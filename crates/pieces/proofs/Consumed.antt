@@ -23,6 +23,7 @@ use Rattle.stream.specs.Tail.{Tail, tails, closed, fresh, goodTail}
 use Rattle.stream.proofs.Good.{fresh-good, open-more}
 use Rattle.stream.proofs.Pushes.{offer-whole}
 use Rattle.rules.specs.State.{Peer, Slot, free, peer, State, putSlot, withStream}
+use Rattle.memory.specs.Layout.{memoryLength, slotStart, takenAt, firstByte, headRoom, streamLength}
 use Rattle.memory.specs.Encoding.{headBytes, streamBytes, memoryOf, stateOf}
 use Rattle.memory.specs.Sound.{Sound}
 use Rattle.memory.proofs.Frame.{memory-length}
@@ -39,55 +40,55 @@ use Rattle.pieces.proofs.Seats.{sound, peer-is, fine, cleared-is}
 
 -- ---- the bytes of a stream put into memory
 
-module _ (m : List ℕ) (i : ℕ) (l : length m ≡ 52676) (h : i < 16) (t : Tail) where
-  before : length (take (4 + 3292 * i + 1236) m) ≡ 4 + 3292 * i + 1236
-  before = length-take-le (4 + 3292 * i + 1236) m (omega arith)
+module _ (m : List ℕ) (i : ℕ) (l : length m ≡ memoryLength) (h : i < 16) (t : Tail) where
+  before : length (take (slotStart i + takenAt) m) ≡ slotStart i + takenAt
+  before = length-take-le (slotStart i + takenAt) m (omega arith)
 
   -- clearing what was put is clearing what was there
-  pub cleared-put : cleared (take (4 + 3292 * i + 1236) m ++ (streamBytes t ++ drop (4 + 3292 * i + 1236 + 2056) m)) i ≡ cleared m i
+  pub cleared-put : cleared (take (slotStart i + takenAt) m ++ (streamBytes t ++ drop (slotStart i + takenAt + streamLength) m)) i ≡ cleared m i
   cleared-put =
-      let b = 4 + 3292 * i + 1236 in
+      let b = slotStart i + takenAt in
       let p = take b m in
       let q = streamBytes t in
-      let r = drop (b + 2056) m in
+      let r = drop (b + streamLength) m in
       let x : take b (p ++ (q ++ r)) ≡ p = take-at p (q ++ r) b before in
-      let y : drop (b + 2056) (p ++ (q ++ r)) ≡ r = drop-past p (q ++ r) b 2056 before ∙ drop-at q r 2056 (stream-length t) in
-      ap₂ (λ (u v : List ℕ). u ++ (replicate 2056 0 ++ v)) x y
+      let y : drop (b + streamLength) (p ++ (q ++ r)) ≡ r = drop-past p (q ++ r) b streamLength before ∙ drop-at q r streamLength (stream-length t) in
+      ap₂ (λ (u v : List ℕ). u ++ (replicate streamLength 0 ++ v)) x y
 
   -- the room of the head, from its first byte on
-  room-put : drop (4 + 3292 * i + 1244) (take (4 + 3292 * i + 1236) m ++ (streamBytes t ++ drop (4 + 3292 * i + 1236 + 2056) m))
-      ≡ pad 2048 (t .head) ++ drop (4 + 3292 * i + 1236 + 2056) m
+  room-put : drop (slotStart i + firstByte) (take (slotStart i + takenAt) m ++ (streamBytes t ++ drop (slotStart i + takenAt + streamLength) m))
+      ≡ pad headRoom (t .head) ++ drop (slotStart i + takenAt + streamLength) m
   unfolding headBytes
   room-put =
-      let b = 4 + 3292 * i + 1236 in
+      let b = slotStart i + takenAt in
       let w = wordBytes (t .taken) in
       let v = wordBytes (length (t .head)) in
-      let d = pad 2048 (t .head) in
-      let r = drop (b + 2056) m in
-      let e : 4 + 3292 * i + 1244 ≡ b + 8 = omega arith in
+      let d = pad headRoom (t .head) in
+      let r = drop (b + streamLength) m in
+      let e : slotStart i + firstByte ≡ b + 8 = omega arith in
       rw e
       (drop-past (take b m) (streamBytes t ++ r) b 8 before
       ∙ ap (drop 8) (append-assoc w (v ++ d) r ∙ ap (λ (z : List ℕ). w ++ z) (append-assoc v d r))
       ∙ drop-past w (v ++ (d ++ r)) 4 4 (word-length (t .taken))
       ∙ drop-at v (d ++ r) 4 (word-length (length (t .head))))
 
-  module _ (n : ℕ) (k : n ≤ 2048) where
-    pub head-put : headIn (take (4 + 3292 * i + 1236) m ++ (streamBytes t ++ drop (4 + 3292 * i + 1236 + 2056) m)) i n ≡ take n (pad 2048 (t .head))
+  module _ (n : ℕ) (k : n ≤ headRoom) where
+    pub head-put : headIn (take (slotStart i + takenAt) m ++ (streamBytes t ++ drop (slotStart i + takenAt + streamLength) m)) i n ≡ take n (pad headRoom (t .head))
     head-put =
         ap (take n) room-put
-        ∙ take-append-le n (pad 2048 (t .head)) (drop (4 + 3292 * i + 1236 + 2056) m) (omega (arith, pad-length 2048 (t .head)))
+        ∙ take-append-le n (pad headRoom (t .head)) (drop (slotStart i + takenAt + streamLength) m) (omega (arith, pad-length headRoom (t .head)))
 
     pub behind-put : length (t .head) ≡ n
-        → behindIn (take (4 + 3292 * i + 1236) m ++ (streamBytes t ++ drop (4 + 3292 * i + 1236 + 2056) m)) i n ≡ replicate (2048 - n) 0
+        → behindIn (take (slotStart i + takenAt) m ++ (streamBytes t ++ drop (slotStart i + takenAt + streamLength) m)) i n ≡ replicate (headRoom - n) 0
     behind-put l =
-        let r = drop (4 + 3292 * i + 1236 + 2056) m in
-        let z = replicate {A = ℕ} (2048 - n) 0 in
-        let p : pad 2048 (t .head) ≡ t .head ++ z = pad-fits 2048 (t .head) (omega arith) ∙ rw l in
-        ap (take (2048 - n))
-        (sym (drop-drop n (4 + 3292 * i + 1244) (take (4 + 3292 * i + 1236) m ++ (streamBytes t ++ r)))
+        let r = drop (slotStart i + takenAt + streamLength) m in
+        let z = replicate {A = ℕ} (headRoom - n) 0 in
+        let p : pad headRoom (t .head) ≡ t .head ++ z = pad-fits headRoom (t .head) (omega arith) ∙ rw l in
+        ap (take (headRoom - n))
+        (sym (drop-drop n (slotStart i + firstByte) (take (slotStart i + takenAt) m ++ (streamBytes t ++ r)))
         ∙ ap (drop n) (room-put ∙ ap (λ (y : List ℕ). y ++ r) p ∙ append-assoc (t .head) z r)
         ∙ drop-at (t .head) (z ++ r) n l)
-        ∙ take-at z r (2048 - n) (length-replicate (2048 - n) 0)
+        ∙ take-at z r (headRoom - n) (length-replicate (headRoom - n) 0)
 
 -- ---- good memory after a whole message
 
@@ -124,7 +125,7 @@ module _ (m : List ℕ) (f : (j : ℕ) → Fits w8 (getD m j 0)) (i : ℕ) (s : 
       = sym (slot-peer (memoryOf consumed) i (s .below) consumed-some) ∙ consumed-slot in
       ap (peerOr (peerAt m i)) e
 
-  consumed-length : length (memoryOf consumed) ≡ 52676
+  consumed-length : length (memoryOf consumed) ≡ memoryLength
   consumed-length = memory-length consumed (consumed-sound .sixteen)
 
   consumed-seat : Seated (memoryOf consumed) i
@@ -138,37 +139,37 @@ module _ (m : List ℕ) (f : (j : ℕ) → Fits w8 (getD m j 0)) (i : ℕ) (s : 
 
   -- what the bytes of a whole message leave, where `after` is memory with them
   module _ (image piece after : List ℕ) (x : Header) (g : GoodImage image) (o : closed (peerAt m i .stream) ≡ false)
-      (e : after ≡ take (4 + 3292 * i + 1236) m ++ (streamBytes (offer tails (peerAt m i .stream) piece .stream) ++ drop (4 + 3292 * i + 1236 + 2056) m))
-      (v : whole (take (x .head) (pad 2048 (offer tails (peerAt m i .stream) piece .stream .head))) x ≡ offer tails (peerAt m i .stream) piece .verdict) where
+      (e : after ≡ take (slotStart i + takenAt) m ++ (streamBytes (offer tails (peerAt m i .stream) piece .stream) ++ drop (slotStart i + takenAt + streamLength) m))
+      (v : whole (take (x .head) (pad headRoom (offer tails (peerAt m i .stream) piece .stream .head))) x ≡ offer tails (peerAt m i .stream) piece .verdict) where
     pub consumed-clear : cleared after i ≡ memoryOf consumed
     consumed-clear =
         ap (λ (z : List ℕ). cleared z i) e
         ∙ cleared-put m i (s .sized) (s .below) (offer tails (peerAt m i .stream) piece .stream)
         ∙ cleared-is m f i s
 
-    head-read : (readHeader (take (x .head) (pad 2048 (offer tails (peerAt m i .stream) piece .stream .head))) ≡ Whole x)
+    head-read : (readHeader (take (x .head) (pad headRoom (offer tails (peerAt m i .stream) piece .stream .head))) ≡ Whole x)
         × (length (offer tails (peerAt m i .stream) piece .stream .head) ≡ x .head)
     head-read =
         let t = peerAt m i .stream in
         let k : goodTail t ≡ true = fine m f i s .tail in
         offer-whole t piece k (open-more t k o) _ x (sym v)
 
-    head-small : x .head ≤ 2048
+    head-small : x .head ≤ headRoom
     head-small = whole-fits _ x (head-read .0) .head-small
 
-    pub consumed-head : headIn after i (x .head) ≡ take (x .head) (pad 2048 (offer tails (peerAt m i .stream) piece .stream .head))
+    pub consumed-head : headIn after i (x .head) ≡ take (x .head) (pad headRoom (offer tails (peerAt m i .stream) piece .stream .head))
     consumed-head =
         ap (λ (z : List ℕ). headIn z i (x .head)) e
         ∙ head-put m i (s .sized) (s .below) (offer tails (peerAt m i .stream) piece .stream) (x .head) head-small
 
-    after-length : length after ≡ 52676
+    after-length : length after ≡ memoryLength
     after-length =
-        let b = 4 + 3292 * i + 1236 in
+        let b = slotStart i + takenAt in
         let q = streamBytes (offer tails (peerAt m i .stream) piece .stream) in
-        let k : length m ≡ 52676 = s .sized in
+        let k : length m ≡ memoryLength = s .sized in
         ap length e
-        ∙ length-append (take b m) (q ++ drop (b + 2056) m)
-        ∙ omega (arith, before m i (s .sized) (s .below) (offer tails (peerAt m i .stream) piece .stream), length-append q (drop (b + 2056) m), stream-length (offer tails (peerAt m i .stream) piece .stream), length-drop (b + 2056) m, s .below)
+        ∙ length-append (take b m) (q ++ drop (b + streamLength) m)
+        ∙ omega (arith, before m i (s .sized) (s .below) (offer tails (peerAt m i .stream) piece .stream), length-append q (drop (b + streamLength) m), stream-length (offer tails (peerAt m i .stream) piece .stream), length-drop (b + streamLength) m, s .below)
 
     pub completed : Completed image after i x
     completed =

@@ -8,20 +8,21 @@ use lib.ListN.{length, take, drop, length-drop}
 use lib.Seq.{take-at, length-take-le}
 use borrow.Author.Needs.{needs}
 use Rattle.wire.proofs.Words.{cut-at}
+use Rattle.memory.specs.Layout.{memoryLength, slotStart, firstByte, headRoom}
 use Rattle.pieces.specs.Fed.{headIn}
 
-module _ (m : List ℕ) (i n : ℕ) (l : length m ≡ 52676) (h : i < 16) (s : n ≤ 2048) where
+module _ (m : List ℕ) (i n : ℕ) (l : length m ≡ memoryLength) (h : i < 16) (s : n ≤ headRoom) where
   pub head-length : length (headIn m i n) ≡ n
-  head-length = length-take-le n (drop (4 + 3292 * i + 1244) m) (omega (arith, length-drop (4 + 3292 * i + 1244) m))
+  head-length = length-take-le n (drop (slotStart i + firstByte) m) (omega (arith, length-drop (slotStart i + firstByte) m))
 
-  pub head-fits : (head : List ℕ) → length head ≡ 2048
-      → length (take (n - 0) head) ≡ length (take (4 + 3292 * i + 1244 + n - (4 + 3292 * i + 1244)) (drop (4 + 3292 * i + 1244) m))
-  head-fits head e = rw (sub-zero n, cut-at (4 + 3292 * i + 1244) n m, head-length) (length-take-le n head (omega arith))
+  pub head-fits : (head : List ℕ) → length head ≡ headRoom
+      → length (take (n - 0) head) ≡ length (take (slotStart i + firstByte + n - (slotStart i + firstByte)) (drop (slotStart i + firstByte) m))
+  head-fits head e = rw (sub-zero n, cut-at (slotStart i + firstByte) n m, head-length) (length-take-le n head (omega arith))
 
-  pub head-copied : (head y : List ℕ) → y ≡ take (4 + 3292 * i + 1244 + n - (4 + 3292 * i + 1244)) (drop (4 + 3292 * i + 1244) m)
+  pub head-copied : (head y : List ℕ) → y ≡ take (slotStart i + firstByte + n - (slotStart i + firstByte)) (drop (slotStart i + firstByte) m)
       → take n (y ++ drop (n - 0) head) ≡ headIn m i n
   head-copied head y e =
-      let q : y ≡ headIn m i n = e ∙ cut-at (4 + 3292 * i + 1244) n m in
+      let q : y ≡ headIn m i n = e ∙ cut-at (slotStart i + firstByte) n m in
       take-at y (drop (n - 0) head) n (ap length q ∙ head-length) ∙ q
 
 pub ruleset copying = (head-fits, head-copied, needs)

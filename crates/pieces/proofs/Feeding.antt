@@ -17,15 +17,16 @@ use Rattle.stream.specs.Contracts.{tailIn, verdictOf, Open, Gives, Advanced}
 use Rattle.stream.specs.declared.Stream.{Stream}
 use Rattle.stream.specs.declared.Advance.{Advance}
 use Rattle.stream.proofs.Good.{tail-fits, open-more}
+use Rattle.memory.specs.Layout.{headRoom}
 use Rattle.memory.specs.Encoding.{headBytes, streamBytes}
 use Rattle.pieces.specs.Fed.{streamIn, Opens, Fed}
 
 module _ (x : List ℕ) (o : Opens x) where
-  fits : (streamIn x .taken < 134217728) × (length (streamIn x .head) ≤ 2048)
+  fits : (streamIn x .taken < 134217728) × (length (streamIn x .head) ≤ headRoom)
   fits = tail-fits (streamIn x) (o .good)
 
   -- the head behind its count
-  head-part : drop 4 x ≡ wordBytes (length (streamIn x .head)) ++ pad 2048 (streamIn x .head)
+  head-part : drop 4 x ≡ wordBytes (length (streamIn x .head)) ++ pad headRoom (streamIn x .head)
   unfolding headBytes
   head-part = ap (drop 4) (o .bytes) ∙ drop-at (wordBytes (streamIn x .taken)) (headBytes (streamIn x .head)) 4 (word-length (streamIn x .taken))
 
@@ -34,27 +35,27 @@ module _ (x : List ℕ) (o : Opens x) where
       let f = fits .1 in
       sym (word-drop Little x 4 0)
       ∙ ap (λ (z : List ℕ). wordAt Little z 0) head-part
-      ∙ word-again (length (streamIn x .head)) (pad 2048 (streamIn x .head)) (omega arith)
+      ∙ word-again (length (streamIn x .head)) (pad headRoom (streamIn x .head)) (omega arith)
 
-  region-is : drop 8 x ≡ pad 2048 (streamIn x .head)
+  region-is : drop 8 x ≡ pad headRoom (streamIn x .head)
   region-is =
       sym (drop-drop 4 4 x)
       ∙ ap (drop 4) head-part
-      ∙ drop-at (wordBytes (length (streamIn x .head))) (pad 2048 (streamIn x .head)) 4 (word-length (length (streamIn x .head)))
+      ∙ drop-at (wordBytes (length (streamIn x .head))) (pad headRoom (streamIn x .head)) 4 (word-length (length (streamIn x .head)))
 
-  part-is : take 2048 (drop 8 x) ≡ drop 8 x
-  part-is = take-all 2048 (drop 8 x) (rw (region-is, pad-length) (omega arith))
+  part-is : take headRoom (drop 8 x) ≡ drop 8 x
+  part-is = take-all headRoom (drop 8 x) (rw (region-is, pad-length) (omega arith))
 
   -- the tail that the counts and the region say
-  tail-is : (s : Stream) → s .taken ≡ wordAt Little x 0 → s .stored ≡ wordAt Little x 4 → tailIn (take 2048 (drop 8 x)) s ≡ streamIn x
+  tail-is : (s : Stream) → s .taken ≡ wordAt Little x 0 → s .stored ≡ wordAt Little x 4 → tailIn (take headRoom (drop 8 x)) s ≡ streamIn x
   tail-is s p q =
       let f = fits .1 in
       let c = count-is in
-      let k : min (wordAt Little x 4) 2048 ≡ wordAt Little x 4 = omega arith in
-      let h : take (s .stored) (take 2048 (drop 8 x)) ≡ streamIn x .head = rw (q, part-is, k) in
+      let k : min (wordAt Little x 4) headRoom ≡ wordAt Little x 4 = omega arith in
+      let h : take (s .stored) (take headRoom (drop 8 x)) ≡ streamIn x .head = rw (q, part-is, k) in
       λ j. record { taken = p j; head = h j }
 
-  pub opened : (s : Stream) → s .taken ≡ wordAt Little x 0 → s .stored ≡ wordAt Little x 4 → Open (take 2048 (drop 8 x)) s
+  pub opened : (s : Stream) → s .taken ≡ wordAt Little x 0 → s .stored ≡ wordAt Little x 4 → Open (take headRoom (drop 8 x)) s
   opened s p q =
       let f = fits .1 in
       let g = fits .0 in
@@ -64,15 +65,15 @@ module _ (x : List ℕ) (o : Opens x) where
         sized = ap length part-is ∙ rw (region-is, pad-length);
         stored = omega arith;
         counted = omega arith;
-        padded = part-is ∙ region-is ∙ ap (λ (z : Tail). pad 2048 (z .head)) (sym t);
+        padded = part-is ∙ region-is ∙ ap (λ (z : Tail). pad headRoom (z .head)) (sym t);
         good = ap goodTail t ∙ o .good;
         running = ap judge t ∙ open-more (streamIn x) (o .good) (o .runs);
       }
 
   -- the counts are written in front of the new head
   pub fed : (s : Stream) → s .taken ≡ wordAt Little x 0 → s .stored ≡ wordAt Little x 4 → (piece region x₁ x₂ x₃ : List ℕ) (r : Advance)
-      → Advanced (take 2048 (drop 8 x)) s piece r region
-      → x₁ ≡ take 8 x ++ (region ++ drop 2048 (drop 8 x))
+      → Advanced (take headRoom (drop 8 x)) s piece r region
+      → x₁ ≡ take 8 x ++ (region ++ drop headRoom (drop 8 x))
       → x₂ ≡ take 0 x₁ ++ (wordBytes (r .stream .taken) ++ drop 4 x₁)
       → x₃ ≡ take 4 x₂ ++ (wordBytes (r .stream .stored) ++ drop 8 x₂)
       → Fed (offer tails (streamIn x) piece) r x₃
@@ -83,7 +84,7 @@ module _ (x : List ℕ) (o : Opens x) where
       let w = wordBytes (r .stream .taken) in
       let v = wordBytes (r .stream .stored) in
       let l : length (take 8 x) ≡ 8 = length-take-le 8 x (omega (arith, o .sized)) in
-      let z : drop 2048 (drop 8 x) ≡ [] = drop-of-length-le (drop 8 x) {i = 2048} (omega (arith, length-drop 8 x, o .sized)) in
+      let z : drop headRoom (drop 8 x) ≡ [] = drop-of-length-le (drop 8 x) {i = headRoom} (omega (arith, length-drop 8 x, o .sized)) in
       let y₁ : x₁ ≡ take 8 x ++ region = e₁ ∙ rw z (ap (λ (y : List ℕ). take 8 x ++ y) (append-nil region)) in
       let d₁ : drop 8 x₁ ≡ region = ap (drop 8) y₁ ∙ drop-at (take 8 x) region 8 l in
       let d₂ : drop 8 x₂ ≡ region

@@ -3,3 +3,4 @@ mod Seats
 mod Copied
 mod Consumed
 mod Offered
+mod Once

@@ -22,6 +22,7 @@ use Rattle.rules.specs.Judge.{refusal, judged}
 use Rattle.rules.specs.Calls.{stays, slotAt, noPiece, offeredTo, piece}
 use Rattle.rules.specs.declared.Judgement.{Judgement}
 use Rattle.rules.specs.declared.Taken.{Taken}
+use Rattle.memory.specs.Layout.{headRoom}
 use Rattle.memory.specs.Encoding.{memoryOf, stateOf}
 use Rattle.memory.specs.Sound.{Held}
 use Rattle.memory.specs.Calls.{stored, Did}
@@ -71,15 +72,15 @@ module _ (image : List ℕ) (s : State Tail) (i : ℕ) (p : Peer Tail) (o : Offe
   broken-step a e = rw e
 
   -- over the state z in which the message is consumed, and its peer q
-  whole-step : (h : List ℕ) (x : Header) → o .verdict ≡ whole h x → (z : State Tail) (q : Peer Tail) → z ≡ putSlot s i (peer (withStream p fresh)) → q ≡ withStream p fresh
+  pub whole-step : (h : List ℕ) (x : Header) → o .verdict ≡ whole h x → (z : State Tail) (q : Peer Tail) → z ≡ putSlot s i (peer (withStream p fresh)) → q ≡ withStream p fresh
       → offeredTo tails image s i p o
       ≡ record { state = judged image z i q h x .state; result = record { judgement = judged image z i q h x .judgement; taken = o .taken } }
   whole-step h x e z q a b = rw (e, a, b)
 
 module _ (image m bytes after : List ℕ) (f : (j : ℕ) → Fits w8 (getD m j 0)) (i : ℕ) (s : Seated m i) (r : Advance)
     (d : FedAt m i (offer tails (peerAt m i .stream) bytes) r after) where
-  verdict-is : (e : Event) → r .event ≡ e → verdictOf (pad 2048 (offer tails (peerAt m i .stream) bytes .stream .head)) e ≡ offer tails (peerAt m i .stream) bytes .verdict
-  verdict-is e q = ap (verdictOf (pad 2048 (offer tails (peerAt m i .stream) bytes .stream .head))) (sym q) ∙ d .verdict
+  verdict-is : (e : Event) → r .event ≡ e → verdictOf (pad headRoom (offer tails (peerAt m i .stream) bytes .stream .head)) e ≡ offer tails (peerAt m i .stream) bytes .verdict
+  verdict-is e q = ap (verdictOf (pad headRoom (offer tails (peerAt m i .stream) bytes .stream .head))) (sym q) ∙ d .verdict
 
   pub offered-more : r .event ≡ event.More
       → Did (stored (offeredTo tails image (stateOf m) i (peerAt m i) (offer tails (peerAt m i .stream) bytes)))
@@ -105,7 +106,7 @@ module _ (image m bytes after : List ℕ) (f : (j : ℕ) → Fits w8 (getD m j 0
     offered-whole j end w =
         let o = offer tails (peerAt m i .stream) bytes in
         let v = verdict-is (event.Whole x) q in
-        let h = take (x .head) (pad 2048 (o .stream .head)) in
+        let h = take (x .head) (pad headRoom (o .stream .head)) in
         let z = stateOf (memoryOf (consumed m f i s)) in
         let p = peerAt (memoryOf (consumed m f i s)) i in
         let l : cleared after i ≡ memoryOf (consumed m f i s) = consumed-clear m f i s image bytes after x g c (d .bytes) v in

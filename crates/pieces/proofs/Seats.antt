@@ -20,6 +20,7 @@ use Rattle.stream.specs.Tail.{Tail, tails, closed, fresh, goodTail}
 use Rattle.stream.specs.Contracts.{tailOf, GoodTail}
 use Rattle.stream.specs.declared.Advance.{Advance}
 use Rattle.rules.specs.State.{free, peer, putSlot, withStream}
+use Rattle.memory.specs.Layout.{memoryLength, slotStart, takenAt, headAt, firstByte, headRoom, streamLength}
 use Rattle.memory.specs.Encoding.{headBytes, streamBytes, memoryOf, stateOf}
 use Rattle.memory.specs.Sound.{Sound}
 use Rattle.memory.proofs.Reading.{slot-peer}
@@ -32,7 +33,7 @@ use Rattle.sound.proofs.Put.{peer-fine}
 use Rattle.slots.specs.Slots.{peerAt, Seated}
 use Rattle.pieces.specs.Fed.{streamIn, Opens, Fed, FedAt, cleared, behindIn}
 
-fresh-bytes : streamBytes fresh ≡ replicate 2056 0
+fresh-bytes : streamBytes fresh ≡ replicate streamLength 0
 unfolding wordBytes headBytes pad
 fresh-bytes = refl
 
@@ -46,82 +47,82 @@ module _ (m : List ℕ) (f : (j : ℕ) → Fits w8 (getD m j 0)) (i : ℕ) (s : 
   pub fine : Fine (stateOf m .last) (peerAt m i)
   fine = peer-fine (stateOf m) i (peerAt m i) sound peer-is
 
-  counts : Counted m (4 + 3292 * i)
+  counts : Counted m (slotStart i)
   counts = held-counted m i (s .held) (s .below) (s .some)
 
   -- the bytes of its stream
-  part-is : take 2056 (drop (4 + 3292 * i + 1236) m) ≡ streamBytes (peerAt m i .stream)
+  part-is : take streamLength (drop (slotStart i + takenAt) m) ≡ streamBytes (peerAt m i .stream)
   part-is =
-      sym (drop-take 1236 2056 (drop (4 + 3292 * i) m) ∙ rw (drop-drop 1236 (4 + 3292 * i) m))
-      ∙ ap (drop 1236) (held-peer m i (s .held) (s .below) (s .some))
+      sym (drop-take takenAt streamLength (drop (slotStart i) m) ∙ rw (drop-drop takenAt (slotStart i) m))
+      ∙ ap (drop takenAt) (held-peer m i (s .held) (s .below) (s .some))
       ∙ stream-bytes (peerAt m i)
 
-  stream-in : streamIn (take 2056 (drop (4 + 3292 * i + 1236) m)) ≡ peerAt m i .stream
+  stream-in : streamIn (take streamLength (drop (slotStart i + takenAt) m)) ≡ peerAt m i .stream
   stream-in =
-      let b = 4 + 3292 * i + 1236 in
-      let p : b + 0 ≡ 4 + 3292 * i + 1236 = omega arith in
-      let q : b + 4 ≡ 4 + 3292 * i + 1240 = omega arith in
-      let r : b + 8 ≡ 4 + 3292 * i + 1244 = omega arith in
-      let n = min (wordAt Little m (4 + 3292 * i + 1240)) 2048 in
-      rw (word-part m b 2056 0 (omega arith), p, word-part m b 2056 4 (omega arith), q, drop-take 8 2048 (drop b m), drop-drop 8 b m, r)
-      (ap (λ (h : List ℕ). record { taken = wordAt Little m (4 + 3292 * i + 1236); head = h }) (take-take n 2048 (drop (4 + 3292 * i + 1244) m) (omega arith)))
+      let b = slotStart i + takenAt in
+      let p : b + 0 ≡ slotStart i + takenAt = omega arith in
+      let q : b + 4 ≡ slotStart i + headAt = omega arith in
+      let r : b + 8 ≡ slotStart i + firstByte = omega arith in
+      let n = min (wordAt Little m (slotStart i + headAt)) headRoom in
+      rw (word-part m b streamLength 0 (omega arith), p, word-part m b streamLength 4 (omega arith), q, drop-take 8 headRoom (drop b m), drop-drop 8 b m, r)
+      (ap (λ (h : List ℕ). record { taken = wordAt Little m (slotStart i + takenAt); head = h }) (take-take n headRoom (drop (slotStart i + firstByte) m) (omega arith)))
 
-  pub opens-at : closed (peerAt m i .stream) ≡ false → Opens (take (4 + 3292 * i + 1236 + 2056 - (4 + 3292 * i + 1236)) (drop (4 + 3292 * i + 1236) m))
+  pub opens-at : closed (peerAt m i .stream) ≡ false → Opens (take (slotStart i + takenAt + streamLength - (slotStart i + takenAt)) (drop (slotStart i + takenAt) m))
   opens-at c =
-      rw (cut-at (4 + 3292 * i + 1236) 2056 m)
+      rw (cut-at (slotStart i + takenAt) streamLength m)
       (record {
-        sized = length-take-le 2056 (drop (4 + 3292 * i + 1236) m) (omega (arith, length-drop (4 + 3292 * i + 1236) m, s .sized, s .below));
+        sized = length-take-le streamLength (drop (slotStart i + takenAt) m) (omega (arith, length-drop (slotStart i + takenAt) m, s .sized, s .below));
         bytes = part-is ∙ ap streamBytes (sym stream-in);
         good = ap goodTail stream-in ∙ fine .tail;
         runs = ap closed stream-in ∙ c;
       })
 
   pub fed-at : (piece x after : List ℕ) (r : Advance)
-      → Fed (offer tails (streamIn (take (4 + 3292 * i + 1236 + 2056 - (4 + 3292 * i + 1236)) (drop (4 + 3292 * i + 1236) m))) piece) r x
-      → after ≡ take (4 + 3292 * i + 1236) m ++ (x ++ drop (4 + 3292 * i + 1236 + 2056 - (4 + 3292 * i + 1236)) (drop (4 + 3292 * i + 1236) m))
+      → Fed (offer tails (streamIn (take (slotStart i + takenAt + streamLength - (slotStart i + takenAt)) (drop (slotStart i + takenAt) m))) piece) r x
+      → after ≡ take (slotStart i + takenAt) m ++ (x ++ drop (slotStart i + takenAt + streamLength - (slotStart i + takenAt)) (drop (slotStart i + takenAt) m))
       → FedAt m i (offer tails (peerAt m i .stream) piece) r after
   fed-at piece x after r d e =
-      let q : streamIn (take (4 + 3292 * i + 1236 + 2056 - (4 + 3292 * i + 1236)) (drop (4 + 3292 * i + 1236) m)) ≡ peerAt m i .stream
-      = ap streamIn (cut-at (4 + 3292 * i + 1236) 2056 m) ∙ stream-in in
+      let q : streamIn (take (slotStart i + takenAt + streamLength - (slotStart i + takenAt)) (drop (slotStart i + takenAt) m)) ≡ peerAt m i .stream
+      = ap streamIn (cut-at (slotStart i + takenAt) streamLength m) ∙ stream-in in
       let g : Fed (offer tails (peerAt m i .stream) piece) r x
       = subst (λ (t : Tail). Fed (offer tails t piece) r x) q d in
       record {
         taken = g .taken;
         verdict = g .verdict;
-        bytes = e ∙ put-at (4 + 3292 * i + 1236) 2056 m x ∙ rw (g .bytes);
+        bytes = e ∙ put-at (slotStart i + takenAt) streamLength m x ∙ rw (g .bytes);
         memory =
             e
-            ∙ put-at (4 + 3292 * i + 1236) 2056 m x
+            ∙ put-at (slotStart i + takenAt) streamLength m x
             ∙ rw (g .bytes) (sym (stream-put m (λ j. f j .fits) (s .held) i (s .below) (s .some) (offer tails (peerAt m i .stream) piece .stream)));
       }
 
   -- the region of its head, as the code lends it
-  tail-at : (t n : ℕ) → t ≡ wordAt Little m (4 + 3292 * i + 1236) → n ≡ wordAt Little m (4 + 3292 * i + 1240)
-      → tailOf (take (4 + 3292 * i + 1244 + 2048 - (4 + 3292 * i + 1244)) (drop (4 + 3292 * i + 1244) m)) t n ≡ peerAt m i .stream
+  tail-at : (t n : ℕ) → t ≡ wordAt Little m (slotStart i + takenAt) → n ≡ wordAt Little m (slotStart i + headAt)
+      → tailOf (take (slotStart i + firstByte + headRoom - (slotStart i + firstByte)) (drop (slotStart i + firstByte) m)) t n ≡ peerAt m i .stream
   tail-at t n p q =
-      let k : n ≤ 2048 = rw (← q) at (counts .small) in
-      let e : min (wordAt Little m (4 + 3292 * i + 1240)) 2048 ≡ n = omega arith in
-      rw (cut-at (4 + 3292 * i + 1244) 2048 m, e, ← p) (ap (λ (h : List ℕ). record { taken = t; head = h }) (take-take n 2048 (drop (4 + 3292 * i + 1244) m) k))
+      let k : n ≤ headRoom = rw (← q) at (counts .small) in
+      let e : min (wordAt Little m (slotStart i + headAt)) headRoom ≡ n = omega arith in
+      rw (cut-at (slotStart i + firstByte) headRoom m, e, ← p) (ap (λ (h : List ℕ). record { taken = t; head = h }) (take-take n headRoom (drop (slotStart i + firstByte) m) k))
 
-  pub closed-at : (t n : ℕ) → t ≡ wordAt Little m (4 + 3292 * i + 1236) → n ≡ wordAt Little m (4 + 3292 * i + 1240)
-      → GoodTail (take (4 + 3292 * i + 1244 + 2048 - (4 + 3292 * i + 1244)) (drop (4 + 3292 * i + 1244) m)) t n
+  pub closed-at : (t n : ℕ) → t ≡ wordAt Little m (slotStart i + takenAt) → n ≡ wordAt Little m (slotStart i + headAt)
+      → GoodTail (take (slotStart i + firstByte + headRoom - (slotStart i + firstByte)) (drop (slotStart i + firstByte) m)) t n
   closed-at t n p q =
       record {
         inside =
-            rw (cut-at (4 + 3292 * i + 1244) 2048 m, length-take-le 2048 (drop (4 + 3292 * i + 1244) m) (omega (arith, length-drop (4 + 3292 * i + 1244) m, s .sized, s .below)))
+            rw (cut-at (slotStart i + firstByte) headRoom m, length-take-le headRoom (drop (slotStart i + firstByte) m) (omega (arith, length-drop (slotStart i + firstByte) m, s .sized, s .below)))
             (rw (← q) at (counts .small));
         good = ap goodTail (tail-at t n p q) ∙ fine .tail;
       }
 
-  pub closed-is : (t n : ℕ) (r : Bool) → t ≡ wordAt Little m (4 + 3292 * i + 1236) → n ≡ wordAt Little m (4 + 3292 * i + 1240)
-      → r ≡ closed (tailOf (take (4 + 3292 * i + 1244 + 2048 - (4 + 3292 * i + 1244)) (drop (4 + 3292 * i + 1244) m)) t n)
+  pub closed-is : (t n : ℕ) (r : Bool) → t ≡ wordAt Little m (slotStart i + takenAt) → n ≡ wordAt Little m (slotStart i + headAt)
+      → r ≡ closed (tailOf (take (slotStart i + firstByte + headRoom - (slotStart i + firstByte)) (drop (slotStart i + firstByte) m)) t n)
       → r ≡ closed (peerAt m i .stream)
   closed-is t n r p q z = z ∙ ap closed (tail-at t n p q)
 
   -- zeros over its stream
   pub cleared-is : cleared m i ≡ memoryOf (putSlot (stateOf m) i (peer (withStream (peerAt m i) fresh)))
   cleared-is =
-      ap (λ (z : List ℕ). take (4 + 3292 * i + 1236) m ++ (z ++ drop (4 + 3292 * i + 1236 + 2056) m)) (sym fresh-bytes)
+      ap (λ (z : List ℕ). take (slotStart i + takenAt) m ++ (z ++ drop (slotStart i + takenAt + streamLength) m)) (sym fresh-bytes)
       ∙ sym (stream-put m (λ j. f j .fits) (s .held) i (s .below) (s .some) fresh)
 
 -- k zeros at b, and w more behind them
@@ -132,18 +133,18 @@ zeros-more m b k w e =
     ∙ ap (λ (y : List ℕ). y ++ drop (b + k + w) m) (replicate-append-replicate k w 0)
 
 -- zeros written over the counts of a stream and its head, where zeros stand behind it
-pub settled-at : (m z : List ℕ) (i n : ℕ) → length m ≡ 52676 → i < 16 → n ≤ 2048 → behindIn m i n ≡ replicate (2048 - n) 0
-    → z ≡ replicate (length (take (4 + 3292 * i + 1236 + (8 + n) - (4 + 3292 * i + 1236)) (drop (4 + 3292 * i + 1236) m))) 0
-    → take (4 + 3292 * i + 1236) m ++ (z ++ drop (4 + 3292 * i + 1236 + (8 + n) - (4 + 3292 * i + 1236)) (drop (4 + 3292 * i + 1236) m)) ≡ cleared m i
+pub settled-at : (m z : List ℕ) (i n : ℕ) → length m ≡ memoryLength → i < 16 → n ≤ headRoom → behindIn m i n ≡ replicate (headRoom - n) 0
+    → z ≡ replicate (length (take (slotStart i + takenAt + (8 + n) - (slotStart i + takenAt)) (drop (slotStart i + takenAt) m))) 0
+    → take (slotStart i + takenAt) m ++ (z ++ drop (slotStart i + takenAt + (8 + n) - (slotStart i + takenAt)) (drop (slotStart i + takenAt) m)) ≡ cleared m i
 settled-at m z i n h k s o q =
-    let b = 4 + 3292 * i + 1236 in
+    let b = slotStart i + takenAt in
     let l : length (take (b + (8 + n) - b) (drop b m)) ≡ 8 + n
     = ap length (cut-at b (8 + n) m) ∙ length-take-le (8 + n) (drop b m) (omega (arith, length-drop b m)) in
-    let d : 4 + 3292 * i + 1244 + n ≡ b + (8 + n) = omega arith in
-    let u : 8 + n + (2048 - n) ≡ 2056 = omega arith in
-    let v : b + (8 + n) + (2048 - n) ≡ b + 2056 = omega arith in
-    let x : replicate (8 + n) 0 ++ drop (b + (8 + n)) m ≡ replicate 2056 0 ++ drop (b + 2056) m
-    = rw (u, v) at (zeros-more m b (8 + n) (2048 - n) (rw d at o)) in
+    let d : slotStart i + firstByte + n ≡ b + (8 + n) = omega arith in
+    let u : 8 + n + (headRoom - n) ≡ streamLength = omega arith in
+    let v : b + (8 + n) + (headRoom - n) ≡ b + streamLength = omega arith in
+    let x : replicate (8 + n) 0 ++ drop (b + (8 + n)) m ≡ replicate streamLength 0 ++ drop (b + streamLength) m
+    = rw (u, v) at (zeros-more m b (8 + n) (headRoom - n) (rw d at o)) in
     put-at b (8 + n) m z ∙ rw (q, l, x)
 
 pub ruleset seats = (opens-at, fed-at, closed-at, closed-is, settled-at, needs)

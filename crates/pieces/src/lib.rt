@@ -1,5 +1,6 @@
 // A piece offered to a peer's stream, on good memory and under a good image.
 use header::Header;
+use header::Reading;
 use memory::FIRST_BYTE;
 use memory::HEAD_AT;
 use memory::SLOT_LENGTH;
@@ -23,7 +24,7 @@ ghost use Rattle.slots.specs.Slots.{peerAt, Seated};
 ghost use Rattle.pieces.specs.Fed.{streamIn, Opens, Fed, FedAt, cleared, headIn, behindIn, Completed};
 ghost use Rattle.image.specs.Contracts.{GoodImage};
 ghost use Rattle.rules.specs.Calls.{offeredTo, piece};
-ghost use Rattle.memory.specs.Layout.{memoryLength};
+ghost use Rattle.memory.specs.Layout.{memoryLength, headRoom};
 ghost use Rattle.memory.specs.Encoding.{stateOf};
 ghost use Rattle.memory.specs.Sound.{Held};
 ghost use Rattle.memory.specs.Calls.{stored, Did};
@@ -69,7 +70,7 @@ fn is_closed_at(memory: &[u8], i: usize) -> bool
 
 // The message of slot i is consumed: no byte of it is kept. Its head has n bytes, and what is behind them is zero.
 fn settle_at(memory: &mut [u8], i: usize, n: usize)
-    requires { ⌜ (length (now memory) ≡ memoryLength) × (i < 16) × (n ≤ 2048) × (behindIn (now memory) i n ≡ replicate (2048 - n) 0) ⌝ }
+    requires { ⌜ (length (now memory) ≡ memoryLength) × (i < 16) × (n ≤ headRoom) × (behindIn (now memory) i n ≡ replicate (headRoom - n) 0) ⌝ }
     ensures { λ r. ⌜ now (memory .exit) ≡ cleared (now (memory .entry)) i ⌝ }
 {
     let from = SLOTS_AT + SLOT_LENGTH * i + TAKEN_AT;
@@ -79,7 +80,7 @@ fn settle_at(memory: &mut [u8], i: usize, n: usize)
 
 // A copy of the first n bytes of the head that slot i keeps.
 fn head_of(memory: &[u8], i: usize, n: usize) -> [u8; 2048]
-    requires { ⌜ (length (now memory) ≡ memoryLength) × (i < 16) × (n ≤ 2048) ⌝ }
+    requires { ⌜ (length (now memory) ≡ memoryLength) × (i < 16) × (n ≤ headRoom) ⌝ }
     ensures { λ r. ⌜ take n r ≡ headIn (now (memory .entry)) i n ⌝ }
 {
     let mut head = [0u8; 2048];
@@ -130,6 +131,36 @@ fn piece_at(image: &[u8], memory: &mut [u8], i: usize, bytes: &[u8]) -> Taken
     }
 }
 
+// How long a whole message is: its head and its body.
+fn length_of(header: Header) -> usize
+    requires { ⌜ header .head ≤ headRoom ⌝ }
+    ensures { λ r. ⌜ r ≡ header .head + header .body ⌝ }
+{
+    header.head + header.body as usize
+}
+
+// The piece is offered to the stream of slot i, which is between two messages: one that is whole in the piece is judged where it stands.
+fn fresh_at(image: &[u8], memory: &mut [u8], i: usize, bytes: &[u8]) -> Taken
+    requires { ⌜ (GoodImage (now image)) × (Seated (now memory) i) × (peerAt (now memory) i .stream .taken ≡ 0) ⌝ }
+    ensures { λ r. ⌜ Did (stored (offeredTo tails (now (image .entry)) (stateOf (now (memory .entry))) i (peerAt (now (memory .entry)) i) (offer tails (peerAt (now (memory .entry)) i .stream) (now (bytes .entry))))) r (now (memory .exit)) ⌝ }
+{
+    match header::read(bytes) {
+        Reading::Short => piece_at(image, memory, i, bytes),
+        Reading::Broken(_) => piece_at(image, memory, i, bytes),
+        Reading::Whole(header) => {
+            let taken = length_of(header);
+            if bytes.len() < taken {
+                return piece_at(image, memory, i, bytes);
+            }
+            let n = header.head;
+            Taken {
+                judgement: judge::judge(image, memory, i, &bytes[0..n], header),
+                taken,
+            }
+        }
+    }
+}
+
 // A piece of a peer's stream, on good memory and under a good image.
 pub fn piece(image: &[u8], memory: &mut [u8], peer: u32, bytes: &[u8]) -> Taken
     requires { ⌜ (GoodImage (now image)) × (Held (now memory)) ⌝ }
@@ -138,6 +169,9 @@ pub fn piece(image: &[u8], memory: &mut [u8], peer: u32, bytes: &[u8]) -> Taken
     let i = slots::find(memory, peer, 0);
     if i == 16 {
         return no_piece(30);
+    }
+    if slots::word_at(memory, i, TAKEN_AT) == 0 {
+        return fresh_at(image, memory, i, bytes);
     }
     if is_closed_at(memory, i) {
         return no_piece(40);

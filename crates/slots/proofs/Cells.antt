@@ -17,6 +17,7 @@ use Rattle.wire.proofs.Parts.{drop-take}
 use Rattle.policy.specs.Names.{nameOf, owns}
 use Rattle.rules.specs.State.{firstBy}
 use Rattle.rules.proofs.First.{first-any}
+use Rattle.memory.specs.Layout.{slotStart, pendingAt, firstCallee, firstSerial, callWidth, namesAt, firstName, nameWidth}
 use Rattle.memory.proofs.Reading.{name-next, pending-next, names-many, pending-many}
 use Rattle.slots.specs.Slots.{peerAt, nameAt}
 
@@ -29,25 +30,25 @@ cell-name : (m : List ℕ) (a : ℕ) → getD m a 0 < 256 → nameOf (take 256 (
 cell-name m a h =
     rw (cell-front m a, drop-take 1 255 (drop a m), drop-drop 1 a m) (take-take (getD m a 0) 255 (drop (a + 1) m) (omega arith))
 
-pub names-next : (m : List ℕ) (i j : ℕ) → j < length (peerAt m i .names) → getD m (4 + 3292 * i + 212 + 256 * j) 0 < 256
+pub names-next : (m : List ℕ) (i j : ℕ) → j < length (peerAt m i .names) → getD m (slotStart i + firstName + nameWidth * j) 0 < 256
     → drop j (peerAt m i .names) ≡ nameAt m i j ∷ drop (j + 1) (peerAt m i .names)
-names-next m i j h b = name-next m (4 + 3292 * i) j h ∙ rw (cell-name m (4 + 3292 * i + 212 + 256 * j) b)
+names-next m i j h b = name-next m (slotStart i) j h ∙ rw (cell-name m (slotStart i + firstName + nameWidth * j) b)
 
 -- a pending call, as the code reads it
 pub calls-next : (m : List ℕ) (i j : ℕ) → j < length (peerAt m i .pending)
     → drop j (peerAt m i .pending)
-    ≡ record { callee = wordAt Little m (4 + 3292 * i + (80 + 8 * j)); serial = wordAt Little m (4 + 3292 * i + (84 + 8 * j)) } ∷ drop (j + 1) (peerAt m i .pending)
+    ≡ record { callee = wordAt Little m (slotStart i + (firstCallee + callWidth * j)); serial = wordAt Little m (slotStart i + (firstSerial + callWidth * j)) } ∷ drop (j + 1) (peerAt m i .pending)
 calls-next m i j h =
-    let k : 4 + 3292 * i + 80 + 8 * j ≡ 4 + 3292 * i + (80 + 8 * j) = omega arith in
-    let o : 4 + 3292 * i + 84 + 8 * j ≡ 4 + 3292 * i + (84 + 8 * j) = omega arith in
-    pending-next m (4 + 3292 * i) j h ∙ rw (k, o)
+    let k : slotStart i + firstCallee + callWidth * j ≡ slotStart i + (firstCallee + callWidth * j) = omega arith in
+    let o : slotStart i + firstSerial + callWidth * j ≡ slotStart i + (firstSerial + callWidth * j) = omega arith in
+    pending-next m (slotStart i) j h ∙ rw (k, o)
 
 -- how many they are
-pub names-counted : (m : List ℕ) (i n r : ℕ) → n ≡ wordAt Little m (4 + 3292 * i + 208) → r ≡ min n 4 → r ≡ length (peerAt m i .names)
-names-counted m i n r e c = c ∙ rw e (sym (names-many m (4 + 3292 * i)))
+pub names-counted : (m : List ℕ) (i n r : ℕ) → n ≡ wordAt Little m (slotStart i + namesAt) → r ≡ min n 4 → r ≡ length (peerAt m i .names)
+names-counted m i n r e c = c ∙ rw e (sym (names-many m (slotStart i)))
 
-pub pending-counted : (m : List ℕ) (i n r : ℕ) → n ≡ wordAt Little m (4 + 3292 * i + 76) → r ≡ min n 16 → r ≡ length (peerAt m i .pending)
-pending-counted m i n r e c = c ∙ rw e (sym (pending-many m (4 + 3292 * i)))
+pub pending-counted : (m : List ℕ) (i n r : ℕ) → n ≡ wordAt Little m (slotStart i + pendingAt) → r ≡ min n 16 → r ≡ length (peerAt m i .pending)
+pending-counted m i n r e c = c ∙ rw e (sym (pending-many m (slotStart i)))
 
 pub ruleset counting = (names-counted, pending-counted, needs)
 

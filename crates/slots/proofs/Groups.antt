@@ -9,6 +9,7 @@ use lib.Seq.{take-suc-set, append-snoc}
 use borrow.Author.Needs.{needs}
 use Rattle.wire.specs.Words.{wordAt}
 use Rattle.wire.specs.declared.Order.the-variants.{Little}
+use Rattle.memory.specs.Layout.{slotStart, gidsAt, firstGid}
 use Rattle.slots.specs.Slots.{peerAt}
 use Rattle.memory.proofs.Reading.{gid-next, gids-many}
 
@@ -20,20 +21,20 @@ pub record Gathering (m : List ℕ) (i count : ℕ) (list : List ℕ) (k : ℕ) 
   pub long : length (peerAt m i .gids) ≡ count
   pub left : take k list ++ drop k (peerAt m i .gids) ≡ peerAt m i .gids
 
-pub gathering-begins : {m : List ℕ} {i count n : ℕ} {list : List ℕ} → n ≡ wordAt Little m (4 + 3292 * i + 8) → count ≡ min n 16 → length list ≡ 16
+pub gathering-begins : {m : List ℕ} {i count n : ℕ} {list : List ℕ} → n ≡ wordAt Little m (slotStart i + gidsAt) → count ≡ min n 16 → length list ≡ 16
     → Gathering m i count list 0
 gathering-begins {m} {i} e c l =
-    record { few = omega arith; sized = l; inside = omega arith; long = gids-many m (4 + 3292 * i) ∙ rw (← e) (sym c); left = refl }
+    record { few = omega arith; sized = l; inside = omega arith; long = gids-many m (slotStart i) ∙ rw (← e) (sym c); left = refl }
 
 module _ {m : List ℕ} {i count : ℕ} {list : List ℕ} {k : ℕ} (g : Gathering m i count list k) where
-  pub gathering-more : k < count → {x : ℕ} → x ≡ wordAt Little m (4 + 3292 * i + (12 + 4 * k)) → Gathering m i count (set list k x) (k + 1)
+  pub gathering-more : k < count → {x : ℕ} → x ≡ wordAt Little m (slotStart i + (12 + 4 * k)) → Gathering m i count (set list k x) (k + 1)
   gathering-more h {x} e =
       let s : length list ≡ 16 = g .sized in
       let f : count ≤ 16 = g .few in
       let r = drop (k + 1) (peerAt m i .gids) in
       let u : take (k + 1) (set list k x) ≡ take k list ++ (x ∷ []) = rw add-one (take-suc-set list k x (omega arith)) in
-      let o : 4 + 3292 * i + 12 + 4 * k ≡ 4 + 3292 * i + (12 + 4 * k) = omega arith in
-      let d : drop k (peerAt m i .gids) ≡ x ∷ r = gid-next m (4 + 3292 * i) k (omega (arith, g .long)) ∙ rw (o, e) in
+      let o : slotStart i + firstGid + 4 * k ≡ slotStart i + (12 + 4 * k) = omega arith in
+      let d : drop k (peerAt m i .gids) ≡ x ∷ r = gid-next m (slotStart i) k (omega (arith, g .long)) ∙ rw (o, e) in
       record {
         few = f;
         sized = length-set list k x ∙ s;

@@ -13,6 +13,7 @@ use Rattle.wire.proofs.Words.{cut-at}
 use Rattle.policy.specs.Names.{owns}
 use Rattle.rules.specs.State.{firstBy}
 use Rattle.rules.specs.Calls.{slotAt, isOwner}
+use Rattle.memory.specs.Layout.{slotStart, firstName, nameWidth}
 use Rattle.memory.specs.Encoding.{stateOf}
 use Rattle.memory.specs.Places.{numberAt}
 use Rattle.memory.proofs.Reading.{slot-free, slot-peer}
@@ -31,7 +32,7 @@ pub looking-begins : {m : List ℕ} {i from : ℕ} {name : List ℕ} {count : �
 looking-begins e h = record { few = h; counted = e; left = refl }
 
 module _ {m : List ℕ} {i from : ℕ} {name : List ℕ} {count j : ℕ} (l : Looking m i name from count j) where
-  module _ (h : j < count) (b : getD m (4 + 3292 * i + 212 + 256 * j) 0 < 256) {r : Bool} (e : r ≡ same (nameAt m i j) name) where
+  module _ (h : j < count) (b : getD m (slotStart i + firstName + nameWidth * j) 0 < 256) {r : Bool} (e : r ≡ same (nameAt m i j) name) where
     -- name j, and those after it
     here : drop j (peerAt m i .names) ≡ nameAt m i j ∷ drop (j + 1) (peerAt m i .names)
     here = names-next m i j (omega (arith, l .counted)) b

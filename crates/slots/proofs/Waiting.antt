@@ -12,6 +12,7 @@ use Rattle.wire.specs.Words.{wordAt}
 use Rattle.wire.specs.declared.Order.the-variants.{Little}
 use Rattle.rules.specs.State.{firstBy}
 use Rattle.rules.specs.Pending.{isCall}
+use Rattle.memory.specs.Layout.{slotStart, firstCallee, firstSerial, callWidth}
 use Rattle.slots.specs.Slots.{peerAt, CallAt}
 use Rattle.slots.proofs.Cells.{calls-next}
 
@@ -29,8 +30,8 @@ pub seeking-begins : {m : List ℕ} {i callee serial from count : ℕ} → count
 seeking-begins e f h = record { few = f; long = sym e; inside = rw e h; left = refl }
 
 module _ {m : List ℕ} {i callee serial from count j : ℕ} (s : Seeking m i callee serial from count j) where
-  module _ (h : j < count) {p q : ℕ} (e : p ≡ wordAt Little m (4 + 3292 * i + (80 + 8 * j)))
-      (f : q ≡ wordAt Little m (4 + 3292 * i + (84 + 8 * j))) where
+  module _ (h : j < count) {p q : ℕ} (e : p ≡ wordAt Little m (slotStart i + (firstCallee + callWidth * j)))
+      (f : q ≡ wordAt Little m (slotStart i + (firstSerial + callWidth * j))) where
     -- call j, and those after it
     here : drop j (peerAt m i .pending) ≡ record { callee = p; serial = q } ∷ drop (j + 1) (peerAt m i .pending)
     here = calls-next m i j (omega (arith, s .long)) ∙ rw (← e, ← f)

@@ -7,7 +7,7 @@ use Rattle.wire.specs.Bytes.{same}
 use Rattle.stream.specs.Tail.{Tail}
 use Rattle.rules.specs.State.{Peer, firstBy}
 use Rattle.rules.specs.Pending.{isCall}
-use Rattle.memory.specs.Layout.{slotStart, memoryLength, firstName}
+use Rattle.memory.specs.Layout.{memoryLength, slotStart, firstName, nameWidth}
 use Rattle.memory.specs.Sound.{Held}
 use Rattle.memory.specs.Places.{numberAt, peerFrom}
 use Rattle.slots.specs.declared.Gids.{Gids}
@@ -18,7 +18,7 @@ peerAt m i = peerFrom m (slotStart i)
 
 -- name j of slot i, whose length is a byte
 abbrev pub nameAt : List ℕ → ℕ → ℕ → List ℕ
-nameAt m i j = take (getD m (slotStart i + firstName + 256 * j) 0) (drop (slotStart i + firstName + 256 * j + 1) m)
+nameAt m i j = take (getD m (slotStart i + firstName + nameWidth * j) 0) (drop (slotStart i + firstName + nameWidth * j + 1) m)
 
 -- the first of the names of slot i from `from` on that is this one, or how many there are
 abbrev pub namePlace : List ℕ → ℕ → List ℕ → ℕ → ℕ

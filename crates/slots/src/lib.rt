@@ -18,7 +18,7 @@ ghost use Rattle.rules.specs.State.{isFree, isPeer};
 ghost use Rattle.rules.specs.Calls.{slotAt, isOwner};
 ghost use Rattle.wire.specs.Bytes.{same};
 ghost use Rattle.policy.specs.Names.{owns};
-ghost use Rattle.memory.specs.Layout.{slotStart, memoryLength, slotLength, firstName};
+ghost use Rattle.memory.specs.Layout.{memoryLength, slotLength, slotStart, firstName, nameWidth};
 ghost use Rattle.memory.specs.Encoding.{stateOf};
 ghost use Rattle.memory.specs.Places.{numberAt, Found};
 ghost use Rattle.slots.specs.Slots.{peerAt, nameAt, namePlace, At, GidsOf, CallAt};
@@ -120,7 +120,7 @@ pub fn count_pending(memory: &[u8], i: usize) -> usize
 // Name j of slot i is this one.
 fn is_name(memory: &[u8], i: usize, j: usize, name: &[u8]) -> bool
     requires { ⌜ (length (now memory) ≡ memoryLength) × (i < 16) × (j < 4) ⌝ }
-    ensures { λ r. ⌜ (r ≡ same (nameAt (now (memory .entry)) i j) (now (name .entry))) × (getD (now (memory .entry)) (slotStart i + firstName + 256 * j) 0 < 256) ⌝ }
+    ensures { λ r. ⌜ (r ≡ same (nameAt (now (memory .entry)) i j) (now (name .entry))) × (getD (now (memory .entry)) (slotStart i + firstName + nameWidth * j) 0 < 256) ⌝ }
 {
     let at = SLOTS_AT + SLOT_LENGTH * i + FIRST_NAME + 256 * j;
     let from = at + 1;

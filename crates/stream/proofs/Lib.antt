@@ -9,3 +9,4 @@ mod Gives
 mod Beginning
 mod Onward
 mod Tests
+pub mod Once

@@ -39,7 +39,7 @@ pub bump-none : (o : Offer Tail) → o ≡ bumpBy 0 o
 bump-none o = let e = sym (zero-add (o .taken)) in λ i. record { verdict = o .verdict; taken = e i; stream = o .stream }
 
 -- k bytes are stored, none of which but the last completes the head or its fixed part
-stored-bytes : (k n : ℕ) (h p : List ℕ) → k ≤ length p → ((j : ℕ) → j < k → readHeader (h ++ take j p) ≡ Short)
+pub stored-bytes : (k n : ℕ) (h p : List ℕ) → k ≤ length p → ((j : ℕ) → j < k → readHeader (h ++ take j p) ≡ Short)
     → continued (tail n h) p ≡ bumpBy k (continued (tail (n + k) (h ++ take k p)) (drop k p))
 stored-bytes zero n h p l s = rw (add-zero n, append-nil {A = ℕ} h) (bump-none (continued (tail n h) p))
 stored-bytes (suc k) n h [] l s = absurd (omega arith)

@@ -159,11 +159,21 @@ module _ {a b : List ℕ} {i : ℕ} (z : Equals a b i) where
       ∙ range-breaks (equals a b) (equals-divides a b (z .long)) 0 i (i + 8) (length a) (omega arith) (omega arith) (omega arith)
       (part a b i 8 ∙ sym e ∙ not-true r n))
 
-  pub equals-lap : {r : Bool} → r ≡ same (take 8 (drop (length a - 8) a)) (take 8 (drop (length a - 8) b)) → 8 ≤ length a → length a - 8 ≤ i → r ≡ same a b
-  equals-lap e l h =
-      e ∙ last a b 8 l
+  -- the last word was equal, and so is all before it
+  pub equals-lap : {r : Bool} → r ≡ same (take 8 (drop (length a - 8) a)) (take 8 (drop (length a - 8) b)) → not r ≡ false → 8 ≤ length a → length a - 8 ≤ i
+      → true ≡ same a b
+  equals-lap {r} e n l h =
+      sym (not-false r n) ∙ e ∙ last a b 8 l
       ∙ sym (range-laps (equals a b) (equals-divides a b (z .long)) 0 (length a - 8) i (length a) (omega arith) h (z .high) (z .clear))
       ∙ whole a b (z .long)
+
+-- the last word differs
+pub equals-end : (a b : List ℕ) {r : Bool} → r ≡ same (take 8 (drop (length a - 8) a)) (take 8 (drop (length a - 8) b)) → not r ≡ true → length a ≡ length b
+    → 8 ≤ length a → false ≡ same a b
+equals-end a b {r} e n m l =
+    sym (sym (whole a b m)
+    ∙ range-breaks (equals a b) (equals-divides a b m) 0 (length a - 8) (length a) (length a) (omega arith) (omega arith) (omega arith)
+    (sym (last a b 8 l) ∙ sym e ∙ not-true r n))
 
 -- four bytes at each end, which may overlap
 pub equals-twice : (a b : List ℕ) {p q : Bool} → p ≡ same (take 4 (drop 0 a)) (take 4 (drop 0 b))
@@ -173,4 +183,4 @@ equals-twice a b e f m l h =
     ∙ range-twice (equals a b) (equals-divides a b m) 0 (length a - 4) 4 (length a) (omega arith) (omega arith) l
     ∙ whole a b m
 
-pub ruleset equal = (equals-length, equals-begin, equals-more, equals-stop, equals-lap, equals-twice, needs)
+pub ruleset equal = (equals-length, equals-begin, equals-more, equals-stop, equals-lap, equals-end, equals-twice, needs)

@@ -216,12 +216,15 @@ fn equal_short(a: &[u8], b: &[u8]) -> bool
     same_4(a, b, 0) & same_4(a, b, last)
 }
 
-// Words of 8 bytes, the last of which may overlap the one before it.
+// Words of 8 bytes. The last one, which may overlap the one before it, comes first: names of one owner differ at their ends.
 fn equal_words(a: &[u8], b: &[u8]) -> bool
     requires { ⌜ (length (now a) ≡ length (now b)) × (8 ≤ length (now a)) ⌝ }
     ensures { λ r. ⌜ r ≡ same (now (a .entry)) (now (b .entry)) ⌝ }
 {
     let last = a.len() - 8;
+    if !same_8(a, b, last) {
+        return false;
+    }
     let mut i = 0;
     while i < last {
         if !same_8(a, b, i) {
@@ -229,7 +232,7 @@ fn equal_words(a: &[u8], b: &[u8]) -> bool
         }
         i += 8;
     }
-    same_8(a, b, last)
+    true
 }
 
 // The two texts are equal.

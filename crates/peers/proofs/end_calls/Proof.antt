@@ -1,6 +1,7 @@
 -- `peers::end_calls` meets its contract.
 use Prim.Native.Nat.{_-_}
 use Rattle.tables.specs.Tables.{tableOf}
+use Rattle.memory.specs.Layout.{callWidth, callRoom}
 use Rattle.memory.specs.Encoding.{pendingOf}
 use Rattle.memory.proofs.Ending.{Ending, ending, ending-out}
 use borrow.Author.Needs.{needs}
@@ -8,7 +9,7 @@ use Rattle.peers.proofs.end_calls.Statement.{statement}
 use Rattle.peers.proofs.end_calls.Tie as tie
 
 abbrev Inv-loop : tie.InvT-loop
-Inv-loop table₀ callee n₀ j₀ table n j = Ending callee (tableOf 8 16 pendingOf table₀) table n j
+Inv-loop table₀ callee n₀ j₀ table n j = Ending callee (tableOf callWidth callRoom pendingOf table₀) table n j
 
 abbrev μ-loop : tie.MeasureT-loop
 μ-loop table₀ callee n₀ j₀ table n j = n - j

@@ -18,11 +18,12 @@ equal-words-spec =
     Inv-loop
     μ-loop
     (λ c. search equal)
+    (λ c κs. search equal)
+    (λ c. search equal)
     (λ c. search equal)
     (λ c κs. search equal)
     (λ c. search equal)
     (λ c. search equal)
     (λ c. search equal)
     (λ c. search equal)
-    (λ c κs. search equal)
     (λ c. search equal))
