@@ -62,6 +62,10 @@ unfolding words
 gathering-begins a list count h c l =
     record { few = omega arith; sized = l; room = omega arith; inside = omega arith; counted = c; left = refl }
 
+-- the two numbers may be asked for in either order
+pub either-order : (c a b : ℕ) → c ≡ min b a → c ≡ min a b
+either-order c a b e = omega arith
+
 module _ {a : List ℕ} {count : ℕ} {list : List ℕ} {k : ℕ} (g : Gathering a count list k) where
   pub gathering-more : k < count → {x : ℕ} → x ≡ wordAt Little a (4 + 4 * k) → Gathering a count (set list k x) (k + 1)
   gathering-more h {x} e =
@@ -79,4 +83,4 @@ module _ {a : List ℕ} {count : ℕ} {list : List ℕ} {k : ℕ} (g : Gathering
   pub gathering-ends : count ≤ k → GidsIn a (record { list = list; count = count })
   gathering-ends h = let i : k ≤ count = g .inside in let e : k ≡ count = omega arith in record { few = g .few; count = g .counted; are = rw e at (g .left) }
 
-pub ruleset gathering = (gathering-begins, gathering-more, gathering-ends, needs)
+pub ruleset gathering = (gathering-begins, either-order, gathering-more, gathering-ends, needs)

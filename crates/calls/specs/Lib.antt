@@ -1,3 +1,4 @@
 pub mod Script
 pub mod Places
 pub mod Steps
+pub mod Table

@@ -1,0 +1,68 @@
+-- Worked scripts, as a table: the calls that stand in bytes, and the seven words of an answer (rule 12.3).
+use mathlib.Core.List.{List, [], _∷_, _++_}
+use mathlib.Core.Option.{Option, none, some}
+use Prim.Native.Nat.{ℕ}
+use lib.ListN.{length, take}
+use Rattle.wire.specs.Words.{wordBytes}
+use Rattle.rules.specs.declared.Receiver.the-variants as to
+use Rattle.book.specs.Lists.{Call, starts, connects, claims, releases, offers, leaves, Answer, plain, connected, taken, gone}
+use Rattle.calls.specs.Script.{decode}
+use Rattle.calls.specs.Places.{wordsOf}
+
+-- an entry of a kind, with its argument
+abbrev pub entryOf : ℕ → List ℕ → List ℕ
+entryOf kind argument = wordBytes kind ++ (wordBytes (length argument) ++ argument)
+
+-- a call's kind and arguments, before those of the next
+abbrev pub numbers : Call → List ℕ → List ℕ
+numbers starts l = 0 ∷ l
+numbers (connects image uid gids) l = 1 ∷ uid ∷ (gids ++ l)
+numbers (claims image n name) l = 2 ∷ n ∷ (name ++ l)
+numbers (releases n name) l = 3 ∷ n ∷ (name ++ l)
+numbers (offers image n bytes) l = 4 ∷ n ∷ (bytes ++ l)
+numbers (leaves n) l = 5 ∷ n ∷ l
+
+abbrev pub listed : List Call → List ℕ
+listed [] = []
+listed (c ∷ cs) = numbers c (listed cs)
+
+abbrev pub shown : Option (List Call) → List ℕ
+shown none = 67 ∷ []
+shown (some cs) = 0 ∷ listed cs
+
+pub data Question : Type 0 where
+  -- which calls stand in these bytes
+  script : List ℕ → Question
+  -- the words of an answer
+  report : Answer → Question
+
+abbrev pub answer : Question → List ℕ
+answer (script s) = shown (decode [] s)
+answer (report a) = wordsOf a
+
+abbrev pub Line : Type 0
+Line = Question × List ℕ
+
+abbrev pub table : List Line
+table =
+    (script [], 0 ∷ [])
+    ∷ (script (entryOf 0 []), 0 ∷ 0 ∷ [])
+    ∷ (script (entryOf 0 (0 ∷ [])), 67 ∷ [])  -- a start has no argument
+    ∷ (script (entryOf 0 [] ++ (7 ∷ [])), 67 ∷ [])  -- the layout holds to the very end
+    ∷ (script (entryOf 0 [] ++ entryOf 5 (wordBytes 9)), 0 ∷ 0 ∷ 5 ∷ 9 ∷ [])
+    ∷ (script (entryOf 1 (wordBytes 7)), 0 ∷ 1 ∷ 7 ∷ [])
+    ∷ (script (entryOf 1 (wordBytes 7 ++ wordBytes 20)), 0 ∷ 1 ∷ 7 ∷ 20 ∷ [])
+    ∷ (script (entryOf 1 (wordBytes 7 ++ (20 ∷ []))), 67 ∷ [])  -- gids are whole words
+    ∷ (script (entryOf 1 []), 67 ∷ [])
+    ∷ (script (entryOf 2 (wordBytes 9 ++ (97 ∷ []))), 0 ∷ 2 ∷ 9 ∷ 97 ∷ [])
+    ∷ (script (entryOf 3 (wordBytes 9 ++ (97 ∷ []))), 0 ∷ 3 ∷ 9 ∷ 97 ∷ [])
+    ∷ (script (entryOf 4 (wordBytes 9)), 0 ∷ 4 ∷ 9 ∷ [])
+    ∷ (script (entryOf 4 (9 ∷ 0 ∷ 0 ∷ [])), 67 ∷ [])  -- a peer's number is a whole word
+    ∷ (script (entryOf 5 (wordBytes 9 ++ (0 ∷ []))), 67 ∷ [])  -- a disconnect has nothing behind it
+    ∷ (script (entryOf 6 (wordBytes 9)), 67 ∷ [])
+    ∷ (script (take 11 (entryOf 5 (wordBytes 9))), 67 ∷ [])  -- an argument is whole
+    ∷ (report (plain 34), 34 ∷ 0 ∷ 0 ∷ 0 ∷ 0 ∷ 0 ∷ 0 ∷ [])
+    ∷ (report (connected (record { answer = 0; number = 3; slot = 2 })), 0 ∷ 0 ∷ 0 ∷ 3 ∷ 2 ∷ 0 ∷ 0 ∷ [])
+    ∷ (report (taken (record { judgement = record { answer = 0; receiver = to.Slots 5 2 }; taken = 48 })), 0 ∷ 48 ∷ 3 ∷ 5 ∷ 2 ∷ 0 ∷ 0 ∷ [])
+    ∷ (report (gone (record { answer = 0; bytes = 10 })), 0 ∷ 0 ∷ 0 ∷ 10 ∷ 0 ∷ 0 ∷ 0 ∷ [])
+    ∷ []
