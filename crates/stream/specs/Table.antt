@@ -37,7 +37,7 @@ table =
     ∷ (kept 17 (take 17 (set C 0 76)), 0 ∷ [])
     ∷ (kept 47 (take 47 C), 1 ∷ [])
     ∷ (kept 48 C, 0 ∷ [])  -- it would have been judged
-    ∷ (kept 48 bodied, 1 ∷ [])
+    ∷ (kept 51 bodied, 1 ∷ [])
     ∷ (offered (take 15 C) (drop 15 C), 0 ∷ 33 ∷ 48 ∷ [])
     ∷ (offered [] (take 47 (set C 31 1)), 10 ∷ 47 ∷ 47 ∷ [])  -- nor 7 before the head's last byte
     ∷ (offered [] (set C 31 1 ++ bytes "body"), 7 ∷ 48 ∷ 48 ∷ [])
