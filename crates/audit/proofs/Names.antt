@@ -8,11 +8,8 @@ use lib.Dec.{leb}
 use lib.ListN.{length, take, drop, getD, drop-of-length-le}
 use borrow.Author.Needs.{needs}
 use borrow.Author.Tests.{not-true, not-false}
-use Rattle.wire.specs.Bytes.{same, bytes}
 use Rattle.wire.specs.Lists.{distinct}
 use Rattle.wire.proofs.Words.{cut-at}
-use Rattle.names.specs.Names.{validName}
-use Rattle.names.specs.declared.Form.the-variants.{WellKnown}
 use Rattle.policy.specs.Names.{owns}
 use Rattle.rules.specs.Addresses.{ownable}
 use Rattle.rules.specs.Calls.{isOwner}
@@ -24,12 +21,6 @@ use Rattle.slots.specs.Slots.{peerAt, nameAt}
 use Rattle.slots.proofs.Cells.{names-next, name-byte}
 use Rattle.audit.specs.Tests.{nameTest}
 use Rattle.audit.proofs.Found.{found-any, not-ltb}
-
-pub is-ownable : (name : List ℕ) (v e : Bool) → v ≡ validName WellKnown name → e ≡ same name (bytes "org.freedesktop.DBus") → v && not e ≡ ownable name
-unfolding validName
-is-ownable name v e p q = rw (p, q)
-
-pub ruleset ownables = (is-ownable, needs)
 
 -- ---- name j: x is its text, as the code cuts it
 

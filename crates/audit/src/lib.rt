@@ -11,12 +11,10 @@ use memory::PENDING_AT;
 use memory::SLOT_LENGTH;
 use memory::SLOTS_AT;
 use memory::TAKEN_AT;
-use names::Form;
 use wire::Order;
 ghost use mathlib.Core.Path.{_≡_};
 ghost use Prim.Native.Nat.{_+_, _*_, _≤_, _<_};
 ghost use lib.ListN.{length, drop, getD};
-ghost use Rattle.rules.specs.Addresses.{ownable};
 ghost use Rattle.memory.specs.Layout.{memoryLength, slotStart, firstName, nameWidth, headRoom};
 ghost use Rattle.memory.specs.Encoding.{stateOf};
 ghost use Rattle.memory.specs.Good.{goodNames, goodPending, goodPeer, good};
@@ -24,13 +22,6 @@ ghost use Rattle.memory.specs.Places.{numberAt};
 ghost use Rattle.stream.specs.Tail.{goodTail};
 ghost use Rattle.slots.specs.Slots.{peerAt, At};
 ghost use Rattle.audit.specs.Tests.{nameTest, callTest, plainCell, tableTest, cellsTest, shapeTest, slotTest};
-
-// A name that a peer may own: well-known, and not the bus's.
-pub fn is_ownable(name: &[u8]) -> bool
-    ensures { λ r. ⌜ r ≡ ownable (now (name .entry)) ⌝ }
-{
-    names::is_valid(Form::WellKnown, name) & !wire::equal(name, b"org.freedesktop.DBus")
-}
 
 // Name j of slot i is ownable, and stands nowhere else from there on.
 fn is_name_good(memory: &[u8], i: usize, j: usize) -> bool
@@ -41,7 +32,7 @@ fn is_name_good(memory: &[u8], i: usize, j: usize) -> bool
     let from = at + 1;
     let to = from + wire::wide(memory[at]) as usize;
     let name = &memory[from..to];
-    if !is_ownable(name) {
+    if !rules::is_ownable(name) {
         return false;
     }
     if slots::owns_name(memory, i, name, j + 1) {

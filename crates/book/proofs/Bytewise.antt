@@ -11,7 +11,8 @@ use Rattle.rules.specs.Judge.{refusal}
 use Rattle.rules.specs.Calls.{Step, stays, noPiece}
 use Rattle.rules.specs.declared.Judgement.{Judgement}
 use Rattle.rules.specs.declared.Taken.{Taken}
-use Rattle.book.specs.Split.{isStop, goesOn, said}
+use Rattle.rules.specs.Places.{isStop, goesOn}
+use Rattle.book.specs.Split.{said}
 
 -- the verdicts of an offering, and the state that it leaves
 pub record Heard (S : Type 0) : Type 0 where

@@ -20,7 +20,8 @@ use Rattle.rules.proofs.Tests.{choice}
 use Rattle.memory.specs.Encoding.{stateOf}
 use Rattle.memory.specs.Good.{good}
 use Rattle.memory.specs.Calls.{Left, Did, stored, kept, pieceOn}
-use Rattle.book.specs.Split.{isStop, goesOn, said, Offers, ends, again}
+use Rattle.rules.specs.Places.{isStop, goesOn}
+use Rattle.book.specs.Split.{said, Offers, ends, again}
 use Rattle.book.proofs.Images.{image-refuses}
 
 -- the answer ends an offering, or bytes were taken

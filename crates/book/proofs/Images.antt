@@ -7,7 +7,8 @@ use native.Mathlib.Omega.{arith}
 use lib.Dec.{eqb}
 use Rattle.image.specs.Good.{goodImage, outcomeOf, outcomeAnswer, imageAnswer}
 use Rattle.image.specs.declared.Outcome.the-variants.{Good, Bad}
-use Rattle.book.specs.Split.{isStop, isVerdict}
+use Rattle.rules.specs.Places.{isStop}
+use Rattle.book.specs.Split.{isVerdict}
 
 pub record Refusal (a : ℕ) : Type 0 where
   pub stops : isStop a ≡ true

@@ -26,7 +26,8 @@ use Rattle.memory.proofs.Octets.{every-below}
 use Rattle.sound.proofs.Keep.{piece-sound}
 use Rattle.book.specs.Book.{tailView}
 use Rattle.book.specs.Lists.{Call, starts, offers, Answer, plain, connected, taken, gone, underImage, Below, after, Ran, ran-start, ran-connect, ran-own, ran-release, ran-piece, ran-leave, Run, done, then}
-use Rattle.book.specs.Split.{isStop, said, Offers, ends, again, OffersAll, nothing, next, joined}
+use Rattle.rules.specs.Places.{isStop}
+use Rattle.book.specs.Split.{said, Offers, ends, again, OffersAll, nothing, next, joined}
 use Rattle.book.proofs.Images.{Refusal, image-refuses}
 use Rattle.book.proofs.List.{on-image, Holds, started}
 use Rattle.book.proofs.Bytewise.{Heard, Refuses, Laws, idle-refuses, refuses, bytewise, bytewise-none, bytewise-append, call-first, call-last}

@@ -9,11 +9,11 @@ use Rattle.signature.specs.Signature.{validSignature}
 use Rattle.image.specs.Table.{imageOf, head, cites}
 use Rattle.rules.specs.Judge.{bit, refusal}
 use Rattle.rules.specs.Calls.{empty}
-use Rattle.rules.specs.Places.{receiverWords}
+use Rattle.rules.specs.Places.{receiverWords, goesOn}
 use Rattle.rules.specs.declared.Taken.{Taken}
 use Rattle.book.specs.Lists.{Call, starts, connects, claims, offers, Answer, plain, connected, taken, gone, answers}
 use Rattle.book.specs.Book.{books}
-use Rattle.book.specs.Split.{goesOn, isVerdict}
+use Rattle.book.specs.Split.{isVerdict}
 
 -- ---- messages
 

@@ -1,21 +1,14 @@
 -- A piece offered to a peer: call after call, each with what the last has left (rules 9.5 and 12.2).
-use mathlib.Core.Bool.{Bool, true, false, cond, not, _&&_, _||_}
+use mathlib.Core.Bool.{Bool, true, false, cond, _&&_, _||_}
 use mathlib.Core.List.{List, [], _∷_, _++_}
 use mathlib.Core.Path.{_≡_}
 use Prim.Native.Nat.{ℕ}
-use lib.Dec.{ltb, leb}
-use lib.ListN.{length, drop}
+use lib.Dec.{leb}
+use lib.ListN.{drop}
 use Rattle.rules.specs.declared.Judgement.{Judgement}
 use Rattle.rules.specs.declared.Taken.{Taken}
+use Rattle.rules.specs.Places.{goesOn}
 use Rattle.memory.specs.Calls.{Did, pieceOn}
-
--- an answer behind which nothing more of the piece is offered (rule 9.5)
-abbrev pub isStop : ℕ → Bool
-isStop a = (leb 1 a && leb a 9) || (leb 30 a && leb a 51)
-
--- the offering goes on: no such answer came, and bytes are left (rule 9.5)
-abbrev pub goesOn : Taken → List ℕ → Bool
-goesOn r p = not (isStop (r .judgement .answer)) && ltb (r .taken) (length p)
 
 -- an answer that is a verdict on a message; 10 says that none is due yet, and 30 to 51 refuse the call (rule 12.2)
 abbrev pub isVerdict : ℕ → Bool

@@ -10,19 +10,19 @@ use Rattle.wire.specs.Words.{wordBytes}
 use Rattle.tables.specs.Tables.{cells}
 use Rattle.rules.specs.Calls.{empty}
 use Rattle.rules.specs.View.{seen}
-use Rattle.rules.specs.Places.{receiverWords}
+use Rattle.rules.specs.Places.{plainWords, connectedWords, takenWords, goneWords}
 use Rattle.memory.specs.Layout.{memoryLength}
 use Rattle.memory.specs.Encoding.{memoryOf}
 use Rattle.book.specs.Book.{tailView}
 use Rattle.book.specs.Lists.{Call, Answer, plain, connected, taken, gone, answers, after}
 use Rattle.calls.specs.Script.{decode}
 
--- answer, taken, receiver kind, peer or mask or number or bytes, set slots or slot, 0, 0 (rules 7.4 and 12.3)
+-- the seven words of a report (rule 12.3)
 abbrev pub wordsOf : Answer → List ℕ
-wordsOf (plain a) = a ∷ 0 ∷ 0 ∷ 0 ∷ 0 ∷ 0 ∷ 0 ∷ []
-wordsOf (connected r) = r .answer ∷ 0 ∷ 0 ∷ r .number ∷ r .slot ∷ 0 ∷ 0 ∷ []
-wordsOf (taken r) = r .judgement .answer ∷ r .taken ∷ (receiverWords (r .judgement .receiver) ++ (0 ∷ 0 ∷ []))
-wordsOf (gone r) = r .answer ∷ 0 ∷ 0 ∷ r .bytes ∷ 0 ∷ 0 ∷ 0 ∷ []
+wordsOf (plain a) = plainWords a
+wordsOf (connected r) = connectedWords r
+wordsOf (taken r) = takenWords r
+wordsOf (gone r) = goneWords r
 
 unfoldable pub placeOf : Answer → List ℕ
 placeOf a = cells wordBytes (wordsOf a)

@@ -6,10 +6,10 @@ use Prim.Native.Nat.{ℕ, _+_, _-_, _≤_, _<_}
 use lib.ListN.{take, drop}
 use borrow.Author.Needs.{needs}
 use borrow.Author.Tests.{lt-ltb, le-ltb, eq-eqb, ne-eqb}
-use Rattle.wire.specs.Bytes.{same, bytes}
+use Rattle.wire.specs.Bytes.{same}
 use Rattle.wire.proofs.Words.{cut-at}
 use Rattle.header.specs.declared.Place.{Place}
-use Rattle.policy.specs.Names.{owns}
+use Rattle.policy.specs.Names.{busName, owns}
 use Rattle.rules.specs.Addresses.{uniqueName, answersTo, resolve}
 use Rattle.rules.specs.Calls.{slotAt}
 use Rattle.memory.specs.Encoding.{stateOf}
@@ -62,7 +62,7 @@ module _ (m head : List ℕ) (p : Place) (z : p .at ≡ 0 → ⊥) where
   text-is : take (p .len) (drop (p .at) head) ≡ text
   text-is = sym (cut-at (p .at) (p .len) head)
 
-  module _ {b : Bool} (q : b ≡ same text (bytes "org.freedesktop.DBus")) where
+  module _ {b : Bool} (q : b ≡ same text busName) where
     pub resolved-bus : b ≡ true → Resolved m head p Bus
     unfolding resolve
     resolved-bus t = record { is = rw (ne-eqb (p .at) 0 z, text-is, ← q, t); stands = tt }

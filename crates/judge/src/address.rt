@@ -98,7 +98,7 @@ pub fn resolve(memory: &[u8], head: &[u8], place: Place) -> Destination
     }
     let to = from + place.len;
     let text = &head[from..to];
-    if wire::equal(text, b"org.freedesktop.DBus") {
+    if policy::is_bus(text) {
         return Destination::Bus;
     }
     let j = find_addressee(memory, text);

@@ -231,7 +231,7 @@ pub fn own(image: &[u8], memory: &mut [u8], peer: u32, name: &[u8]) -> u8
     if i == 16 {
         return 30;
     }
-    if !audit::is_ownable(name) {
+    if !rules::is_ownable(name) {
         return 31;
     }
     if !may_own_at(image, memory, i, name) {
@@ -276,7 +276,7 @@ pub fn release(memory: &mut [u8], peer: u32, name: &[u8]) -> u8
     if i == 16 {
         return 30;
     }
-    let ownable = audit::is_ownable(name);
+    let ownable = rules::is_ownable(name);
     if !ownable {
         return 31;
     }

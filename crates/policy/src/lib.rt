@@ -61,32 +61,27 @@ fn subject_fits(context: u8, subject: u32, uid: Uid, gids: &[u32]) -> bool
 
 // ---- names
 
+// The bus's own name.
+const BUS_NAME: [u8; 20] = [
+    b'o', b'r', b'g', b'.', b'f', b'r', b'e', b'e', b'd', b'e', b's', b'k', b't', b'o', b'p', b'.', b'D', b'B', b'u', b's',
+];
+
+// The name is the bus's.
+pub fn is_bus(name: &[u8]) -> bool
+    ensures { λ r. ⌜ r ≡ same (now (name .entry)) busName ⌝ }
+{
+    let bus = BUS_NAME;
+    wire::equal(name, &bus)
+}
+
 // The one cell of the bus, which owns just its own name.
 pub fn bus_cell() -> [u8; 256]
     ensures { λ r. ⌜ r ≡ cellOf busName ⌝ }
 {
+    let bus = BUS_NAME;
     let mut cell = [0u8; 256];
     cell[0] = 20;
-    cell[1] = b'o';
-    cell[2] = b'r';
-    cell[3] = b'g';
-    cell[4] = b'.';
-    cell[5] = b'f';
-    cell[6] = b'r';
-    cell[7] = b'e';
-    cell[8] = b'e';
-    cell[9] = b'd';
-    cell[10] = b'e';
-    cell[11] = b's';
-    cell[12] = b'k';
-    cell[13] = b't';
-    cell[14] = b'o';
-    cell[15] = b'p';
-    cell[16] = b'.';
-    cell[17] = b'D';
-    cell[18] = b'B';
-    cell[19] = b'u';
-    cell[20] = b's';
+    wire::copy(&mut cell[1..21], &bus);
     cell
 }
 

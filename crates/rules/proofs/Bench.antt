@@ -18,7 +18,7 @@ use Rattle.rules.specs.Addresses.{digits, uniqueName, answersTo, resolve
 use Rattle.rules.specs.Pending.{awaits, ended, endedAll}
 use Rattle.rules.specs.Judge.{maskOf, countOf, judged}
 use Rattle.rules.specs.Calls.{connect, own, released, release, piece, disconnect}
-use Rattle.rules.specs.Bench.{Line, messages, replies, connects, claims, pieces}
+use Rattle.rules.specs.Bench.{Line, messages, replies, connects, claims, pieces, offerings}
 
 abbrev Holds : List Line → Type 0
 Holds lines = agrees (λ (given : List ℕ). given) same lines ≡ true
@@ -42,3 +42,7 @@ claims-hold = refl
 pub pieces-hold : Holds pieces
 unfolding same offer firstBy endedAll piece disconnect
 pieces-hold = refl
+
+pub offerings-hold : Holds offerings
+unfolding same
+offerings-hold = refl

@@ -1,4 +1,5 @@
 pub mod Mask
+mod Ownable
 pub mod Tests
 pub mod First
 pub mod Fewer

@@ -1,4 +1,4 @@
--- Worked examples of the judgement and of the calls, as a table of five parts. Peers 1 and 2 are in the first two of sixteen slots, and streams are
+-- Worked examples of the judgement and of the calls, as a table of six parts. Peers 1 and 2 are in the first two of sixteen slots, and streams are
 -- made up: they count their bytes, and the third one breaks the message.
 use mathlib.Core.Bool.{cond}
 use mathlib.Core.List.{List, [], _∷_, _++_}
@@ -14,9 +14,9 @@ use Rattle.policy.specs.Decisions.{send, receive}
 use Rattle.policy.specs.Table.{any, connect as connectRule, own as ownRule, rule, imageWith}
 use Rattle.stream.specs.Stream.{more, broken, Streams}
 use Rattle.rules.specs.State.{free, peer, Peer, Pending, State}
-use Rattle.rules.specs.Judge.{Judged, judged}
+use Rattle.rules.specs.Judge.{Judged, refusal, bit, judged}
 use Rattle.rules.specs.Calls.{Step, connect, own, release, piece, disconnect}
-use Rattle.rules.specs.Places.{receiverWords}
+use Rattle.rules.specs.Places.{receiverWords, goesOn}
 use Rattle.rules.specs.declared.Connected.{Connected}
 use Rattle.rules.specs.declared.Taken.{Taken}
 use Rattle.rules.specs.declared.Gone.{Gone}
@@ -239,4 +239,20 @@ pieces =
     ∷ (parting (disconnect counted waiting 3), 30 ∷ 0 ∷ [])
     ∷ (parting (disconnect counted waiting 1), 0 ∷ 2 ∷ [])
     ∷ (parting (disconnect counted (disconnect counted waiting 1 .state) 1), 30 ∷ 0 ∷ [])
+    ∷ []
+
+-- whether an offering of three bytes goes on after an answer: with bytes left, and not after 1 to 9 or 30 to 51
+abbrev pub going : ℕ → ℕ → List ℕ
+going a taken = bit (goesOn (record { judgement = refusal a; taken = taken }) (0 ∷ 0 ∷ 0 ∷ [])) ∷ []
+
+abbrev pub offerings : List Line
+offerings =
+    (going 0 2, 1 ∷ [])
+    ∷ (going 20 1, 1 ∷ [])
+    ∷ (going 26 3, 0 ∷ [])
+    ∷ (going 10 3, 0 ∷ [])
+    ∷ (going 1 1, 0 ∷ [])
+    ∷ (going 9 1, 0 ∷ [])
+    ∷ (going 30 0, 0 ∷ [])
+    ∷ (going 51 0, 0 ∷ [])
     ∷ []

@@ -1,8 +1,14 @@
--- Reports as numbers, for what is written and printed (rules 7.4 and 12.3).
-use mathlib.Core.List.{List, [], _∷_}
+-- Reports as numbers, for what is written and printed, and whether an offering goes on after one (rules 7.4, 9.5 and 12.3).
+use mathlib.Core.Bool.{Bool, not, _&&_, _||_}
+use mathlib.Core.List.{List, [], _∷_, _++_}
 use Prim.Native.Nat.{ℕ}
+use lib.Dec.{leb, ltb}
+use lib.ListN.{length}
 use Rattle.rules.specs.declared.Receiver.{Receiver}
 use Rattle.rules.specs.declared.Receiver.the-variants as to
+use Rattle.rules.specs.declared.Connected.{Connected}
+use Rattle.rules.specs.declared.Taken.{Taken}
+use Rattle.rules.specs.declared.Gone.{Gone}
 
 -- a receiver's kind, the peer's number or the mask, and the count of set slots (rule 7.4)
 abbrev pub receiverWords : Receiver → List ℕ
@@ -10,3 +16,27 @@ receiverWords to.Nobody = 0 ∷ 0 ∷ 0 ∷ []
 receiverWords to.Bus = 1 ∷ 0 ∷ 0 ∷ []
 receiverWords (to.Peer n) = 2 ∷ n ∷ 0 ∷ []
 receiverWords (to.Slots mask count) = 3 ∷ mask ∷ count ∷ []
+
+-- ---- a report in seven words: answer, bytes taken, a receiver or what is reported in its place, and two zeros (rule 12.3)
+
+abbrev pub plainWords : ℕ → List ℕ
+plainWords a = a ∷ 0 ∷ 0 ∷ 0 ∷ 0 ∷ 0 ∷ 0 ∷ []
+
+abbrev pub connectedWords : Connected → List ℕ
+connectedWords r = r .answer ∷ 0 ∷ 0 ∷ r .number ∷ r .slot ∷ 0 ∷ 0 ∷ []
+
+abbrev pub takenWords : Taken → List ℕ
+takenWords r = r .judgement .answer ∷ r .taken ∷ (receiverWords (r .judgement .receiver) ++ (0 ∷ 0 ∷ []))
+
+abbrev pub goneWords : Gone → List ℕ
+goneWords r = r .answer ∷ 0 ∷ 0 ∷ r .bytes ∷ 0 ∷ 0 ∷ 0 ∷ []
+
+-- ---- the calls of an offering (rule 9.5)
+
+-- an answer behind which nothing more of the piece is offered (rule 9.5)
+abbrev pub isStop : ℕ → Bool
+isStop a = (leb 1 a && leb a 9) || (leb 30 a && leb a 51)
+
+-- the offering goes on: no such answer came, and bytes are left (rule 9.5)
+abbrev pub goesOn : Taken → List ℕ → Bool
+goesOn r p = not (isStop (r .judgement .answer)) && ltb (r .taken) (length p)

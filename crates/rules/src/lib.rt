@@ -1,5 +1,7 @@
-// What the guard's calls report, and each report of a refusal.
+// What the guard's calls report, each report of a refusal, and which names a peer may own.
+use names::Form;
 ghost use mathlib.Core.Path.{_≡_};
+ghost use Rattle.rules.specs.Addresses.{ownable};
 ghost use Rattle.rules.specs.Judge.{refusal};
 ghost use Rattle.rules.specs.Calls.{noConnect, noPiece, noGone};
 
@@ -71,4 +73,11 @@ pub fn no_gone(answer: u8) -> Gone
     ensures { λ r. ⌜ r ≡ noGone answer ⌝ }
 {
     Gone { answer, bytes: 0 }
+}
+
+// A name that a peer may own: well-known, and not the bus's.
+pub fn is_ownable(name: &[u8]) -> bool
+    ensures { λ r. ⌜ r ≡ ownable (now (name .entry)) ⌝ }
+{
+    names::is_valid(Form::WellKnown, name) & !policy::is_bus(name)
 }

@@ -1,14 +1,17 @@
--- `policy::bus_cell` meets its contract: both sides compute.
-use mathlib.Core.Path.{refl}
-use Rattle.wire.specs.Bytes.{pad}
-use Rattle.policy.specs.Names.{cellOf}
+-- `policy::bus_cell` meets its contract: behind the length stands the name that is copied, and then zeros.
+use mathlib.Core.Path.{_≡_, refl}
+use mathlib.Core.List.{List, _∷_, _++_}
+use Prim.Native.Nat.{ℕ}
+use lib.ListN.{replicate}
 use borrow.Author.Needs.{needs}
+use Rattle.wire.specs.Bytes.{pad}
+use Rattle.policy.specs.Names.{cellOf, busName}
 use Rattle.policy.proofs.bus_cell.Statement.{statement}
 use Rattle.policy.proofs.bus_cell.Tie as tie
 
-returns : tie.Need-returns
+name-copied : {y : List ℕ} → y ≡ busName → 20 ∷ (y ++ replicate 235 0) ≡ cellOf busName
 unfolding cellOf pad
-returns c = refl
+name-copied e = rw e
 
 pub bus-cell-spec : {M : Type 1} → statement M
 bus-cell-spec =
@@ -19,20 +22,5 @@ bus-cell-spec =
     (λ c. search needs)
     (λ c. search needs)
     (λ c. search needs)
-    (λ c. search needs)
-    (λ c. search needs)
-    (λ c. search needs)
-    (λ c. search needs)
-    (λ c. search needs)
-    (λ c. search needs)
-    (λ c. search needs)
-    (λ c. search needs)
-    (λ c. search needs)
-    (λ c. search needs)
-    (λ c. search needs)
-    (λ c. search needs)
-    (λ c. search needs)
-    (λ c. search needs)
-    (λ c. search needs)
-    (λ c. search needs)
-    returns)
+    (λ c κs. search needs)
+    (λ c. search name-copied))
