@@ -4,5 +4,4 @@ use Rattle.rules.proofs.is_ownable.Statement.{statement}
 use Rattle.rules.proofs.is_ownable.Tie as tie
 
 pub is-ownable-spec : {M : Type 1} → statement M
-is-ownable-spec =
-    tie.close (tie.spec (λ c κs. search ownables) (λ c. search ownables) (λ c κs. search ownables) (λ c. search ownables))
+is-ownable-spec = tie.close (tie.spec (λ c κs. search ownables) (λ c κs. search ownables) (λ c. search ownables))

@@ -12,7 +12,6 @@ resolve-spec =
     (λ c. search resolving)
     (λ c. search resolving)
     (λ c. search resolving)
-    (λ c. search resolving)
     (λ c κs. search resolving)
     (λ c. search resolving)
     (λ c κs. search resolving)
