@@ -17,7 +17,8 @@ use Rattle.rules.specs.declared.Gone.{Gone}
 use Rattle.rules.specs.View.{seenPeer, seenSlot, seen}
 use Rattle.rules.proofs.View.{slot-seen}
 use Rattle.rules.proofs.First.{taken-below}
-use Rattle.rules.proofs.Replies.{isWaiting, gone-unawaited}
+use Rattle.rules.specs.Awaited.{isWaiting, isAwaited}
+use Rattle.rules.proofs.Replies.{gone-unawaited}
 use Rattle.memory.specs.Layout.{memoryLength}
 use Rattle.memory.specs.Encoding.{stateOf}
 use Rattle.sound.proofs.Kept.{Alone, sound-kept}
@@ -30,10 +31,10 @@ use Rattle.book.proofs.List.{Told, one, started, list-claim}
 use Rattle.book.proofs.Tails.{judge-broken}
 use Rattle.book.proofs.Runs.{reached-holds, held-state, held-slot}
 use Rattle.book.proofs.Messages.{parted, tail-behind, good-broken}
-use Rattle.book.proofs.Numbers.{isJudged}
+use Rattle.rules.specs.Places.{isJudged}
 use Rattle.book.proofs.Never.{offer-faults, book-faults}
 use Rattle.book.proofs.Pieces.{number-found, pieceUnder, piece-breaks, piece-ends}
-use Rattle.book.proofs.Replied.{isAwaited, okSlot, waiting-seen, ok-slots, awaited-seen, piece-reply, piece-replied, alone-ok}
+use Rattle.book.proofs.Replied.{okSlot, waiting-seen, ok-slots, awaited-seen, piece-reply, piece-replied, alone-ok}
 
 -- ---- where a run has come to
 

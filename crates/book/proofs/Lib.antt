@@ -1,7 +1,6 @@
 pub mod Bench
 pub mod Cut
 pub mod Tails
-pub mod Numbers
 pub mod Images
 pub mod Never
 pub mod List

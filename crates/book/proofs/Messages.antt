@@ -20,7 +20,7 @@ use Rattle.book.specs.Book.{front, isWhole, size, past, cut, current, bo
 use Rattle.book.specs.Split.{joined}
 use Rattle.book.specs.Messages.{Message, Messages, Parted}
 use Rattle.book.proofs.Cut.{snoc, begins-whole, whole-begins, whole-append, whole-some, whole-reached, past-few, front-none, cut-step, cut-stops, cut-enough, current-snoc}
-use Rattle.book.proofs.Numbers.{broken-read}
+use Rattle.sound.proofs.Numbers.{broken-read}
 
 -- ---- messages one after the other
 

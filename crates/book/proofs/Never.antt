@@ -25,7 +25,8 @@ use Rattle.rules.proofs.Tests.{choice}
 use Rattle.book.specs.Book.{current, books}
 use Rattle.book.specs.Lists.{Call, starts, connects, claims, releases, offers, leaves, entry, answers, numberOf, Never51}
 use Rattle.book.proofs.Images.{image-refuses}
-use Rattle.book.proofs.Numbers.{isJudged, judged-low, judged-proper, broken-number}
+use Rattle.rules.specs.Places.{isJudged}
+use Rattle.sound.proofs.Numbers.{judged-low, judged-proper, broken-number}
 
 -- ---- a piece, over any streams whose faults are 1 to 9
 

@@ -20,7 +20,8 @@ use Rattle.rules.specs.declared.Taken.{Taken}
 use Rattle.rules.proofs.First.{first-passes, taken-below}
 use Rattle.book.specs.Lists.{underImage}
 use Rattle.book.specs.Messages.{Takes}
-use Rattle.book.proofs.Numbers.{isJudged, judged-low, judged-proper}
+use Rattle.rules.specs.Places.{isJudged}
+use Rattle.sound.proofs.Numbers.{judged-low, judged-proper}
 use Rattle.book.proofs.Images.{image-refuses}
 use Rattle.book.proofs.Ways.{at-open}
 

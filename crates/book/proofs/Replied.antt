@@ -16,15 +16,12 @@ use Rattle.rules.specs.declared.Taken.{Taken}
 use Rattle.rules.specs.View.{seenSlot, seen}
 use Rattle.rules.proofs.View.{slot-seen, resolve-seen, put-seen}
 use Rattle.rules.proofs.Waits.{okPending}
-use Rattle.rules.proofs.Replies.{isWaiting, awaited, reply-exact, reply-once}
+use Rattle.rules.specs.Awaited.{isWaiting, awaited, isAwaited}
+use Rattle.rules.proofs.Replies.{reply-exact, reply-once}
 use Rattle.sound.proofs.Kept.{Alone}
 use Rattle.book.specs.Book.{books}
 use Rattle.book.specs.Messages.{EndsMessage}
 use Rattle.book.proofs.Pieces.{number-found, pieceUnder, consumed, ends-is}
-
--- a reply of peer n with head h, which reads as x, is awaited: by the peer that its destination means
-abbrev pub isAwaited : {S : Type 0} → State S → ℕ → List ℕ → Header → Bool
-isAwaited s n h x = awaited (s .slots) n (x .«reply_serial») (resolve (s .slots) (fieldOf h (x .destination)))
 
 -- a slot's pending calls are good by themselves
 abbrev pub okSlot : {S : Type 0} → Slot S → Bool

@@ -18,9 +18,9 @@ use Rattle.rules.specs.Judge.{refusal, judged}
 use Rattle.rules.specs.Calls.{Step, stays, slotAt, noPiece, offered, offeredTo, pieceAt, piece}
 use Rattle.rules.specs.declared.Taken.{Taken}
 use Rattle.rules.proofs.First.{first-set, taken-below}
-use Rattle.rules.specs.Places.{isStop}
+use Rattle.rules.specs.Places.{isStop, isJudged}
 use Rattle.book.specs.Split.{said}
-use Rattle.book.proofs.Numbers.{isJudged, judged-low, judged-proper}
+use Rattle.sound.proofs.Numbers.{judged-low, judged-proper}
 use Rattle.book.proofs.Bytewise.{bumped, Refuses, Idle, idle-refuses, idles, Way, refuses, joins, decides, Laws}
 
 -- a judged message ends no offering

@@ -63,7 +63,26 @@ fn subject_fits(context: u8, subject: u32, uid: Uid, gids: &[u32]) -> bool
 
 // The bus's own name.
 const BUS_NAME: [u8; 20] = [
-    b'o', b'r', b'g', b'.', b'f', b'r', b'e', b'e', b'd', b'e', b's', b'k', b't', b'o', b'p', b'.', b'D', b'B', b'u', b's',
+    b'o',
+    b'r',
+    b'g',
+    b'.',
+    b'f',
+    b'r',
+    b'e',
+    b'e',
+    b'd',
+    b'e',
+    b's',
+    b'k',
+    b't',
+    b'o',
+    b'p',
+    b'.',
+    b'D',
+    b'B',
+    b'u',
+    b's',
 ];
 
 // The name is the bus's.

@@ -20,23 +20,12 @@ use Rattle.stream.specs.Stream.{Streams}
 use Rattle.rules.specs.State.{Slot, free, peer, Peer, Pending, State, isPeer, firstBy, withPending}
 use Rattle.rules.specs.Addresses.{Address, absent, bus, slot, unknown, answersTo, found, resolve}
 use Rattle.rules.specs.Pending.{awaits, ended, bereft}
+use Rattle.rules.specs.Awaited.{isWaiting, awaited}
 use Rattle.rules.specs.Judge.{Judged, replyTo, reply, isReply, judged}
 use Rattle.rules.specs.Calls.{slotAt, disconnectAt, disconnect}
 use Rattle.rules.specs.declared.Receiver.the-variants as to
 use Rattle.rules.proofs.First.{first-passes, first-set, taken-below}
 use Rattle.rules.proofs.Waits.{okPending, ended-ends, ended-all-ends}
-
--- the slot's peer awaits the reply of that callee to that serial
-abbrev pub isWaiting : {S : Type 0} → ℕ → ℕ → Slot S → Bool
-isWaiting callee serial free = false
-isWaiting callee serial (peer p) = awaits callee serial (p .pending)
-
--- the peer whom the address means awaits it
-abbrev pub awaited : {S : Type 0} → List (Slot S) → ℕ → ℕ → Address → Bool
-awaited slots callee serial absent = false
-awaited slots callee serial bus = false
-awaited slots callee serial unknown = false
-awaited slots callee serial (slot j) = isWaiting callee serial (getD slots j free)
 
 reply-low : (x : Header) → isReply x ≡ true → ltb 4 (x .kind) ≡ false
 reply-low x r = go (either (eqb (x .kind) return) (eqb (x .kind) error) r)

@@ -3,6 +3,7 @@ pub mod Addresses
 pub mod Pending
 pub mod Judge
 pub mod Calls
+pub mod Awaited
 pub mod View
 pub mod Bench
 pub mod Places

@@ -2,7 +2,7 @@
 use mathlib.Core.Bool.{Bool, not, _&&_, _||_}
 use mathlib.Core.List.{List, [], _∷_, _++_}
 use Prim.Native.Nat.{ℕ}
-use lib.Dec.{leb, ltb}
+use lib.Dec.{eqb, leb, ltb}
 use lib.ListN.{length}
 use Rattle.rules.specs.declared.Receiver.{Receiver}
 use Rattle.rules.specs.declared.Receiver.the-variants as to
@@ -40,3 +40,7 @@ isStop a = (leb 1 a && leb a 9) || (leb 30 a && leb a 51)
 -- the offering goes on: no such answer came, and bytes are left (rule 9.5)
 abbrev pub goesOn : Taken → List ℕ → Bool
 goesOn r p = not (isStop (r .judgement .answer)) && ltb (r .taken) (length p)
+
+-- the answers to a piece that ended a message without a fault: it was judged (rule 9.1)
+abbrev pub isJudged : ℕ → Bool
+isJudged a = eqb a 0 || (leb 20 a && leb a 26)

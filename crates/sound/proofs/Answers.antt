@@ -24,7 +24,8 @@ use Rattle.rules.specs.declared.Connected.{Connected}
 use Rattle.rules.specs.declared.Taken.{Taken}
 use Rattle.rules.specs.declared.Gone.{Gone}
 use Rattle.rules.proofs.Tests.{choice}
-use Rattle.sound.proofs.Numbers.{isJudged, judged-proper}
+use Rattle.rules.specs.Places.{isJudged}
+use Rattle.sound.proofs.Numbers.{judged-proper}
 
 -- `say` is the answer of a report, `refuse` the report of an answer alone
 pub record Modest {S R : Type 0} (say : R → ℕ) (refuse : ℕ → R) (s : State S) (z : Step S R) : Type 0 where

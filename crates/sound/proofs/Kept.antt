@@ -15,7 +15,7 @@ use Rattle.memory.specs.Sound.{word32, narrow, octet, headOctets, Sound}
 use Rattle.memory.proofs.Peers.{peer-good, good-peer}
 use Rattle.sound.proofs.Slots.{nobody-at, nobody-of, somebody-at, somebody-of, every-of, Single, single-head, single-apart, single-rest}
 use Rattle.sound.proofs.Names.{okNames, names-ok, names-apart, names-good}
-use Rattle.rules.proofs.Replies.{isWaiting}
+use Rattle.rules.specs.Awaited.{isWaiting}
 use Rattle.rules.proofs.Waits.{okPending}
 use Rattle.sound.proofs.Pending.{narrowPending, pending-ok, pending-known, pending-good}
 

@@ -1,11 +1,14 @@
 -- The numbers that a piece is answered with: a judged message 0 or 20 to 26, a broken head 1 to 9, and never 51.
 use mathlib.Core.Path.{_≡_, refl, sym, ap, _∙_}
+use mathlib.Core.Logic.{_⊎_, inl, inr}
 use mathlib.Core.Bool.{Bool, true, false, cond, _&&_, _||_}
 use mathlib.Core.List.{List, [], _∷_, _++_}
 use Prim.Native.Nat.{ℕ, _+_, _≤_}
 use native.Mathlib.Omega.{arith}
 use lib.Dec.{eqb, ltb, leb}
 use lib.ListN.{length, take, getD}
+use borrow.Author.Tests.{eqb-true, leb-true}
+use Rattle.wire.proofs.Texts.{both-first, both-second, either}
 use Rattle.header.specs.declared.Header.{Header}
 use Rattle.header.specs.declared.Reading.{Reading}
 use Rattle.header.specs.declared.Reading.the-variants.{Short, Broken, Whole}
@@ -21,13 +24,18 @@ use Rattle.rules.specs.State.{Slot, free, peer, Peer, State, putSlot, withPendi
 use Rattle.rules.specs.Addresses.{Address, absent, bus, slot, unknown, resolve}
 use Rattle.rules.specs.Pending.{awaits, ended}
 use Rattle.rules.specs.Judge.{Judged, refused, passed, maySend, mayReceive, toBus, waits, expectsReply, toPeer, toAll, replyTo, reply, toSlot, directed, judged}
+use Rattle.rules.specs.Places.{isJudged}
 use Rattle.rules.specs.declared.Receiver.the-variants as to
 use Rattle.rules.proofs.Tests.{choice}
 
 -- ---- a judged message
 
-abbrev pub isJudged : ℕ → Bool
-isJudged a = eqb a 0 || (leb 20 a && leb a 26)
+pub judged-low : (a : ℕ) → isJudged a ≡ true → (a ≡ 0) ⊎ ((20 ≤ a) × (a ≤ 26))
+judged-low a h = go (either (eqb a 0) (leb 20 a && leb a 26) h)
+  where
+    go : (eqb a 0 ≡ true) ⊎ (leb 20 a && leb a 26 ≡ true) → (a ≡ 0) ⊎ ((20 ≤ a) × (a ≤ 26))
+    go (inl q) = inl (eqb-true a 0 q)
+    go (inr q) = inr (leb-true 20 a (both-first (leb 20 a) (leb a 26) q), leb-true a 26 (both-second (leb 20 a) (leb a 26) q))
 
 abbrev Proper : {S : Type 0} → Judged S → Type 0
 Proper j = isJudged (j .judgement .answer) ≡ true

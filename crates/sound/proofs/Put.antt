@@ -20,7 +20,7 @@ use Rattle.memory.specs.Sound.{Sound}
 use Rattle.rules.proofs.Tests.{clash}
 use Rattle.sound.proofs.Slots.{nobody-at, somebody-at, put-cases, put-passes, Single, single-set}
 use Rattle.rules.proofs.First.{taken-below}
-use Rattle.rules.proofs.Replies.{isWaiting}
+use Rattle.rules.specs.Awaited.{isWaiting}
 use Rattle.rules.proofs.Fewer.{ended-all-fewer, fewer-length}
 use Rattle.sound.proofs.Pending.{fewer-every}
 use Rattle.rules.proofs.Any.{distinct-fewer}
