@@ -32,7 +32,8 @@ use Rattle.book.proofs.Tails.{judge-broken}
 use Rattle.book.proofs.Runs.{reached-holds, held-state, held-slot}
 use Rattle.book.proofs.Messages.{parted, tail-behind, good-broken}
 use Rattle.rules.specs.Places.{isJudged}
-use Rattle.book.proofs.Never.{offer-faults, book-faults}
+use Rattle.book.proofs.Never.{book-faults}
+use Rattle.sound.proofs.Answers.{offer-faults}
 use Rattle.book.proofs.Pieces.{number-found, pieceUnder, piece-breaks, piece-ends}
 use Rattle.book.proofs.Replied.{okSlot, waiting-seen, ok-slots, awaited-seen, piece-reply, piece-replied, alone-ok}
 

@@ -21,7 +21,7 @@ use Rattle.rules.proofs.First.{first-passes, taken-below}
 use Rattle.book.specs.Lists.{underImage}
 use Rattle.book.specs.Messages.{Takes}
 use Rattle.rules.specs.Places.{isJudged}
-use Rattle.sound.proofs.Numbers.{judged-low, judged-proper}
+use Rattle.sound.proofs.Numbers.{judged-low, judged-few, judged-proper}
 use Rattle.book.proofs.Images.{image-refuses}
 use Rattle.book.proofs.Ways.{at-open}
 
@@ -33,13 +33,6 @@ judged-no-fault a h l k = go (judged-low a h)
     go : (a ≡ 0) ⊎ ((20 ≤ a) × (a ≤ 26)) → ⊥
     go (inl q) = omega arith
     go (inr q) = omega (arith, q .0)
-
-judged-few : (a : ℕ) → isJudged a ≡ true → a ≤ 26
-judged-few a h = go (judged-low a h)
-  where
-    go : (a ≡ 0) ⊎ ((20 ≤ a) × (a ≤ 26)) → a ≤ 26
-    go (inl q) = omega arith
-    go (inr q) = q .1
 
 -- ---- the peer that a number finds
 

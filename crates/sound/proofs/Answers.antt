@@ -1,15 +1,12 @@
 -- What a call answers on good memory, over any streams whose faults are 1 to 9: at most 40; and from 30 on it leaves the state as it was and reports its
 -- answer alone (rule 8.1).
 use mathlib.Core.Path.{_≡_, refl, sym, ap, _∙_}
-use mathlib.Core.Logic.{_⊎_, inl, inr}
-use mathlib.Core.Bool.{true, cond, _&&_}
+use mathlib.Core.Bool.{true, cond}
 use mathlib.Core.List.{List, [], _∷_, _++_}
 use Prim.Native.Nat.{ℕ, _≤_, _<_}
 use native.Mathlib.Omega.{arith}
-use lib.Dec.{eqb, ltb, leb}
+use lib.Dec.{ltb, leb}
 use lib.ListN.{length}
-use borrow.Author.Tests.{eqb-true, leb-true}
-use Rattle.wire.proofs.Texts.{both-second, either}
 use Rattle.policy.specs.Names.{owns}
 use Rattle.policy.specs.Decisions.{mayConnect, mayOwn}
 use Rattle.stream.specs.Stream.{Verdict, more, broken, whole, Streams, Offer, offer, settled}
@@ -24,8 +21,7 @@ use Rattle.rules.specs.declared.Connected.{Connected}
 use Rattle.rules.specs.declared.Taken.{Taken}
 use Rattle.rules.specs.declared.Gone.{Gone}
 use Rattle.rules.proofs.Tests.{choice}
-use Rattle.rules.specs.Places.{isJudged}
-use Rattle.sound.proofs.Numbers.{judged-proper}
+use Rattle.sound.proofs.Numbers.{judged-few, judged-proper}
 
 -- `say` is the answer of a report, `refuse` the report of an answer alone
 pub record Modest {S R : Type 0} (say : R → ℕ) (refuse : ℕ → R) (s : State S) (z : Step S R) : Type 0 where
@@ -116,16 +112,8 @@ module _ {S : Type 0} (s : State S) where
 
 -- ---- piece
 
--- a judged message is answered with 0 or 20 to 26
-judged-low : (a : ℕ) → isJudged a ≡ true → a < 30
-judged-low a h = go (either (eqb a 0) (leb 20 a && leb a 26) h)
-  where
-    go : (eqb a 0 ≡ true) ⊎ (leb 20 a && leb a 26 ≡ true) → a < 30
-    go (inl q) = omega (arith, eqb-true a 0 q)
-    go (inr q) = omega (arith, leb-true a 26 (both-second (leb 20 a) (leb a 26) q))
-
 module _ {S : Type 0} (O : Streams S) (faults : (t : S) (a : ℕ) → O .judge t ≡ broken a → (1 ≤ a) × (a ≤ 9)) where
-  offer-faults : (t : S) (p : List ℕ) (a : ℕ) → offer O t p .verdict ≡ broken a → (1 ≤ a) × (a ≤ 9)
+  pub offer-faults : (t : S) (p : List ℕ) (a : ℕ) → offer O t p .verdict ≡ broken a → (1 ≤ a) × (a ≤ 9)
   unfolding offer
   offer-faults t [] a e = let z : _≡_ {A = ℕ} 0 1 = cc in absurd (omega arith)
   offer-faults t (b ∷ p) a e =
@@ -152,7 +140,7 @@ module _ {S : Type 0} (O : Streams S) (faults : (t : S) (a : ℕ) → O .judge t
     offered-modest image z i p n more f = taken-low (offered image z i p n more) (omega arith)
     offered-modest image z i p n (broken a) f = taken-low (offered image z i p n (broken a)) (omega (arith, f a refl .1))
     offered-modest image z i p n (whole h x) f =
-        taken-low (offered image z i p n (whole h x)) (judged-low (judged image z i p h x .judgement .answer) (judged-proper image z i p x h))
+        taken-low (offered image z i p n (whole h x)) (omega (arith, judged-few (judged image z i p h x .judgement .answer) (judged-proper image z i p x h)))
 
     piece-at : (image : List ℕ) (i : ℕ) (y : Slot S) (bytes : List ℕ) → Takes (pieceAt O image s i y bytes)
     piece-at image i free bytes = no-piece 30 (omega arith)

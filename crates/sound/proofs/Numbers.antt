@@ -37,6 +37,13 @@ judged-low a h = go (either (eqb a 0) (leb 20 a && leb a 26) h)
     go (inl q) = inl (eqb-true a 0 q)
     go (inr q) = inr (leb-true 20 a (both-first (leb 20 a) (leb a 26) q), leb-true a 26 (both-second (leb 20 a) (leb a 26) q))
 
+pub judged-few : (a : ℕ) → isJudged a ≡ true → a ≤ 26
+judged-few a h = go (judged-low a h)
+  where
+    go : (a ≡ 0) ⊎ ((20 ≤ a) × (a ≤ 26)) → a ≤ 26
+    go (inl q) = omega arith
+    go (inr q) = q .1
+
 abbrev Proper : {S : Type 0} → Judged S → Type 0
 Proper j = isJudged (j .judgement .answer) ≡ true
 
