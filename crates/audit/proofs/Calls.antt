@@ -14,7 +14,7 @@ use Rattle.rules.specs.Pending.{isCall, awaits}
 use Rattle.rules.proofs.Waits.{awaits-first}
 use Rattle.memory.specs.Encoding.{stateOf}
 use Rattle.memory.specs.Good.{goodPending}
-use Rattle.memory.specs.Places.{Found}
+use Rattle.memory.specs.Places.{FoundSlot}
 use Rattle.slots.specs.Slots.{peerAt, CallAt}
 use Rattle.slots.proofs.Cells.{calls-next, before}
 use Rattle.audit.specs.Tests.{calleeAt, serialAt, callTest}
@@ -27,7 +27,7 @@ module _ (m : List ℕ) (i j c s : ℕ) (p : c ≡ calleeAt m i j) (q : s ≡ se
   unfolding callTest
   call-zero z = rw (← q, lt-leb 1 s (omega arith), and-false)
 
-  module _ (f : ℕ) (g : Found (isPeer c) m 0 f) where
+  module _ (f : ℕ) (g : FoundSlot (isPeer c) m 0 f) where
     pub call-gone : 16 ≤ f → false ≡ callTest m i j
     unfolding callTest
     call-gone h = rw (← p, found-any (isPeer c) m 0 f g, le-ltb f 16 h)

@@ -14,7 +14,7 @@ use Rattle.rules.specs.State.{Slot, firstBy}
 use Rattle.rules.proofs.First.{first-any}
 use Rattle.memory.specs.Encoding.{stateOf}
 use Rattle.memory.proofs.Reading.{sixteen}
-use Rattle.memory.specs.Places.{Found}
+use Rattle.memory.specs.Places.{FoundSlot}
 use Rattle.slots.proofs.Cells.{before}
 
 pub not-ltb : (a b : ℕ) → not (ltb a b) ≡ leb b a
@@ -23,7 +23,7 @@ not-ltb a b = elim (decLe b a) [
   | no h ↦ ap not (lt-ltb a b (omega arith)) ∙ sym (lt-leb b a (omega arith))
 ]
 
-pub found-any : (t : Slot Tail → Bool) (m : List ℕ) (from r : ℕ) → Found t m from r → any t (drop from (stateOf m .slots)) ≡ ltb r 16
+pub found-any : (t : Slot Tail → Bool) (m : List ℕ) (from r : ℕ) → FoundSlot t m from r → any t (drop from (stateOf m .slots)) ≡ ltb r 16
 found-any t m from r f =
     let s = stateOf m .slots in
     let l : length (drop from s) ≡ 16 - from = length-drop from s ∙ rw (sixteen m) in

@@ -16,7 +16,7 @@ use Rattle.rules.specs.Calls.{isOwner}
 use Rattle.memory.specs.Layout.{slotStart, firstName, nameWidth}
 use Rattle.memory.specs.Encoding.{stateOf}
 use Rattle.memory.specs.Good.{goodNames}
-use Rattle.memory.specs.Places.{Found}
+use Rattle.memory.specs.Places.{FoundSlot}
 use Rattle.slots.specs.Slots.{peerAt, nameAt}
 use Rattle.slots.proofs.Cells.{names-next, name-byte}
 use Rattle.audit.specs.Tests.{nameTest}
@@ -42,7 +42,7 @@ module _ (m : List ℕ) (i j b : ℕ) (e : b ≡ getD m (slotStart i + firstName
       unfolding nameTest
       name-twice t = rw (← text-is, ← q, t, and-false)
 
-      pub name-good : not o ≡ false → w ≡ false → (r : ℕ) → Found (isOwner text) m (i + 1) r → leb 16 r ≡ nameTest m i j
+      pub name-good : not o ≡ false → w ≡ false → (r : ℕ) → FoundSlot (isOwner text) m (i + 1) r → leb 16 r ≡ nameTest m i j
       unfolding nameTest
       name-good s t r f =
           rw (← text-is, ← p, not-false o s, ← q, t, found-any (isOwner text) m (i + 1) r f, and-true) (sym (not-ltb r 16))

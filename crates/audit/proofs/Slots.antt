@@ -21,8 +21,8 @@ use Rattle.stream.specs.Tail.{goodTail}
 use Rattle.rules.specs.State.{free, peer, isPeer}
 use Rattle.memory.specs.Layout.{memoryLength, slotLength, slotStart, gidsAt, gidWidth, gidRoom, pendingAt, callWidth, callRoom, takenAt, headAt, firstByte, headRoom}
 use Rattle.memory.specs.Encoding.{slotOf, slotBytes, stateOf}
-use Rattle.memory.specs.Good.{goodNames, goodPending, goodPeer, goodSlot, goodSlots, plain, good}
-use Rattle.memory.specs.Places.{numberAt, Found}
+use Rattle.memory.specs.Good.{goodNames, goodPending, goodPeer, goodSlot, goodSlots, plainSlots, good}
+use Rattle.memory.specs.Places.{numberAt, FoundSlot}
 use Rattle.memory.proofs.Reading.{sixteen, slot-at, slot-part, slot-free, slot-peer, gids-many, pending-many, names-many}
 use Rattle.slots.specs.Slots.{peerAt}
 use Rattle.audit.specs.Tests.{tableTest, cellsTest, shapeTest, slotTest}
@@ -64,7 +64,7 @@ module _ (m : List ℕ) (i n last : ℕ) (e : n ≡ numberAt m i) where
   unfolding goodPeer
   peer-high h = rw (← e, lt-leb n last h, and-false)
 
-  module _ (h : i < 16) (f : ℕ) (g : Found (isPeer n) m (i + 1) f) where
+  module _ (h : i < 16) (f : ℕ) (g : FoundSlot (isPeer n) m (i + 1) f) where
     pub peer-twice : f < 16 → false ≡ goodPeer (stateOf m .slots) last (peerAt m i) (drop (i + 1) (stateOf m .slots))
     unfolding goodPeer
     peer-twice k = rw (← e, found-any (isPeer n) m (i + 1) f g, lt-ltb f 16 k, and-false)
@@ -129,7 +129,7 @@ pub ruleset slot-tests = (slot-unused, slot-shapeless, slot-good, one-or-more, n
 
 -- what the slots from i on come to
 unfoldable pub leftGood : List ℕ → ℕ → ℕ → Bool
-leftGood m last i = goodSlots (stateOf m .slots) last (drop i (stateOf m .slots)) && plain (drop i (parts slotLength 16 (drop 4 m)))
+leftGood m last i = goodSlots (stateOf m .slots) last (drop i (stateOf m .slots)) && plainSlots (drop i (parts slotLength 16 (drop 4 m)))
 
 mix : (a b c d : Bool) → (a && b) && (c && d) ≡ (a && c) && (b && d)
 mix true true c d = refl
@@ -138,7 +138,7 @@ mix true false false d = refl
 mix false b c d = refl
 
 left-step : (m : List ℕ) (last i : ℕ) → i < 16 → leftGood m last i ≡ slotTest m i last && leftGood m last (i + 1)
-unfolding leftGood goodSlots plain slotTest
+unfolding leftGood goodSlots plainSlots slotTest
 left-step m last i h =
     let p = parts slotLength 16 (drop 4 m) in
     let b = take slotLength (drop (slotStart i) m) in
@@ -147,7 +147,7 @@ left-step m last i h =
     let q : drop i p ≡ b ∷ drop (i + 1) p = drop-cons p i [] (rw (parts-length slotLength 16 (drop 4 m)) h) ∙ rw (slot-part m i h, add-one) in
     rw (s, q)
     (mix (goodSlot (stateOf m .slots) last (slotOf b) (drop (i + 1) (stateOf m .slots))) (goodSlots (stateOf m .slots) last (drop (i + 1) (stateOf m .slots)))
-    (same (slotBytes (slotOf b)) b) (plain (drop (i + 1) p)))
+    (same (slotBytes (slotOf b)) b) (plainSlots (drop (i + 1) p)))
 
 pub record Auditing (m : List ℕ) (last i : ℕ) : Type 0 where
   pub sized : length m ≡ memoryLength
@@ -171,7 +171,7 @@ module _ {m : List ℕ} {last i : ℕ} (a : Auditing m last i) where
     auditing-stops t = sym (a .left ∙ left-step m last i h ∙ rw (← e, not-true r t))
 
   pub auditing-ends : 16 ≤ i → true ≡ good m
-  unfolding leftGood goodSlots plain
+  unfolding leftGood goodSlots plainSlots
   auditing-ends h =
       sym (a .left
       ∙ rw (

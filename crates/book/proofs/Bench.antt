@@ -6,13 +6,13 @@ use Rattle.wire.specs.Bytes.{allZero, same}
 use Rattle.wire.specs.Words.{wordAt, wordBytes}
 use Rattle.names.specs.Names.{startsWith, wellKnown, unique, validName}
 use Rattle.names.specs.Namespace.{inNamespace}
-use Rattle.signature.specs.Signature.{headOf, closed, one, row, validSignature}
+use Rattle.signature.specs.Signature.{headOf, closedBy, one, row, validSignature}
 use Rattle.header.specs.Fixed.{orderOf, headLength, messageLength, sizesOf, fixedPart}
 use Rattle.header.specs.Codes.{letterOf}
 use Rattle.header.specs.Fields.{textIn, valueAt, framed, elementAt, walk, fieldsOf}
 use Rattle.header.specs.Values.{numberIn, goodValue, goodField, goodValues}
 use Rattle.header.specs.Required.{hasRequired}
-use Rattle.header.specs.Header.{headerOf, judged as judgedHead, readHead, readHeader}
+use Rattle.header.specs.Header.{headerOf, judgedHead, readHead, readHeader}
 use Rattle.image.specs.Good.{goodCounts, goodSections, goodHeader, goodString, goodOrAny, goodOwned, goodConnectRule, goodOwnRule, goodStrings, goodTransactionRule}
 use Rattle.image.specs.Good.{goodConnect, goodOwn, goodTransaction, goodImage, outcomeOf, imageAnswer}
 use Rattle.policy.specs.Subjects.{inGroups, subjectFits}
@@ -26,16 +26,16 @@ use Rattle.rules.specs.Addresses.{digits, uniqueName, answersTo, resolve}
 use Rattle.rules.specs.Pending.{awaits}
 use Rattle.rules.specs.Judge.{maskOf, countOf, judged}
 use Rattle.rules.specs.Calls.{connect, own, piece}
-use Rattle.book.specs.Book.{cut}
-use Rattle.book.specs.Lists.{entry, answers}
-use Rattle.book.specs.Bench.{answer, table, more}
+use Rattle.book.specs.Book.{cutOff}
+use Rattle.book.specs.Lists.{modelStep, answers}
+use Rattle.book.specs.Bench.{workedAnswer, workedTable, furtherRows}
 
-both-agree : (agrees answer same table ≡ true) × (agrees answer same more ≡ true)
-unfolding allZero same wordAt wordBytes startsWith wellKnown unique validName inNamespace headOf closed one row validSignature orderOf headLength messageLength sizesOf fixedPart letterOf textIn valueAt framed elementAt walk fieldsOf numberIn goodValue goodField goodValues hasRequired headerOf judgedHead readHead readHeader goodCounts goodSections goodHeader goodString goodOrAny goodOwned goodConnectRule goodOwnRule goodStrings goodTransactionRule goodConnect goodOwn goodTransaction goodImage outcomeOf imageAnswer inGroups subjectFits owns deciding connectFits ownedFits ownFits messageOf partFits interfaceFits partsFit nameFits transactionFits transactionMatches connectDecides mayConnect ownDecides mayOwn transactionDecides mayTransact offer firstBy digits uniqueName answersTo resolve awaits maskOf countOf judged connect own piece cut entry answers
+both-agree : (agrees workedAnswer same workedTable ≡ true) × (agrees workedAnswer same furtherRows ≡ true)
+unfolding allZero same wordAt wordBytes startsWith wellKnown unique validName inNamespace headOf closedBy one row validSignature orderOf headLength messageLength sizesOf fixedPart letterOf textIn valueAt framed elementAt walk fieldsOf numberIn goodValue goodField goodValues hasRequired headerOf judgedHead readHead readHeader goodCounts goodSections goodHeader goodString goodOrAny goodOwned goodConnectRule goodOwnRule goodStrings goodTransactionRule goodConnect goodOwn goodTransaction goodImage outcomeOf imageAnswer inGroups subjectFits owns deciding connectFits ownedFits ownFits messageOf partFits interfaceFits partsFit nameFits transactionFits transactionMatches connectDecides mayConnect ownDecides mayOwn transactionDecides mayTransact offer firstBy digits uniqueName answersTo resolve awaits maskOf countOf judged connect own piece cutOff modelStep answers
 both-agree = (refl, refl)
 
-pub table-agrees : agrees answer same table ≡ true
+pub table-agrees : agrees workedAnswer same workedTable ≡ true
 table-agrees = both-agree .0
 
-pub more-agrees : agrees answer same more ≡ true
+pub more-agrees : agrees workedAnswer same furtherRows ≡ true
 more-agrees = both-agree .1

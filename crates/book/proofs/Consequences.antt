@@ -22,10 +22,10 @@ use Rattle.rules.proofs.Replies.{gone-unawaited}
 use Rattle.memory.specs.Layout.{memoryLength}
 use Rattle.memory.specs.Encoding.{stateOf}
 use Rattle.sound.proofs.Kept.{Alone, sound-kept}
-use Rattle.book.specs.Book.{front, isWhole, books, kept, tailView}
-use Rattle.book.specs.Lists.{Call, starts, offers, leaves, Answer, taken, gone, numberOf, entry, answers, after, Ran, Run, Reached}
-use Rattle.book.specs.Split.{joined}
-use Rattle.book.specs.Bench.{asks, lastOf, answer}
+use Rattle.book.specs.Book.{firstVerdict, isWhole, books, keptTail, tailView}
+use Rattle.book.specs.Lists.{Call, starts, offers, leaves, Answer, taken, gone, numberOf, modelStep, answers, after, Ran, Run, Reached}
+use Rattle.book.specs.Split.{joinedPieces}
+use Rattle.book.specs.Bench.{asks, lastOf, workedAnswer}
 use Rattle.book.specs.Messages.{Messages, Parted, EndsMessage, BrokenIn}
 use Rattle.book.proofs.List.{Told, one, started, list-claim}
 use Rattle.book.proofs.Tails.{judge-broken}
@@ -49,15 +49,15 @@ module _ {cs : List Call} {m : List ℕ} (run : Reached m cs) where
   slots-are i = held-slot (reached-holds run) i
 
   -- of a stream that is whole messages and then others, memory has the count and the head of the others
-  pub messages-then : (i : ℕ) (p : Peer (List ℕ)) → slotAt now i ≡ peer p → (ms : List (List ℕ)) (ys : List ℕ) → Messages ms → isWhole (front ys) ≡ false
-      → p .stream ≡ joined ms ++ ys
-      → slotAt (stateOf m) i ≡ peer (seenPeer (λ xs. kept ys) p)
+  pub messages-then : (i : ℕ) (p : Peer (List ℕ)) → slotAt now i ≡ peer p → (ms : List (List ℕ)) (ys : List ℕ) → Messages ms → isWhole (firstVerdict ys) ≡ false
+      → p .stream ≡ joinedPieces ms ++ ys
+      → slotAt (stateOf m) i ≡ peer (seenPeer (λ xs. keptTail ys) p)
   messages-then i p e ms ys w u q =
       slots-are i ∙ ap (seenSlot tailView) e ∙ ap (λ (t : Tail). peer (seenPeer (λ xs. t) p)) (ap tailView q ∙ tail-behind ms ys w u)
 
   -- and every stream is such
   pub stream-is : (i : ℕ) (p : Peer (List ℕ)) → slotAt now i ≡ peer p
-      → (c : Parted (p .stream)) × (slotAt (stateOf m) i ≡ peer (seenPeer (λ xs. kept (c .present)) p))
+      → (c : Parted (p .stream)) × (slotAt (stateOf m) i ≡ peer (seenPeer (λ xs. keptTail (c .present)) p))
   stream-is i p e = let c = parted (p .stream) in (c, messages-then i p e (c .messages) (c .present) (c .are) (c .unfinished) (c .bytes))
 
   -- who is awaited is connected
@@ -78,7 +78,7 @@ module _ {cs : List Call} {m : List ℕ} (run : Reached m cs) where
     told = one now (reached-holds run) ran
 
     said : r .judgement .answer ≡ pieceUnder books (λ t. refl) image now n bytes .result .judgement .answer
-    unfolding entry
+    unfolding modelStep
     said = ap numberOf (told .answer)
 
     -- 0 and 20 to 26 are answers about a message that the piece ends
@@ -89,25 +89,25 @@ module _ {cs : List Call} {m : List ℕ} (run : Reached m cs) where
 
     -- 1 to 6 are answered at byte 16 of a message, and 7 to 9 at the last byte of its head
     pub broken-where : 1 ≤ r .judgement .answer → r .judgement .answer ≤ 9 → BrokenIn e n (r .judgement .answer)
-    unfolding entry
+    unfolding modelStep
     broken-where l k =
         let a = r .judgement .answer in
         let z = piece-breaks books (λ t. refl) image now n bytes a (sym said) l k in
         let i = firstBy (isPeer n) (now .slots) in
         let p = z .takes .sender in
         let q = withStream p (z .stream) in
-        let t : slotAt (entry now (offers image n bytes) .state) i ≡ peer q
+        let t : slotAt (modelStep now (offers image n bytes) .state) i ≡ peer q
         = ap (λ (s : State (List ℕ)). slotAt s i) (z .state) ∙ getD-set-same (now .slots) i (peer q) free (taken-below (now .slots) i p (z .takes .sits)) in
         let v : judge (tailView (z .stream)) ≡ broken a = judge-broken (z .stream) a (z .reads) in
         let g = sound-kept (told .holds .sound) .each i in
-        let u = slot-seen tailView (entry now (offers image n bytes) .state) i ∙ ap (seenSlot tailView) t in
+        let u = slot-seen tailView (modelStep now (offers image n bytes) .state) i ∙ ap (seenSlot tailView) t in
         record {
           place = i;
           who = seenPeer tailView q;
           sits = held-slot (told .holds) i ∙ ap (seenSlot tailView) t;
           number = number-found now n p (z .takes .sits);
           reads = v;
-          found = good-broken (tailView (z .stream)) a (subst (Alone (entry now (offers image n bytes) .state .last)) u g .tail) v;
+          found = good-broken (tailView (z .stream)) a (subst (Alone (modelStep now (offers image n bytes) .state .last)) u g .tail) v;
         }
 
     module _ (h : List ℕ) (x : Header) (ends : EndsMessage now image n bytes h x) (reply : isReply x ≡ true) where
@@ -126,11 +126,11 @@ module _ {cs : List Call} {m : List ℕ} (run : Reached m cs) where
 
       -- and the same reply, sent again at once, does not
       pub second-reply-24 : r .judgement .answer ≡ 0 → {other bytes′ d : List ℕ} {q : Taken} → Ran e d (offers other n bytes′) (taken q)
-          → EndsMessage (entry now (offers image n bytes) .state) other n bytes′ h x
+          → EndsMessage (modelStep now (offers image n bytes) .state) other n bytes′ h x
           → q .judgement .answer ≡ 24
-      unfolding entry
+      unfolding modelStep
       second-reply-24 z {other} {bytes′} again ends′ =
-          let b = entry now (offers image n bytes) .state in
+          let b = modelStep now (offers image n bytes) .state in
           let t = one b (told .holds) again in
           ap numberOf (t .answer) ∙ piece-reply b other n bytes′ h x ends′ reply
           ∙ ap (λ (c : Bool). cond c 0 24) (piece-replied now image n bytes h x ends reply now-ok (passed-awaited z))
@@ -140,7 +140,7 @@ module _ {cs : List Call} {m : List ℕ} (run : Reached m cs) where
   -- nobody awaits it any more
   pub gone-awaited : {n : ℕ} {r : Gone} {e : List ℕ} → Ran m e (leaves n) (gone r) → r .answer ≡ 0
       → (j serial : ℕ) → isWaiting n serial (slotAt (stateOf e) j) ≡ false
-  unfolding entry
+  unfolding modelStep
   gone-awaited {n} ran z j serial =
       let t = one now (reached-holds run) ran in
       ap (isWaiting n serial) (held-slot (t .holds) j) ∙ waiting-seen tailView n serial (slotAt (disconnect books now n .state) j)
@@ -160,12 +160,12 @@ past-forgotten l₁ l₂ r₁ r₂ =
 
 -- and the model's answers from a start on do not depend on what it held
 pub start-forgets : (b c : State (List ℕ)) (cs : List Call) → answers b (starts ∷ cs) ≡ answers c (starts ∷ cs)
-unfolding answers entry
+unfolding answers modelStep
 start-forgets b c cs = refl
 
 -- ---- the worked table
 
 -- a run from a start over any memory of the right length shows what the table's question is answered with
 pub guard-shows : {m e : List ℕ} {cs : List Call} {given : List Answer} → length m ≡ memoryLength → Run m (starts ∷ cs) given e
-    → lastOf given ≡ answer (asks (starts ∷ cs))
+    → lastOf given ≡ workedAnswer (asks (starts ∷ cs))
 guard-shows l r = ap lastOf (list-claim empty l r .answered)

@@ -19,7 +19,7 @@ use Rattle.header.proofs.Readings.{read-few, read-front, read-append, whole-fit
 use Rattle.stream.specs.Stream.{more, whole}
 use Rattle.stream.specs.Tail.{finished}
 use Rattle.rules.proofs.Tests.{clash}
-use Rattle.book.specs.Book.{front, isWhole, size, past, cut, current}
+use Rattle.book.specs.Book.{firstVerdict, isWhole, size, past, cutOff, current}
 
 -- one byte more
 abbrev pub snoc : List ℕ → ℕ → List ℕ
@@ -35,10 +35,10 @@ pub record Begins (xs : List ℕ) (x : Header) : Type 0 where
   pub reached : x .head + x .body ≤ length xs
 
 module _ (xs : List ℕ) where
-  pub begins-whole : (x : Header) → Begins xs x → front xs ≡ whole (take (x .head) xs) x
+  pub begins-whole : (x : Header) → Begins xs x → firstVerdict xs ≡ whole (take (x .head) xs) x
   begins-whole x w = rw (w .read, le-ltb (length xs) (x .head + x .body) (w .reached))
 
-  pub whole-begins : isWhole (front xs) ≡ true → (x : Header) × Begins xs x
+  pub whole-begins : isWhole (firstVerdict xs) ≡ true → (x : Header) × Begins xs x
   whole-begins e = go (readHeader xs) refl e
     where
       last : (x : Header) → readHeader xs ≡ Whole x → (b : Bool) → ltb (length xs) (x .head + x .body) ≡ b
@@ -53,16 +53,16 @@ module _ (xs : List ℕ) where
       go (Whole x) r q = last x r (ltb (length xs) (x .head + x .body)) refl q
 
   module _ (x : Header) (w : Begins xs x) where
-    begins-size : size (front xs) ≡ x .head + x .body
+    begins-size : size (firstVerdict xs) ≡ x .head + x .body
     begins-size = ap size (begins-whole x w)
 
-    begins-some : 16 ≤ size (front xs)
+    begins-some : 16 ≤ size (firstVerdict xs)
     begins-some = let f = whole-fits xs x (w .read) in omega (arith, begins-size, f .head-low)
 
-    begins-reached : size (front xs) ≤ length xs
+    begins-reached : size (firstVerdict xs) ≤ length xs
     begins-reached = omega (arith, begins-size, w .reached)
 
-    begins-append : (ys : List ℕ) → front (xs ++ ys) ≡ front xs
+    begins-append : (ys : List ℕ) → firstVerdict (xs ++ ys) ≡ firstVerdict xs
     begins-append ys =
         let f = whole-fits xs x (w .read) in
         let r : readHeader (xs ++ ys) ≡ Whole x = read-append xs ys never ∙ w .read in
@@ -74,34 +74,34 @@ module _ (xs : List ℕ) where
         never e = let q : Whole x ≡ Short = sym (w .read) ∙ e in let z : _≡_ {A = ℕ} 0 1 = cc in omega arith
 
   -- a whole message is whole whatever follows it
-  module _ (e : isWhole (front xs) ≡ true) where
-    pub whole-some : 16 ≤ size (front xs)
+  module _ (e : isWhole (firstVerdict xs) ≡ true) where
+    pub whole-some : 16 ≤ size (firstVerdict xs)
     whole-some = let w = whole-begins e in begins-some (w .0) (w .1)
 
-    pub whole-reached : size (front xs) ≤ length xs
+    pub whole-reached : size (firstVerdict xs) ≤ length xs
     whole-reached = let w = whole-begins e in begins-reached (w .0) (w .1)
 
-    pub whole-append : (ys : List ℕ) → front (xs ++ ys) ≡ front xs
+    pub whole-append : (ys : List ℕ) → firstVerdict (xs ++ ys) ≡ firstVerdict xs
     whole-append = let w = whole-begins e in begins-append (w .0) (w .1)
 
 -- ---- bytes that go on past their first message
 
-past-whole : (xs : List ℕ) → past xs ≡ true → isWhole (front xs) ≡ true
-past-whole xs e = both-first (isWhole (front xs)) (ltb (size (front xs)) (length xs)) e
+past-whole : (xs : List ℕ) → past xs ≡ true → isWhole (firstVerdict xs) ≡ true
+past-whole xs e = both-first (isWhole (firstVerdict xs)) (ltb (size (firstVerdict xs)) (length xs)) e
 
-past-less : (xs : List ℕ) → past xs ≡ true → size (front xs) < length xs
-past-less xs e = ltb-true (size (front xs)) (length xs) (both-second (isWhole (front xs)) (ltb (size (front xs)) (length xs)) e)
+past-less : (xs : List ℕ) → past xs ≡ true → size (firstVerdict xs) < length xs
+past-less xs e = ltb-true (size (firstVerdict xs)) (length xs) (both-second (isWhole (firstVerdict xs)) (ltb (size (firstVerdict xs)) (length xs)) e)
 
 module _ (xs : List ℕ) (b : ℕ) where
-  past-snoc : isWhole (front xs) ≡ true → past (snoc xs b) ≡ true
+  past-snoc : isWhole (firstVerdict xs) ≡ true → past (snoc xs b) ≡ true
   past-snoc e =
-      rw (whole-append xs e (b ∷ []), e, lt-ltb (size (front xs)) (length (snoc xs b)) (omega (arith, whole-reached xs e, length-snoc xs b)))
+      rw (whole-append xs e (b ∷ []), e, lt-ltb (size (firstVerdict xs)) (length (snoc xs b)) (omega (arith, whole-reached xs e, length-snoc xs b)))
 
-  drop-snoc : isWhole (front xs) ≡ true → drop (size (front (snoc xs b))) (snoc xs b) ≡ snoc (drop (size (front xs)) xs) b
-  drop-snoc e = rw (whole-append xs e (b ∷ [])) (drop-append-le (size (front xs)) xs (b ∷ []) (whole-reached xs e))
+  drop-snoc : isWhole (firstVerdict xs) ≡ true → drop (size (firstVerdict (snoc xs b))) (snoc xs b) ≡ snoc (drop (size (firstVerdict xs)) xs) b
+  drop-snoc e = rw (whole-append xs e (b ∷ [])) (drop-append-le (size (firstVerdict xs)) xs (b ∷ []) (whole-reached xs e))
 
   -- a message that is whole with one byte to spare was whole before
-  whole-before : past (snoc xs b) ≡ true → isWhole (front xs) ≡ true
+  whole-before : past (snoc xs b) ≡ true → isWhole (firstVerdict xs) ≡ true
   whole-before e =
       let w = whole-begins (snoc xs b) (past-whole (snoc xs b) e) in
       let x = w .0 in
@@ -113,14 +113,14 @@ module _ (xs : List ℕ) (b : ℕ) where
 
 -- ---- the cut
 
-pub cut-stops : (f : ℕ) (xs : List ℕ) → past xs ≡ false → cut f xs ≡ xs
-unfolding cut
+pub cut-stops : (f : ℕ) (xs : List ℕ) → past xs ≡ false → cutOff f xs ≡ xs
+unfolding cutOff
 cut-stops zero xs e = refl
-cut-stops (suc f) xs e = rw (e, cut)
+cut-stops (suc f) xs e = rw (e, cutOff)
 
-pub cut-step : (f : ℕ) (xs : List ℕ) → past xs ≡ true → cut (suc f) xs ≡ cut f (drop (size (front xs)) xs)
-unfolding cut
-cut-step f xs e = rw (e, cut)
+pub cut-step : (f : ℕ) (xs : List ℕ) → past xs ≡ true → cutOff (suc f) xs ≡ cutOff f (drop (size (firstVerdict xs)) xs)
+unfolding cutOff
+cut-step f xs e = rw (e, cutOff)
 
 pub past-few : (xs : List ℕ) → length xs ≤ 16 → past xs ≡ false
 past-few xs h = go (past xs) refl
@@ -130,69 +130,69 @@ past-few xs h = go (past xs) refl
     go false e = e
 
 -- as many cuts as there are bytes are enough
-pub cut-enough : (f g : ℕ) (xs : List ℕ) → length xs ≤ f → length xs ≤ g → cut f xs ≡ cut g xs
+pub cut-enough : (f g : ℕ) (xs : List ℕ) → length xs ≤ f → length xs ≤ g → cutOff f xs ≡ cutOff g xs
 cut-enough zero g xs h k = let e = past-few xs (omega arith) in cut-stops 0 xs e ∙ sym (cut-stops g xs e)
 cut-enough (suc f) zero xs h k = let e = past-few xs (omega arith) in cut-stops (suc f) xs e ∙ sym (cut-stops 0 xs e)
-cut-enough (suc f) (suc g) xs h k = go (past xs) refl (cut-enough f g (drop (size (front xs)) xs))
+cut-enough (suc f) (suc g) xs h k = go (past xs) refl (cut-enough f g (drop (size (firstVerdict xs)) xs))
   where
     rest : List ℕ
-    rest = drop (size (front xs)) xs
+    rest = drop (size (firstVerdict xs)) xs
 
-    go : (p : Bool) → past xs ≡ p → (length rest ≤ f → length rest ≤ g → cut f rest ≡ cut g rest) → cut (suc f) xs ≡ cut (suc g) xs
+    go : (p : Bool) → past xs ≡ p → (length rest ≤ f → length rest ≤ g → cutOff f rest ≡ cutOff g rest) → cutOff (suc f) xs ≡ cutOff (suc g) xs
     go true e ih =
         let w = whole-some xs (past-whole xs e) in
-        let l = length-drop (size (front xs)) xs in
+        let l = length-drop (size (firstVerdict xs)) xs in
         cut-step f xs e ∙ ih (omega arith) (omega arith) ∙ sym (cut-step g xs e)
     go false e ih = cut-stops (suc f) xs e ∙ sym (cut-stops (suc g) xs e)
 
 -- the first message of xs goes on to its end
 module _ (f : ℕ) (xs : List ℕ) (b : ℕ) (n : past xs ≡ false) where
-  last-snoc : cut (suc f) (snoc xs b) ≡ cond (isWhole (front xs)) (b ∷ []) (snoc xs b)
-  last-snoc = go (isWhole (front xs)) refl
+  last-snoc : cutOff (suc f) (snoc xs b) ≡ cond (isWhole (firstVerdict xs)) (b ∷ []) (snoc xs b)
+  last-snoc = go (isWhole (firstVerdict xs)) refl
     where
-      ends : isWhole (front xs) ≡ true → length xs ≤ size (front xs)
-      ends e = ltb-false (size (front xs)) (length xs) (rw e at n)
+      ends : isWhole (firstVerdict xs) ≡ true → length xs ≤ size (firstVerdict xs)
+      ends e = ltb-false (size (firstVerdict xs)) (length xs) (rw e at n)
 
-      none : isWhole (front xs) ≡ false → (p : Bool) → past (snoc xs b) ≡ p → past (snoc xs b) ≡ false
+      none : isWhole (firstVerdict xs) ≡ false → (p : Bool) → past (snoc xs b) ≡ p → past (snoc xs b) ≡ false
       none e true q = absurd (clash (whole-before xs b q) e)
       none e false q = q
 
-      go : (w : Bool) → isWhole (front xs) ≡ w → cut (suc f) (snoc xs b) ≡ cond w (b ∷ []) (snoc xs b)
+      go : (w : Bool) → isWhole (firstVerdict xs) ≡ w → cutOff (suc f) (snoc xs b) ≡ cond w (b ∷ []) (snoc xs b)
       go true e =
           cut-step f (snoc xs b) (past-snoc xs b e)
-          ∙ ap (cut f) (drop-snoc xs b e ∙ ap (λ (l : List ℕ). snoc l b) (drop-of-length-le xs (ends e)))
+          ∙ ap (cutOff f) (drop-snoc xs b e ∙ ap (λ (l : List ℕ). snoc l b) (drop-of-length-le xs (ends e)))
           ∙ cut-stops f (b ∷ []) (past-few (b ∷ []) (omega arith))
       go false e = cut-stops (suc f) (snoc xs b) (none e (past (snoc xs b)) refl)
 
 abbrev onward : List ℕ → ℕ → List ℕ
-onward c b = cond (isWhole (front c)) (b ∷ []) (snoc c b)
+onward c b = cond (isWhole (firstVerdict c)) (b ∷ []) (snoc c b)
 
 -- cutting with one byte more
-cut-snoc : (f : ℕ) (xs : List ℕ) (b : ℕ) → length xs ≤ f → cut (suc f) (snoc xs b) ≡ onward (cut f xs) b
+cut-snoc : (f : ℕ) (xs : List ℕ) (b : ℕ) → length xs ≤ f → cutOff (suc f) (snoc xs b) ≡ onward (cutOff f xs) b
 cut-snoc zero xs b h =
     let e = past-few xs (omega arith) in
     last-snoc 0 xs b e ∙ ap (λ (c : List ℕ). onward c b) (sym (cut-stops 0 xs e))
-cut-snoc (suc f) xs b h = go (past xs) refl (cut-snoc f (drop (size (front xs)) xs) b)
+cut-snoc (suc f) xs b h = go (past xs) refl (cut-snoc f (drop (size (firstVerdict xs)) xs) b)
   where
     rest : List ℕ
-    rest = drop (size (front xs)) xs
+    rest = drop (size (firstVerdict xs)) xs
 
-    go : (p : Bool) → past xs ≡ p → (length rest ≤ f → cut (suc f) (snoc rest b) ≡ onward (cut f rest) b) → cut (suc (suc f)) (snoc xs b) ≡ onward (cut (suc f) xs) b
+    go : (p : Bool) → past xs ≡ p → (length rest ≤ f → cutOff (suc f) (snoc rest b) ≡ onward (cutOff f rest) b) → cutOff (suc (suc f)) (snoc xs b) ≡ onward (cutOff (suc f) xs) b
     go true e ih =
         let w = past-whole xs e in
         cut-step (suc f) (snoc xs b) (past-snoc xs b w)
-        ∙ ap (cut (suc f)) (drop-snoc xs b w)
-        ∙ ih (omega (arith, length-drop (size (front xs)) xs, whole-some xs w))
+        ∙ ap (cutOff (suc f)) (drop-snoc xs b w)
+        ∙ ih (omega (arith, length-drop (size (firstVerdict xs)) xs, whole-some xs w))
         ∙ ap (λ (c : List ℕ). onward c b) (sym (cut-step f xs e))
     go false e ih = last-snoc (suc f) xs b e ∙ ap (λ (c : List ℕ). onward c b) (sym (cut-stops (suc f) xs e))
 
-pub current-snoc : (xs : List ℕ) (b : ℕ) → current (snoc xs b) ≡ cond (isWhole (front (current xs))) (b ∷ []) (snoc (current xs) b)
+pub current-snoc : (xs : List ℕ) (b : ℕ) → current (snoc xs b) ≡ cond (isWhole (firstVerdict (current xs))) (b ∷ []) (snoc (current xs) b)
 current-snoc xs b =
     let e : length (snoc xs b) ≡ suc (length xs) = length-snoc xs b ∙ add-one (length xs) in
-    ap (λ (f : ℕ). cut f (snoc xs b)) e ∙ cut-snoc (length xs) xs b (omega arith)
+    ap (λ (f : ℕ). cutOff f (snoc xs b)) e ∙ cut-snoc (length xs) xs b (omega arith)
 
 pub current-none : current [] ≡ []
 current-none = cut-stops 0 [] (past-few [] (omega arith))
 
-pub front-none : front [] ≡ more
+pub front-none : firstVerdict [] ≡ more
 front-none = ap (finished 0 []) (read-few [] (omega arith))

@@ -19,7 +19,7 @@ use Rattle.rules.specs.declared.Taken.{Taken}
 use Rattle.rules.proofs.Tests.{choice}
 use Rattle.memory.specs.Encoding.{stateOf}
 use Rattle.memory.specs.Good.{good}
-use Rattle.memory.specs.Calls.{Left, Did, stored, kept, pieceOn}
+use Rattle.memory.specs.Calls.{MemoryStep, Did, stored, unchanged, pieceOn}
 use Rattle.rules.specs.Places.{isStop, goesOn}
 use Rattle.book.specs.Split.{said, Offers, ends, again}
 use Rattle.book.proofs.Images.{image-refuses}
@@ -53,10 +53,10 @@ module _ (image : List ℕ) (n : ℕ) where
   unfolding pieceOn
   call-takes m p l =
       let step = piece tails image (stateOf m) n p in
-      let over = cond (good m) (stored step) (kept m (noPiece 51)) in
-      let P : Left Taken → Type 0 = λ z. Takes (z .result) in
-      choice P (eqb (imageAnswer image) 0) over (kept m (noPiece (imageAnswer image)))
-      (λ a. choice P (good m) (stored step) (kept m (noPiece 51)) (λ b. piece-takes tails image (stateOf m) p l n) (λ b e. absurd (false≢true (sym e))))
+      let over = cond (good m) (stored step) (unchanged m (noPiece 51)) in
+      let P : MemoryStep Taken → Type 0 = λ z. Takes (z .result) in
+      choice P (eqb (imageAnswer image) 0) over (unchanged m (noPiece (imageAnswer image)))
+      (λ a. choice P (good m) (stored step) (unchanged m (noPiece 51)) (λ b. piece-takes tails image (stateOf m) p l n) (λ b e. absurd (false≢true (sym e))))
       (λ a e. absurd (false≢true (sym e ∙ image-refuses image a .stops)))
 
   pub record Ended (m p : List ℕ) : Type 0 where

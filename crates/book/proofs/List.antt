@@ -21,13 +21,13 @@ use Rattle.rules.proofs.Seen.{connect-seen, own-seen, release-seen, piece-seen,
 use Rattle.memory.specs.Layout.{memoryLength}
 use Rattle.memory.specs.Encoding.{memoryOf, stateOf}
 use Rattle.memory.specs.Sound.{Sound}
-use Rattle.memory.specs.Calls.{Left, Did, stored, kept, onMemory, onImage, startOn, connectOn, ownOn, releaseOn, pieceOn, disconnectOn}
+use Rattle.memory.specs.Calls.{MemoryStep, Did, stored, unchanged, onMemory, onImage, startOn, connectOn, ownOn, releaseOn, pieceOn, disconnectOn}
 use Rattle.memory.proofs.Sound.{state-again, good-memory}
 use Rattle.memory.proofs.Frame.{memory-length}
 use Rattle.memory.proofs.Octets.{every-below}
 use Rattle.sound.proofs.Keep.{empty-sound, connect-sound, own-sound, release-sound, piece-sound, disconnect-sound}
 use Rattle.book.specs.Book.{books, tailView}
-use Rattle.book.specs.Lists.{Call, starts, Answer, plain, connected, taken, gone, underImage, entry, answers, after, Below}
+use Rattle.book.specs.Lists.{Call, starts, Answer, plain, connected, taken, gone, underImage, modelStep, answers, after, Below}
 use Rattle.book.specs.Lists.{Ran, ran-start, ran-connect, ran-own, ran-release, ran-piece, ran-leave, Run, done, then, Agrees}
 use Rattle.book.proofs.Tails.{sees}
 use Rattle.book.proofs.Never.{nevers}
@@ -41,7 +41,7 @@ module _ {R : Type 0} (s : State Tail) (g : Sound s) (refuse : ℕ → R) (step 
   pub on-image : (image : List ℕ) → onImage refuse image (memoryOf s) (step (stateOf (memoryOf s))) ≡ stored (underImage refuse image s (step s))
   on-image image = rw on-memory (go (eqb (imageAnswer image) 0))
     where
-      go : (b : Bool) → cond b (stored (step s)) (kept (memoryOf s) (refuse (imageAnswer image))) ≡ stored (cond b (step s) (stays s (refuse (imageAnswer image))))
+      go : (b : Bool) → cond b (stored (step s)) (unchanged (memoryOf s) (refuse (imageAnswer image))) ≡ stored (cond b (step s) (stays s (refuse (imageAnswer image))))
       go true = refl
       go false = refl
 
@@ -64,7 +64,7 @@ module _ {R : Type 0} (say : R → Answer) {m : List ℕ} {b : State (List ℕ)}
   meets-memory : {r : R} {e : List ℕ} → Did (onMemory refuse m (step (stateOf m))) r e → Meets say z r e
   meets-memory d =
       let q = ap (λ (x : List ℕ). onMemory refuse x (step (stateOf x))) (h .bytes) ∙ on-memory (seen tailView b) (h .sound) refuse step ∙ ap stored seen-is in
-      record { answer = ap say (d .result ∙ ap (λ (x : Left R). x .result) q); holds = record { bytes = d .memory ∙ ap (λ (x : Left R). x .memory) q; sound = sound-after } }
+      record { answer = ap say (d .result ∙ ap (λ (x : MemoryStep R). x .result) q); holds = record { bytes = d .memory ∙ ap (λ (x : MemoryStep R). x .memory) q; sound = sound-after } }
 
   meets-image : (image : List ℕ) {r : R} {e : List ℕ} → Did (onImage refuse image m (step (stateOf m))) r e → Meets say (underImage refuse image b z) r e
   meets-image image d =
@@ -73,7 +73,7 @@ module _ {R : Type 0} (say : R → Answer) {m : List ℕ} {b : State (List ℕ)}
       = chosen (seenStep tailView) (eqb (imageAnswer image) 0) z (stays b no) (step (seen tailView b)) (stays (seen tailView b) no) seen-is refl in
       let q = ap (λ (x : List ℕ). onImage refuse image x (step (stateOf x))) (h .bytes) ∙ on-image (seen tailView b) (h .sound) refuse step image ∙ ap stored c in
       let k = choice (λ (y : Step (List ℕ) R). Sound (seen tailView (y .state))) (eqb (imageAnswer image) 0) z (stays b no) (λ a. sound-after) (λ a. h .sound) in
-      record { answer = ap say (d .result ∙ ap (λ (x : Left R). x .result) q); holds = record { bytes = d .memory ∙ ap (λ (x : Left R). x .memory) q; sound = k } }
+      record { answer = ap say (d .result ∙ ap (λ (x : MemoryStep R). x .result) q); holds = record { bytes = d .memory ∙ ap (λ (x : MemoryStep R). x .memory) q; sound = k } }
 
 -- ---- start
 
@@ -92,8 +92,8 @@ holds-length {b = b} h = ap length (h .bytes) ∙ memory-length (seen tailView b
 -- ---- one call
 
 pub record Told (b : State (List ℕ)) (c : Call) (a : Answer) (e : List ℕ) : Type 0 where
-  pub answer : a ≡ entry b c .answer
-  pub holds : Holds e (entry b c .state)
+  pub answer : a ≡ modelStep b c .answer
+  pub holds : Holds e (modelStep b c .state)
 
 module _ {m : List ℕ} (b : State (List ℕ)) (h : Holds m b) where
   abbrev v : State Tail
@@ -131,7 +131,7 @@ module _ {m : List ℕ} (b : State (List ℕ)) (h : Holds m b) where
       meets-memory gone h noGone (λ s. disconnect tails s n) (disconnect books b n) (disconnect-seen books tails tailView sees b n) (disconnect-sound v (h .sound) n) d
 
   pub one : {e : List ℕ} {c : Call} {a : Answer} → Ran m e c a → Told b c a e
-  unfolding entry
+  unfolding modelStep
   one (ran-start d) = let s = start-holds m (holds-length h) d in record { answer = ap plain (s .0); holds = s .1 }
   one (ran-connect {image} {uid} {gids} u w d) = let t = connect-meets image uid gids u w d in record { answer = t .answer; holds = t .holds }
   one (ran-own {image} {n} {name} d) = let t = own-meets image n name d in record { answer = t .answer; holds = t .holds }
@@ -150,13 +150,13 @@ unfolding answers after
 all b done h = record { answered = refl; holds = h }
 all b (then {c = c} r rs) h =
     let o = one b h r in
-    let a = all (entry b c .state) rs (o .holds) in
+    let a = all (modelStep b c .state) rs (o .holds) in
     record { answered = ap₂ _∷_ (o .answer) (a .answered); holds = a .holds }
 
 -- after a start
 pub started : {m e : List ℕ} {cs : List Call} {given : List Answer} (b : State (List ℕ)) → length m ≡ memoryLength → Run m (starts ∷ cs) given e
     → All b (starts ∷ cs) given e
-unfolding entry answers after
+unfolding modelStep answers after
 started {m} b l (then (ran-start d) rs) =
     let s = start-holds m l d in
     let a = all empty rs (s .1) in

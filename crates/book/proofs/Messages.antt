@@ -16,83 +16,83 @@ use Rattle.header.proofs.Readings.{read-few, read-front, read-append, whole-fit
 use Rattle.stream.specs.Stream.{Verdict, broken, whole}
 use Rattle.stream.specs.Tail.{Tail, finished, isBroken, headEnd, fresh, judge, fitting, goodTail, brokenAt}
 use Rattle.stream.proofs.Pushes.{breaks}
-use Rattle.book.specs.Book.{front, isWhole, size, past, cut, current, books, kept, tailView}
-use Rattle.book.specs.Split.{joined}
-use Rattle.book.specs.Messages.{Message, Messages, Parted}
+use Rattle.book.specs.Book.{firstVerdict, isWhole, size, past, cutOff, current, books, keptTail, tailView}
+use Rattle.book.specs.Split.{joinedPieces}
+use Rattle.book.specs.Messages.{WholeMessage, Messages, Parted}
 use Rattle.book.proofs.Cut.{snoc, begins-whole, whole-begins, whole-append, whole-some, whole-reached, past-few, front-none, cut-step, cut-stops, cut-enough, current-snoc}
 use Rattle.sound.proofs.Numbers.{broken-read}
 
 -- ---- messages one after the other
 
 -- a whole message is followed by the next one
-pub message-then : (m ys : List ℕ) → Message m → 0 < length ys → current (m ++ ys) ≡ current ys
+pub message-then : (m ys : List ℕ) → WholeMessage m → 0 < length ys → current (m ++ ys) ≡ current ys
 message-then m ys w l =
     let x = w .header in
-    let f : front m ≡ whole (take (x .head) m) x = begins-whole m x (record { read = w .read; reached = omega (arith, w .sized) }) in
-    let t : isWhole (front m) ≡ true = ap isWhole f in
-    let s : size (front m) ≡ length m = ap size f ∙ sym (w .sized) in
+    let f : firstVerdict m ≡ whole (take (x .head) m) x = begins-whole m x (record { read = w .read; reached = omega (arith, w .sized) }) in
+    let t : isWhole (firstVerdict m) ≡ true = ap isWhole f in
+    let s : size (firstVerdict m) ≡ length m = ap size f ∙ sym (w .sized) in
     let a = whole-append m t ys in
     let n = length-append m ys in
     let p : past (m ++ ys) ≡ true = rw (a, t, s, lt-ltb (length m) (length (m ++ ys)) (omega arith)) in
     let k : 1 ≤ length (m ++ ys) = omega arith in
     one-less (length (m ++ ys)) refl k p (ap size a ∙ s)
   where
-    one-less : (k : ℕ) → length (m ++ ys) ≡ k → 1 ≤ k → past (m ++ ys) ≡ true → size (front (m ++ ys)) ≡ length m → cut k (m ++ ys) ≡ current ys
+    one-less : (k : ℕ) → length (m ++ ys) ≡ k → 1 ≤ k → past (m ++ ys) ≡ true → size (firstVerdict (m ++ ys)) ≡ length m → cutOff k (m ++ ys) ≡ current ys
     one-less zero e h p s = absurd (omega arith)
     one-less (suc k) e h p s =
-        cut-step k (m ++ ys) p ∙ ap (cut k) (drop-at m ys (size (front (m ++ ys))) (sym s))
+        cut-step k (m ++ ys) p ∙ ap (cutOff k) (drop-at m ys (size (firstVerdict (m ++ ys))) (sym s))
         ∙ cut-enough k (length ys) ys (omega (arith, length-append m ys, some)) (omega arith)
       where
         some : 1 ≤ length m
         some = omega (arith, s, whole-some (m ++ ys) (begun p))
           where
-            begun : past (m ++ ys) ≡ true → isWhole (front (m ++ ys)) ≡ true
-            begun q = both-first (isWhole (front (m ++ ys))) (ltb (size (front (m ++ ys))) (length (m ++ ys))) q
+            begun : past (m ++ ys) ≡ true → isWhole (firstVerdict (m ++ ys)) ≡ true
+            begun q = both-first (isWhole (firstVerdict (m ++ ys))) (ltb (size (firstVerdict (m ++ ys))) (length (m ++ ys))) q
 
 -- however many have come: the current message is that of the bytes behind them
-pub current-behind : (ms : List (List ℕ)) (ys : List ℕ) → Messages ms → 0 < length ys → current (joined ms ++ ys) ≡ current ys
+pub current-behind : (ms : List (List ℕ)) (ys : List ℕ) → Messages ms → 0 < length ys → current (joinedPieces ms ++ ys) ≡ current ys
 current-behind [] ys w l = refl
 current-behind (m ∷ ms) ys w l =
-    ap current (append-assoc m (joined ms) ys)
-    ∙ message-then m (joined ms ++ ys) (w .0) (omega (arith, length-append (joined ms) ys))
+    ap current (append-assoc m (joinedPieces ms) ys)
+    ∙ message-then m (joinedPieces ms ++ ys) (w .0) (omega (arith, length-append (joinedPieces ms) ys))
     ∙ current-behind ms ys (w .1) l
 
 -- and every stream is such: whole messages, and then the current one
 pub record Cut (xs ys : List ℕ) : Type 0 where
   pub messages : List (List ℕ)
   pub are : Messages messages
-  pub bytes : xs ≡ joined messages ++ ys
+  pub bytes : xs ≡ joinedPieces messages ++ ys
 
-first-message : (xs : List ℕ) → isWhole (front xs) ≡ true → Message (take (size (front xs)) xs)
+first-message : (xs : List ℕ) → isWhole (firstVerdict xs) ≡ true → WholeMessage (take (size (firstVerdict xs)) xs)
 first-message xs e =
     let w = whole-begins xs e in
     let x = w .0 in
     let f = whole-fits xs x (w .1 .read) in
-    let s : size (front xs) ≡ x .head + x .body = ap size (begins-whole xs x (w .1)) in
+    let s : size (firstVerdict xs) ≡ x .head + x .body = ap size (begins-whole xs x (w .1)) in
     record {
       header = x;
-      read = read-front (size (front xs)) xs (whole-some xs e) (omega (arith, f .head-is)) ∙ w .1 .read;
-      sized = length-take-le (size (front xs)) xs (whole-reached xs e) ∙ s;
+      read = read-front (size (firstVerdict xs)) xs (whole-some xs e) (omega (arith, f .head-is)) ∙ w .1 .read;
+      sized = length-take-le (size (firstVerdict xs)) xs (whole-reached xs e) ∙ s;
     }
 
-cut-is : (f : ℕ) (xs : List ℕ) → Cut xs (cut f xs)
-unfolding cut
+cut-is : (f : ℕ) (xs : List ℕ) → Cut xs (cutOff f xs)
+unfolding cutOff
 cut-is zero xs = record { messages = []; are = tt; bytes = refl }
-cut-is (suc f) xs = go (past xs) refl (cut-is f (drop (size (front xs)) xs))
+cut-is (suc f) xs = go (past xs) refl (cut-is f (drop (size (firstVerdict xs)) xs))
   where
     n : ℕ
-    n = size (front xs)
+    n = size (firstVerdict xs)
 
-    go : (p : Bool) → past xs ≡ p → Cut (drop n xs) (cut f (drop n xs)) → Cut xs (cut (suc f) xs)
+    go : (p : Bool) → past xs ≡ p → Cut (drop n xs) (cutOff f (drop n xs)) → Cut xs (cutOff (suc f) xs)
     go true e i =
-        let w = both-first (isWhole (front xs)) (ltb n (length xs)) e in
+        let w = both-first (isWhole (firstVerdict xs)) (ltb n (length xs)) e in
         record {
           messages = take n xs ∷ i .messages;
           are = (first-message xs w, i .are);
           bytes =
               sym (take-append-drop n xs) ∙ ap (_++_ (take n xs)) (i .bytes)
-              ∙ sym (append-assoc (take n xs) (joined (i .messages)) (cut f (drop n xs)))
-              ∙ ap (_++_ (take n xs ++ joined (i .messages))) (sym (cut-step f xs e));
+              ∙ sym (append-assoc (take n xs) (joinedPieces (i .messages)) (cutOff f (drop n xs)))
+              ∙ ap (_++_ (take n xs ++ joinedPieces (i .messages))) (sym (cut-step f xs e));
         }
     go false e i = record { messages = []; are = tt; bytes = sym (cut-stops (suc f) xs e) }
 
@@ -105,71 +105,71 @@ current-first ys p = cut-stops (length ys) ys p
 
 -- ---- what the guard keeps of them
 
-cut-done : (f : ℕ) (xs : List ℕ) → length xs ≤ f → past (cut f xs) ≡ false
-unfolding cut
+cut-done : (f : ℕ) (xs : List ℕ) → length xs ≤ f → past (cutOff f xs) ≡ false
+unfolding cutOff
 cut-done zero xs l = past-few xs (omega arith)
-cut-done (suc f) xs l = go (past xs) refl (cut-done f (drop (size (front xs)) xs))
+cut-done (suc f) xs l = go (past xs) refl (cut-done f (drop (size (firstVerdict xs)) xs))
   where
-    go : (p : Bool) → past xs ≡ p → (length (drop (size (front xs)) xs) ≤ f → past (cut f (drop (size (front xs)) xs)) ≡ false) → past (cut (suc f) xs) ≡ false
+    go : (p : Bool) → past xs ≡ p → (length (drop (size (firstVerdict xs)) xs) ≤ f → past (cutOff f (drop (size (firstVerdict xs)) xs)) ≡ false) → past (cutOff (suc f) xs) ≡ false
     go true e ih =
-        let w = whole-some xs (both-first (isWhole (front xs)) (ltb (size (front xs)) (length xs)) e) in
-        rw (cut-step f xs e) (ih (omega (arith, length-drop (size (front xs)) xs)))
+        let w = whole-some xs (both-first (isWhole (firstVerdict xs)) (ltb (size (firstVerdict xs)) (length xs)) e) in
+        rw (cut-step f xs e) (ih (omega (arith, length-drop (size (firstVerdict xs)) xs)))
     go false e ih = rw (cut-stops (suc f) xs e) e
 
 -- bytes that are whole and not past their first message are one message
-only-message : (ys : List ℕ) → isWhole (front ys) ≡ true → past ys ≡ false → Message ys
+only-message : (ys : List ℕ) → isWhole (firstVerdict ys) ≡ true → past ys ≡ false → WholeMessage ys
 only-message ys e p =
-    let l = ltb-false (size (front ys)) (length ys) (rw e at p) in
-    subst Message (take-all (size (front ys)) ys l) (first-message ys e)
+    let l = ltb-false (size (firstVerdict ys)) (length ys) (rw e at p) in
+    subst WholeMessage (take-all (size (firstVerdict ys)) ys l) (first-message ys e)
 
-messages-snoc : (ms : List (List ℕ)) (m : List ℕ) → Messages ms → Message m → Messages (ms ++ (m ∷ []))
+messages-snoc : (ms : List (List ℕ)) (m : List ℕ) → Messages ms → WholeMessage m → Messages (ms ++ (m ∷ []))
 messages-snoc [] m w v = (v, tt)
 messages-snoc (k ∷ ms) m w v = (w .0, messages-snoc ms m (w .1) v)
 
-joined-snoc : (ms : List (List ℕ)) (m : List ℕ) → joined (ms ++ (m ∷ [])) ≡ joined ms ++ m
+joined-snoc : (ms : List (List ℕ)) (m : List ℕ) → joinedPieces (ms ++ (m ∷ [])) ≡ joinedPieces ms ++ m
 joined-snoc [] m = append-nil m
-joined-snoc (k ∷ ms) m = ap (_++_ k) (joined-snoc ms m) ∙ sym (append-assoc k (joined ms) m)
+joined-snoc (k ∷ ms) m = ap (_++_ k) (joined-snoc ms m) ∙ sym (append-assoc k (joinedPieces ms) m)
 
 -- every stream is whole messages, and then one that is not whole
 pub parted : (xs : List ℕ) → Parted xs
-parted xs = go (isWhole (front (current xs))) refl (current-cut xs)
+parted xs = go (isWhole (firstVerdict (current xs))) refl (current-cut xs)
   where
-    go : (w : Bool) → isWhole (front (current xs)) ≡ w → Cut xs (current xs) → Parted xs
+    go : (w : Bool) → isWhole (firstVerdict (current xs)) ≡ w → Cut xs (current xs) → Parted xs
     go true e c =
         record {
           messages = c .messages ++ (current xs ∷ []);
           present = [];
           are = messages-snoc (c .messages) (current xs) (c .are) (only-message (current xs) e (cut-done (length xs) xs (omega arith)));
           unfinished = ap isWhole front-none;
-          bytes = c .bytes ∙ sym (joined-snoc (c .messages) (current xs)) ∙ sym (append-nil (joined (c .messages ++ (current xs ∷ []))));
+          bytes = c .bytes ∙ sym (joined-snoc (c .messages) (current xs)) ∙ sym (append-nil (joinedPieces (c .messages ++ (current xs ∷ []))));
         }
     go false e c = record { messages = c .messages; present = current xs; are = c .are; unfinished = e; bytes = c .bytes }
 
-message-whole : (m : List ℕ) → Message m → isWhole (front m) ≡ true
+message-whole : (m : List ℕ) → WholeMessage m → isWhole (firstVerdict m) ≡ true
 message-whole m w = ap isWhole (begins-whole m (w .header) (record { read = w .read; reached = omega (arith, w .sized) }))
 
-message-alone : (m : List ℕ) → Message m → past m ≡ false
+message-alone : (m : List ℕ) → WholeMessage m → past m ≡ false
 message-alone m w =
-    let s : size (front m) ≡ length m = ap size (begins-whole m (w .header) (record { read = w .read; reached = omega (arith, w .sized) })) ∙ sym (w .sized) in
+    let s : size (firstVerdict m) ≡ length m = ap size (begins-whole m (w .header) (record { read = w .read; reached = omega (arith, w .sized) })) ∙ sym (w .sized) in
     rw (message-whole m w, s, le-ltb (length m) (length m) (omega arith))
 
 -- and of that one the guard has the count and the head, however the stream is parted so
-pub tail-behind : (ms : List (List ℕ)) (ys : List ℕ) → Messages ms → isWhole (front ys) ≡ false → tailView (joined ms ++ ys) ≡ kept ys
+pub tail-behind : (ms : List (List ℕ)) (ys : List ℕ) → Messages ms → isWhole (firstVerdict ys) ≡ false → tailView (joinedPieces ms ++ ys) ≡ keptTail ys
 tail-behind [] ys w u = let e = current-first ys (rw u) in rw (e, u)
-tail-behind (m ∷ ms) ys w u = go (joined ms ++ ys) refl (tail-behind ms ys (w .1) u)
+tail-behind (m ∷ ms) ys w u = go (joinedPieces ms ++ ys) refl (tail-behind ms ys (w .1) u)
   where
-    none : (zs : List ℕ) → joined ms ++ zs ≡ [] → zs ≡ []
+    none : (zs : List ℕ) → joinedPieces ms ++ zs ≡ [] → zs ≡ []
     none [] e = refl
-    none (b ∷ zs) e = let l = length-append (joined ms) (b ∷ zs) in let n : length (joined ms ++ (b ∷ zs)) ≡ 0 = ap length e in absurd (omega arith)
+    none (b ∷ zs) e = let l = length-append (joinedPieces ms) (b ∷ zs) in let n : length (joinedPieces ms ++ (b ∷ zs)) ≡ 0 = ap length e in absurd (omega arith)
 
-    go : (zs : List ℕ) → joined ms ++ ys ≡ zs → tailView (joined ms ++ ys) ≡ kept ys → tailView (joined (m ∷ ms) ++ ys) ≡ kept ys
+    go : (zs : List ℕ) → joinedPieces ms ++ ys ≡ zs → tailView (joinedPieces ms ++ ys) ≡ keptTail ys → tailView (joinedPieces (m ∷ ms) ++ ys) ≡ keptTail ys
     go [] e ih =
         let c : current m ≡ m = current-first m (message-alone m (w .0)) in
-        ap tailView (append-assoc m (joined ms) ys ∙ ap (_++_ m) e ∙ append-nil m) ∙ rw (c, message-whole m (w .0)) (sym (ap kept (none ys e)))
+        ap tailView (append-assoc m (joinedPieces ms) ys ∙ ap (_++_ m) e ∙ append-nil m) ∙ rw (c, message-whole m (w .0)) (sym (ap keptTail (none ys e)))
     go (b ∷ zs) e ih =
-        let n : length (joined ms ++ ys) ≡ length (b ∷ zs) = ap length e in
-        ap tailView (append-assoc m (joined ms) ys)
-        ∙ ap (λ (c : List ℕ). cond (isWhole (front c)) fresh (kept c)) (message-then m (joined ms ++ ys) (w .0) (omega arith))
+        let n : length (joinedPieces ms ++ ys) ≡ length (b ∷ zs) = ap length e in
+        ap tailView (append-assoc m (joinedPieces ms) ys)
+        ∙ ap (λ (c : List ℕ). cond (isWhole (firstVerdict c)) fresh (keptTail c)) (message-then m (joinedPieces ms ++ ys) (w .0) (omega arith))
         ∙ ih
 
 -- ---- where a head breaks
@@ -177,12 +177,12 @@ tail-behind (m ∷ ms) ys w u = go (joined ms ++ ys) refl (tail-behind ms ys (w 
 -- an open stream that a byte breaks has just so many bytes of the broken message: 16 for 1 to 6, and the head's length for 7 to 9
 pub breaks-where : (xs : List ℕ) (b a : ℕ) → books .closed xs ≡ false → books .judge (snoc xs b) ≡ broken a
     → length (current (snoc xs b)) ≡ brokenAt a (current (snoc xs b))
-breaks-where xs b a c j = subst (λ (y : List ℕ). length y ≡ brokenAt a y) (sym (current-snoc xs b)) (go (isWhole (front (current xs))) refl (ap front (sym (current-snoc xs b)) ∙ j))
+breaks-where xs b a c j = subst (λ (y : List ℕ). length y ≡ brokenAt a y) (sym (current-snoc xs b)) (go (isWhole (firstVerdict (current xs))) refl (ap firstVerdict (sym (current-snoc xs b)) ∙ j))
   where
     h : List ℕ
     h = current xs
 
-    read : (y : List ℕ) → front y ≡ broken a → readHeader y ≡ Broken a
+    read : (y : List ℕ) → firstVerdict y ≡ broken a → readHeader y ≡ Broken a
     read y q = broken-read (length y) y a q
 
     short : readHeader (snoc h b) ≡ Broken a → (r : Reading) → readHeader h ≡ r → readHeader h ≡ Short
@@ -194,7 +194,7 @@ breaks-where xs b a c j = subst (λ (y : List ℕ). length y ≡ brokenAt a y) (
         let z : _≡_ {A = ℕ} 0 1 = cc in
         absurd (omega arith)
 
-    go : (w : Bool) → isWhole (front h) ≡ w → front (cond w (b ∷ []) (snoc h b)) ≡ broken a
+    go : (w : Bool) → isWhole (firstVerdict h) ≡ w → firstVerdict (cond w (b ∷ []) (snoc h b)) ≡ broken a
         → length (cond w (b ∷ []) (snoc h b)) ≡ brokenAt a (cond w (b ∷ []) (snoc h b))
     go true e q = breaks [] b (read-few [] (omega arith)) a (read (b ∷ []) q)
     go false e q = let r = read (snoc h b) q in breaks h b (short r (readHeader h) refl) a r

@@ -15,7 +15,7 @@ use Rattle.rules.proofs.Tests.{choice}
 use Rattle.sound.proofs.Numbers.{broken-number}
 use Rattle.sound.proofs.Answers.{connect-modest, own-modest, release-modest, piece-modest, disconnect-modest}
 use Rattle.book.specs.Book.{current, books}
-use Rattle.book.specs.Lists.{Call, starts, connects, claims, releases, offers, leaves, entry, answers, numberOf, Never51}
+use Rattle.book.specs.Lists.{Call, starts, connects, claims, releases, offers, leaves, modelStep, answers, numberOf, Never51}
 use Rattle.book.proofs.Images.{image-refuses}
 
 pub book-faults : (xs : List ℕ) (a : ℕ) → books .judge xs ≡ broken a → (1 ≤ a) × (a ≤ 9)
@@ -24,8 +24,8 @@ book-faults xs a e = broken-number (length (current xs)) (current xs) a e
 few : {a : ℕ} → a ≤ 40 → a ≡ 51 → ⊥
 few h e = omega arith
 
-never : (b : State (List ℕ)) (c : Call) → numberOf (entry b c .answer) ≡ 51 → ⊥
-unfolding entry
+never : (b : State (List ℕ)) (c : Call) → numberOf (modelStep b c .answer) ≡ 51 → ⊥
+unfolding modelStep
 never b starts = λ e. omega arith
 never b (connects image uid gids) =
     choice (λ (z : Step (List ℕ) Connected). z .result .answer ≡ 51 → ⊥) (eqb (imageAnswer image) 0) (connect books image b uid gids)
@@ -42,4 +42,4 @@ never b (leaves n) = few (disconnect-modest books b n .most)
 pub nevers : (b : State (List ℕ)) (cs : List Call) → Never51 (answers b cs)
 unfolding answers
 nevers b [] = tt
-nevers b (c ∷ cs) = (never b c, nevers (entry b c .state) cs)
+nevers b (c ∷ cs) = (never b c, nevers (modelStep b c .state) cs)

@@ -9,7 +9,7 @@ use Rattle.header.specs.declared.Header.{Header}
 use Rattle.policy.specs.Matching.{fieldOf}
 use Rattle.stream.specs.Tail.{Tail, fresh}
 use Rattle.rules.specs.State.{Slot, free, peer, Peer, State, isPeer, firstBy, putSlot, withStream}
-use Rattle.rules.specs.Addresses.{Address, absent, bus, slot, unknown, resolve}
+use Rattle.rules.specs.Addresses.{Address, undirected, bus, slot, unknown, resolve}
 use Rattle.rules.specs.Judge.{isReply, judged}
 use Rattle.rules.specs.Calls.{Step, slotAt}
 use Rattle.rules.specs.declared.Taken.{Taken}
@@ -45,7 +45,7 @@ module _ {A B : Type 0} (f : A → B) where
       ap (awaited (seen f s .slots) n (x .«reply_serial»)) (resolve-seen f s (fieldOf h (x .destination))) ∙ go (resolve (s .slots) (fieldOf h (x .destination)))
     where
       go : (a : Address) → awaited (seen f s .slots) n (x .«reply_serial») a ≡ awaited (s .slots) n (x .«reply_serial») a
-      go absent = refl
+      go undirected = refl
       go bus = refl
       go unknown = refl
       go (slot j) = ap (isWaiting n (x .«reply_serial»)) (slot-seen f s j) ∙ waiting-seen n (x .«reply_serial») (slotAt s j)

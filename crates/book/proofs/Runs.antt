@@ -11,18 +11,18 @@ use Rattle.rules.proofs.View.{slot-seen}
 use Rattle.memory.specs.Layout.{memoryLength}
 use Rattle.memory.specs.Encoding.{stateOf}
 use Rattle.memory.proofs.Sound.{state-again}
-use Rattle.memory.specs.Calls.{Left, Did, startOn, connectOn, ownOn, releaseOn, pieceOn, disconnectOn}
+use Rattle.memory.specs.Calls.{MemoryStep, Did, startOn, connectOn, ownOn, releaseOn, pieceOn, disconnectOn}
 use Rattle.book.specs.Book.{tailView}
-use Rattle.book.specs.Lists.{Call, starts, connects, claims, releases, offers, leaves, Answer, plain, connected, taken, gone, after, Fits, AllFit}
+use Rattle.book.specs.Lists.{Call, starts, connects, claims, releases, offers, leaves, Answer, plain, connected, taken, gone, after, FitsTypes, AllFit}
 use Rattle.book.specs.Lists.{Ran, ran-start, ran-connect, ran-own, ran-release, ran-piece, ran-leave, Run, done, then, Reached, since-start, since-empty}
 use Rattle.book.proofs.List.{Holds, empty-holds, all, started}
 
 -- ---- there is a run
 
-itself : {R : Type 0} (o : Left R) → Did o (o .result) (o .memory)
+itself : {R : Type 0} (o : MemoryStep R) → Did o (o .result) (o .memory)
 itself o = record { result = refl; memory = refl }
 
-pub call-exists : (m : List ℕ) (c : Call) → Fits c → (a : Answer) × (e : List ℕ) × Ran m e c a
+pub call-exists : (m : List ℕ) (c : Call) → FitsTypes c → (a : Answer) × (e : List ℕ) × Ran m e c a
 call-exists m starts f = (plain (startOn m .result), startOn m .memory, ran-start (itself (startOn m)))
 call-exists m (connects image uid gids) f =
     let o = connectOn image m uid gids in

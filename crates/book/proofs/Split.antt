@@ -20,14 +20,14 @@ use Rattle.memory.specs.Layout.{memoryLength}
 use Rattle.memory.specs.Encoding.{memoryOf, stateOf}
 use Rattle.memory.specs.Good.{good}
 use Rattle.memory.specs.Sound.{Sound}
-use Rattle.memory.specs.Calls.{Left, stored, kept, pieceOn}
+use Rattle.memory.specs.Calls.{MemoryStep, stored, unchanged, pieceOn}
 use Rattle.memory.proofs.Good.{good-is, good-sound}
 use Rattle.memory.proofs.Octets.{every-below}
 use Rattle.sound.proofs.Keep.{piece-sound}
 use Rattle.book.specs.Book.{tailView}
 use Rattle.book.specs.Lists.{Call, starts, offers, Answer, plain, connected, taken, gone, underImage, Below, after, Ran, ran-start, ran-connect, ran-own, ran-release, ran-piece, ran-leave, Run, done, then}
 use Rattle.rules.specs.Places.{isStop}
-use Rattle.book.specs.Split.{said, Offers, ends, again, OffersAll, nothing, next, joined}
+use Rattle.book.specs.Split.{said, Offers, ends, again, OffersAll, nothing, next, joinedPieces}
 use Rattle.book.proofs.Images.{Refusal, image-refuses}
 use Rattle.book.proofs.List.{on-image, Holds, started}
 use Rattle.book.proofs.Bytewise.{Heard, Refuses, Laws, idle-refuses, refuses, bytewise, bytewise-none, bytewise-append, call-first, call-last}
@@ -100,43 +100,43 @@ module _ (image : List ℕ) (n : ℕ) where
       → Comes vs e (bytewise step s p)
   comes s g b q (ends {p = p} {r = r} d o) =
       let w = ap (λ (x : List ℕ). pieceOn image x n p) q ∙ piece-on s g p in
-      let c : r ≡ step s p .result = d .result ∙ ap (λ (x : Left Taken). x .result) w in
+      let c : r ≡ step s p .result = d .result ∙ ap (λ (x : MemoryStep Taken). x .result) w in
       let f = call-last step laws s p (rw c at o) in
-      rw f (record { said = ap said c; bytes = d .memory ∙ ap (λ (x : Left Taken). x .memory) w; sound = step-sound s g p b })
+      rw f (record { said = ap said c; bytes = d .memory ∙ ap (λ (x : MemoryStep Taken). x .memory) w; sound = step-sound s g p b })
   comes s g b q (again {p = p} {r = r} {vs = vs} d o rest) =
       let w = ap (λ (x : List ℕ). pieceOn image x n p) q ∙ piece-on s g p in
-      let c : r ≡ step s p .result = d .result ∙ ap (λ (x : Left Taken). x .result) w in
-      let i = comes (step s p .state) (step-sound s g p b) (below-drop (r .taken) p b) (d .memory ∙ ap (λ (x : Left Taken). x .memory) w) rest in
+      let c : r ≡ step s p .result = d .result ∙ ap (λ (x : MemoryStep Taken). x .result) w in
+      let i = comes (step s p .state) (step-sound s g p b) (below-drop (r .taken) p b) (d .memory ∙ ap (λ (x : MemoryStep Taken). x .memory) w) rest in
       let j : Comes vs _ (bytewise step (step s p .state) (drop (step s p .result .taken) p)) = rw c at i in
       rw (call-first step laws s p) (record { said = ap₂ (λ (x : Taken) (l : List Judgement). said x ++ l) c (j .said); bytes = j .bytes; sound = j .sound })
 
-  comes-all : {m e : List ℕ} {ps : List (List ℕ)} {vs : List Judgement} (s : State Tail) → Sound s → Below 256 (joined ps) → m ≡ memoryOf s
+  comes-all : {m e : List ℕ} {ps : List (List ℕ)} {vs : List Judgement} (s : State Tail) → Sound s → Below 256 (joinedPieces ps) → m ≡ memoryOf s
       → OffersAll image n m e ps vs
-      → Comes vs e (bytewise step s (joined ps))
+      → Comes vs e (bytewise step s (joinedPieces ps))
   comes-all s g b q nothing = rw (bytewise-none step s) (record { said = refl; bytes = q; sound = g })
   comes-all s g b q (next {p = p} {ps = ps} o os) =
-      let a = comes s g (below-left p (joined ps) b) q o in
-      let z = comes-all (bytewise step s p .state) (a .sound) (below-right p (joined ps) b) (a .bytes) os in
-      rw (bytewise-append step s p (joined ps)) (record { said = ap₂ _++_ (a .said) (z .said); bytes = z .bytes; sound = z .sound })
+      let a = comes s g (below-left p (joinedPieces ps) b) q o in
+      let z = comes-all (bytewise step s p .state) (a .sound) (below-right p (joinedPieces ps) b) (a .bytes) os in
+      rw (bytewise-append step s p (joinedPieces ps)) (record { said = ap₂ _++_ (a .said) (z .said); bytes = z .bytes; sound = z .sound })
 
   -- ---- memory that is not good is refused, and left as it is
 
-  piece-bad : (m p : List ℕ) → good m ≡ false → (a : ℕ) × (isStop a ≡ true) × (said (noPiece a) ≡ []) × (pieceOn image m n p ≡ kept m (noPiece a))
+  piece-bad : (m p : List ℕ) → good m ≡ false → (a : ℕ) × (isStop a ≡ true) × (said (noPiece a) ≡ []) × (pieceOn image m n p ≡ unchanged m (noPiece a))
   unfolding pieceOn
   piece-bad m p g = rw g (go (eqb (imageAnswer image) 0) (image-refuses image))
     where
       go : (b : Bool) → (b ≡ false → Refusal (imageAnswer image))
-          → (a : ℕ) × (isStop a ≡ true) × (said (noPiece a) ≡ []) × (cond b (kept m (noPiece 51)) (kept m (noPiece (imageAnswer image))) ≡ kept m (noPiece a))
+          → (a : ℕ) × (isStop a ≡ true) × (said (noPiece a) ≡ []) × (cond b (unchanged m (noPiece 51)) (unchanged m (noPiece (imageAnswer image))) ≡ unchanged m (noPiece a))
       go true f = (51, refl, refl, refl)
       go false f = (imageAnswer image, f refl .stops, no-verdict (f refl), refl)
 
   bad : {e m p : List ℕ} {vs : List Judgement} → good m ≡ false → Offers image n e m p vs → (vs ≡ []) × (e ≡ m)
   bad g (ends {m = m} {p = p} d o) =
       let w = piece-bad m p g in
-      (ap said (d .result ∙ ap (λ (x : Left Taken). x .result) (w .3)) ∙ w .2, d .memory ∙ ap (λ (x : Left Taken). x .memory) (w .3))
+      (ap said (d .result ∙ ap (λ (x : MemoryStep Taken). x .result) (w .3)) ∙ w .2, d .memory ∙ ap (λ (x : MemoryStep Taken). x .memory) (w .3))
   bad g (again {m = m} {p = p} {r = r} d o rest) =
       let w = piece-bad m p g in
-      let c : r ≡ noPiece (w .0) = d .result ∙ ap (λ (x : Left Taken). x .result) (w .3) in
+      let c : r ≡ noPiece (w .0) = d .result ∙ ap (λ (x : MemoryStep Taken). x .result) (w .3) in
       absurd (false≢true (rw (c, w .1) at o))
 
   bad-all : {m e : List ℕ} {ps : List (List ℕ)} {vs : List Judgement} → good m ≡ false → OffersAll image n m e ps vs → (vs ≡ []) × (e ≡ m)
@@ -147,8 +147,8 @@ module _ (image : List ℕ) (n : ℕ) where
       (ap₂ _++_ (a .0) (z .0), z .1 ∙ a .1)
 
   -- THE CLAIM: over any memory, good or not, and any image
-  pub split-claim : {m e d : List ℕ} {ps : List (List ℕ)} {vs ws : List Judgement} → Below 256 m → Below 256 (joined ps)
-      → Offers image n e m (joined ps) vs
+  pub split-claim : {m e d : List ℕ} {ps : List (List ℕ)} {vs ws : List Judgement} → Below 256 m → Below 256 (joinedPieces ps)
+      → Offers image n e m (joinedPieces ps) vs
       → OffersAll image n m d ps ws
       → (vs ≡ ws) × (e ≡ d)
   split-claim {m} {e} {d} {vs = vs} {ws = ws} bm b o os = go (good m) refl
@@ -166,8 +166,8 @@ module _ (image : List ℕ) (n : ℕ) where
           (a .0 ∙ sym (z .0), a .1 ∙ sym (z .1))
 
   -- the same from memory that holds what the model does
-  held-split : {m e d : List ℕ} {ps : List (List ℕ)} {vs ws : List Judgement} (b : State (List ℕ)) → Holds m b → Below 256 (joined ps)
-      → Offers image n e m (joined ps) vs
+  held-split : {m e d : List ℕ} {ps : List (List ℕ)} {vs ws : List Judgement} (b : State (List ℕ)) → Holds m b → Below 256 (joinedPieces ps)
+      → Offers image n e m (joinedPieces ps) vs
       → OffersAll image n m d ps ws
       → (vs ≡ ws) × (e ≡ d)
   held-split b h w o os =
@@ -195,8 +195,8 @@ same-run (then {cs = cs} r rs) (then {e = e} {rest = ys} t ts) =
 -- THE CLAIM over lists: two lists alike but for one piece, offered whole in one and in consecutive parts in the other, over any two memories. All calls
 -- answer alike, the verdicts are the same in the same order, and the same bytes are left.
 pub lists-alike : {m k d₁ d₂ e₁ e₂ f₁ f₂ : List ℕ} {before later : List Call} {as₁ as₂ bs₁ bs₂ : List Answer} {ps : List (List ℕ)} {vs ws : List Judgement}
-    (image : List ℕ) (n : ℕ) → Below 256 (joined ps) → length m ≡ memoryLength → length k ≡ memoryLength
-    → Run m (starts ∷ before) as₁ d₁ → Offers image n e₁ d₁ (joined ps) vs → Run e₁ later bs₁ f₁
+    (image : List ℕ) (n : ℕ) → Below 256 (joinedPieces ps) → length m ≡ memoryLength → length k ≡ memoryLength
+    → Run m (starts ∷ before) as₁ d₁ → Offers image n e₁ d₁ (joinedPieces ps) vs → Run e₁ later bs₁ f₁
     → Run k (starts ∷ before) as₂ d₂ → OffersAll image n d₂ e₂ ps ws → Run e₂ later bs₂ f₂
     → (as₁ ≡ as₂) × (vs ≡ ws) × (bs₁ ≡ bs₂) × (f₁ ≡ f₂)
 lists-alike {e₂ = e₂} {f₂ = f₂} {later = later} {bs₂ = bs₂} {ps = ps} {ws = ws} image n w l₁ l₂ r₁ o t₁ r₂ os t₂ =

@@ -19,7 +19,7 @@ use Rattle.stream.specs.Stream.{Verdict, more, broken, whole}
 use Rattle.stream.specs.Tail.{finished, isBroken, headEnd, fresh, push, judge, closed, tails}
 use Rattle.stream.proofs.Good.{end-is, fresh-more}
 use Rattle.rules.proofs.Seen.{Sees}
-use Rattle.book.specs.Book.{front, isWhole, current, books, kept, tailView}
+use Rattle.book.specs.Book.{firstVerdict, isWhole, current, books, keptTail, tailView}
 use Rattle.book.proofs.Cut.{snoc, length-snoc, current-snoc, current-none}
 
 -- ---- the bytes kept say all
@@ -41,7 +41,7 @@ read-kept c = go (decLt (length c) 16)
     go (yes h) = ap readHeader (take-all (headEnd c) c (omega (arith, end-low c)))
     go (no h) = rw (end-is c (omega arith)) (read-front (headLength c) c (head-low c) (omega arith))
 
-judge-kept : (c : List ℕ) → judge (kept c) ≡ front c
+judge-kept : (c : List ℕ) → judge (keptTail c) ≡ firstVerdict c
 judge-kept c = ap (finished (length c) (take (headEnd c) c)) (read-kept c) ∙ go (readHeader c) refl
   where
     go : (r : Reading) → readHeader c ≡ r → finished (length c) (take (headEnd c) c) r ≡ finished (length c) c r
@@ -80,30 +80,30 @@ head-kept c b = go (decLt (length c) 16)
         let e′ : headEnd (snoc c b) ≡ headLength c = end-is (snoc c b) (omega (arith, length-snoc c b)) ∙ head-append c (b ∷ []) l in
         rw (e, e′) (far l (headLength c) refl (decLt (length c) (headLength c)))
 
-push-kept : (c : List ℕ) (b : ℕ) → push (kept c) b ≡ kept (snoc c b)
+push-kept : (c : List ℕ) (b : ℕ) → push (keptTail c) b ≡ keptTail (snoc c b)
 push-kept c b =
     let n = sym (length-snoc c b) in
     let h = head-kept c b in
     λ i. record { taken = n i; head = h i }
 
 -- the first byte of a message
-push-first : (b : ℕ) → push fresh b ≡ kept (b ∷ [])
+push-first : (b : ℕ) → push fresh b ≡ keptTail (b ∷ [])
 push-first b = push-kept [] b
 
-push-view : (xs : List ℕ) (b : ℕ) → push (tailView xs) b ≡ kept (current (snoc xs b))
-push-view xs b = go (isWhole (front (current xs))) ∙ ap kept (sym (current-snoc xs b))
+push-view : (xs : List ℕ) (b : ℕ) → push (tailView xs) b ≡ keptTail (current (snoc xs b))
+push-view xs b = go (isWhole (firstVerdict (current xs))) ∙ ap keptTail (sym (current-snoc xs b))
   where
-    go : (w : Bool) → push (cond w fresh (kept (current xs))) b ≡ kept (cond w (b ∷ []) (snoc (current xs) b))
+    go : (w : Bool) → push (cond w fresh (keptTail (current xs))) b ≡ keptTail (cond w (b ∷ []) (snoc (current xs) b))
     go true = push-first b
     go false = push-kept (current xs) b
 
 -- ---- the view
 
-view-unless : (xs : List ℕ) (v : Verdict) → isWhole v ≡ false → front (current xs) ≡ v → kept (current xs) ≡ tailView xs
+view-unless : (xs : List ℕ) (v : Verdict) → isWhole v ≡ false → firstVerdict (current xs) ≡ v → keptTail (current xs) ≡ tailView xs
 view-unless xs v n e = rw (e, n)
 
 -- a broken stream is kept as it is
-pub judge-broken : (xs : List ℕ) (a : ℕ) → front (current xs) ≡ broken a → judge (tailView xs) ≡ broken a
+pub judge-broken : (xs : List ℕ) (a : ℕ) → firstVerdict (current xs) ≡ broken a → judge (tailView xs) ≡ broken a
 judge-broken xs a e = ap judge (sym (view-unless xs (broken a) refl e)) ∙ judge-kept (current xs) ∙ e
 
 whole-open : (v : Verdict) → isWhole v ≡ true → isBroken v ≡ false
@@ -112,28 +112,28 @@ whole-open (broken a) e = absurd (false≢true e)
 whole-open (whole h x) e = refl
 
 module _ (xs : List ℕ) where
-  closed-view : (w : Bool) → isWhole (front (current xs)) ≡ w → closed (cond w fresh (kept (current xs))) ≡ isBroken (front (current xs))
-  closed-view true e = ap isBroken fresh-more ∙ sym (whole-open (front (current xs)) e)
+  closed-view : (w : Bool) → isWhole (firstVerdict (current xs)) ≡ w → closed (cond w fresh (keptTail (current xs))) ≡ isBroken (firstVerdict (current xs))
+  closed-view true e = ap isBroken fresh-more ∙ sym (whole-open (firstVerdict (current xs)) e)
   closed-view false e = ap isBroken (judge-kept (current xs))
 
-  count-view : (w : Bool) → cond w fresh (kept (current xs)) .taken ≡ cond w 0 (length (current xs))
+  count-view : (w : Bool) → cond w fresh (keptTail (current xs)) .taken ≡ cond w 0 (length (current xs))
   count-view true = refl
   count-view false = refl
 
 fresh-view : fresh ≡ tailView []
-fresh-view = go (isWhole (front (current []))) ∙ refl
+fresh-view = go (isWhole (firstVerdict (current []))) ∙ refl
   where
-    go : (w : Bool) → fresh ≡ cond w fresh (kept (current []))
+    go : (w : Bool) → fresh ≡ cond w fresh (keptTail (current []))
     go true = refl
-    go false = sym (ap kept current-none)
+    go false = sym (ap keptTail current-none)
 
 -- the guard's streams answer as the model's do, whatever bytes have come
 pub sees : Sees books tails tailView
 sees =
     record {
       fresh = fresh-view;
-      closed = λ xs. closed-view xs (isWhole (front (current xs))) refl;
-      count = λ xs. count-view xs (isWhole (front (current xs)));
+      closed = λ xs. closed-view xs (isWhole (firstVerdict (current xs))) refl;
+      count = λ xs. count-view xs (isWhole (firstVerdict (current xs)));
       judge = λ xs b. ap judge (push-view xs b) ∙ judge-kept (current (snoc xs b));
       more = λ xs b e. push-view xs b ∙ view-unless (snoc xs b) more refl e;
       broken = λ xs b a e. push-view xs b ∙ view-unless (snoc xs b) (broken a) refl e;

@@ -9,8 +9,8 @@ use Rattle.stream.specs.Stream.{Verdict, more, broken, whole, Streams}
 use Rattle.stream.specs.Tail.{Tail, verdict, isBroken, headEnd, fresh}
 
 -- the verdict on the first message of xs, of which xs may have all bytes and more (rule 11.2)
-abbrev pub front : List ℕ → Verdict
-front xs = verdict (length xs) xs
+abbrev pub firstVerdict : List ℕ → Verdict
+firstVerdict xs = verdict (length xs) xs
 
 abbrev pub isWhole : Verdict → Bool
 isWhole more = false
@@ -25,16 +25,16 @@ size (whole h x) = x .head + x .body
 
 -- xs goes on past its first message
 abbrev pub past : List ℕ → Bool
-past xs = isWhole (front xs) && ltb (size (front xs)) (length xs)
+past xs = isWhole (firstVerdict xs) && ltb (size (firstVerdict xs)) (length xs)
 
 -- the bytes of the message that the last byte of xs is in: whole messages are cut off from the front, at most n of them (rule 11.2)
-unfoldable pub cut : ℕ → List ℕ → List ℕ
-cut zero xs = xs
-cut (suc n) xs = elim (past xs) [ true ↦ cut n (drop (size (front xs)) xs) | false ↦ xs ]
+unfoldable pub cutOff : ℕ → List ℕ → List ℕ
+cutOff zero xs = xs
+cutOff (suc n) xs = elim (past xs) [ true ↦ cutOff n (drop (size (firstVerdict xs)) xs) | false ↦ xs ]
 
 -- there are no more messages than bytes, so that the cut is whole (rule 11.2)
 abbrev pub current : List ℕ → List ℕ
-current xs = cut (length xs) xs
+current xs = cutOff (length xs) xs
 
 -- nothing is forgotten: a message that is whole stays in the stream (rule 11.1)
 abbrev pub books : Streams (List ℕ)
@@ -42,18 +42,18 @@ books =
     record {
       fresh = [];
       push = λ xs b. xs ++ (b ∷ []);
-      judge = λ xs. front (current xs);
+      judge = λ xs. firstVerdict (current xs);
       next = λ xs. xs;
-      closed = λ xs. isBroken (front (current xs));
-      count = λ xs. cond (isWhole (front (current xs))) 0 (length (current xs));
+      closed = λ xs. isBroken (firstVerdict (current xs));
+      count = λ xs. cond (isWhole (firstVerdict (current xs))) 0 (length (current xs));
     }
 
 -- ---- the model's streams, as the guard keeps them
 
 -- the unfinished or broken message: how many of its bytes have come, and those of its head
-abbrev pub kept : List ℕ → Tail
-kept c = record { taken = length c; head = take (headEnd c) c }
+abbrev pub keptTail : List ℕ → Tail
+keptTail c = record { taken = length c; head = take (headEnd c) c }
 
 -- nothing is kept of a message that is whole (rules 9.4 and 12.1)
 abbrev pub tailView : List ℕ → Tail
-tailView xs = cond (isWhole (front (current xs))) fresh (kept (current xs))
+tailView xs = cond (isWhole (firstVerdict (current xs))) fresh (keptTail (current xs))

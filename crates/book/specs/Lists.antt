@@ -36,35 +36,35 @@ pub data Answer : Type 0 where
 -- ---- the model
 
 -- what the model says and holds after a call (rule 11.1)
-pub record Entry : Type 0 where
+pub record ModelStep : Type 0 where
   pub answer : Answer
   pub state : State (List ℕ)
 
-abbrev pub told : {R : Type 0} → (R → Answer) → Step (List ℕ) R → Entry
-told say s = record { answer = say (s .result); state = s .state }
+abbrev pub toldStep : {R : Type 0} → (R → Answer) → Step (List ℕ) R → ModelStep
+toldStep say s = record { answer = say (s .result); state = s .state }
 
 -- a step under an image; where the image has an answer of its own, that one, and nothing changes (rules 5.9 and 8.1)
 abbrev pub underImage : {S R : Type 0} → (ℕ → R) → List ℕ → State S → Step S R → Step S R
 underImage refuse image b step = cond (eqb (imageAnswer image) 0) step (stays b (refuse (imageAnswer image)))
 
 -- every call, refused or not, answers and changes the model; no answer comes from memory (rule 11.3)
-unfoldable pub entry : State (List ℕ) → Call → Entry
-entry b starts = record { answer = plain 0; state = empty }
-entry b (connects image uid gids) = told connected (underImage noConnect image b (connect books image b uid gids))
-entry b (claims image n name) = told plain (underImage (λ a. a) image b (own image b n name))
-entry b (releases n name) = told plain (release b n name)
-entry b (offers image n bytes) = told taken (underImage noPiece image b (piece books image b n bytes))
-entry b (leaves n) = told gone (disconnect books b n)
+unfoldable pub modelStep : State (List ℕ) → Call → ModelStep
+modelStep b starts = record { answer = plain 0; state = empty }
+modelStep b (connects image uid gids) = toldStep connected (underImage noConnect image b (connect books image b uid gids))
+modelStep b (claims image n name) = toldStep plain (underImage (λ a. a) image b (own image b n name))
+modelStep b (releases n name) = toldStep plain (release b n name)
+modelStep b (offers image n bytes) = toldStep taken (underImage noPiece image b (piece books image b n bytes))
+modelStep b (leaves n) = toldStep gone (disconnect books b n)
 
 -- what the model says to a list of calls (rule 11.3)
 unfoldable pub answers : State (List ℕ) → List Call → List Answer
 answers b [] = []
-answers b (c ∷ cs) = entry b c .answer ∷ answers (entry b c .state) cs
+answers b (c ∷ cs) = modelStep b c .answer ∷ answers (modelStep b c .state) cs
 
 -- what the model holds after a list of calls (rule 11.3)
 unfoldable pub after : State (List ℕ) → List Call → State (List ℕ)
 after b [] = b
-after b (c ∷ cs) = after (entry b c .state) cs
+after b (c ∷ cs) = after (modelStep b c .state) cs
 
 -- ---- a run of the guard
 
@@ -73,17 +73,17 @@ abbrev pub Below : ℕ → List ℕ → Type 0
 Below k p = (i : ℕ) → getD p i 0 < k
 
 -- arguments that fit in their types: numbers of 32 bits, and bytes
-abbrev pub Fits : Call → Type 0
-Fits starts = Unit {0}
-Fits (connects image uid gids) = (uid < 4294967296) × Below 4294967296 gids
-Fits (claims image n name) = Unit {0}
-Fits (releases n name) = Unit {0}
-Fits (offers image n bytes) = Below 256 bytes
-Fits (leaves n) = Unit {0}
+abbrev pub FitsTypes : Call → Type 0
+FitsTypes starts = Unit {0}
+FitsTypes (connects image uid gids) = (uid < 4294967296) × Below 4294967296 gids
+FitsTypes (claims image n name) = Unit {0}
+FitsTypes (releases n name) = Unit {0}
+FitsTypes (offers image n bytes) = Below 256 bytes
+FitsTypes (leaves n) = Unit {0}
 
 abbrev pub AllFit : List Call → Type 0
 AllFit [] = Unit {0}
-AllFit (c ∷ cs) = Fits c × AllFit cs
+AllFit (c ∷ cs) = FitsTypes c × AllFit cs
 
 -- one call from memory m to memory e, as its `ensures` says it (rules 8.9 and 12.1)
 pub data Ran (m e : List ℕ) : Call → Answer → Type 0 where

@@ -13,26 +13,26 @@ use Rattle.stream.specs.Tail.{Tail, judge, brokenAt}
 use Rattle.rules.specs.State.{peer, Peer, State, isPeer, firstBy}
 use Rattle.rules.specs.Calls.{slotAt}
 use Rattle.memory.specs.Encoding.{stateOf}
-use Rattle.book.specs.Book.{front, isWhole, books}
-use Rattle.book.specs.Split.{joined}
+use Rattle.book.specs.Book.{firstVerdict, isWhole, books}
+use Rattle.book.specs.Split.{joinedPieces}
 
 -- the bytes of one whole message: as many as its own length fields say (rule 2.3)
-pub record Message (m : List ℕ) : Type 0 where
+pub record WholeMessage (m : List ℕ) : Type 0 where
   pub header : Header
   pub read : readHeader m ≡ Whole header
   pub sized : length m ≡ header .head + header .body
 
 abbrev pub Messages : List (List ℕ) → Type 0
 Messages [] = Unit {0}
-Messages (m ∷ ms) = Message m × Messages ms
+Messages (m ∷ ms) = WholeMessage m × Messages ms
 
 -- whole messages, and then bytes of one that is unbegun, unfinished or broken (rules 9.4 and 11.2)
 pub record Parted (xs : List ℕ) : Type 0 where
   pub messages : List (List ℕ)
   pub present : List ℕ
   pub are : Messages messages
-  pub unfinished : isWhole (front present) ≡ false
-  pub bytes : xs ≡ joined messages ++ present
+  pub unfinished : isWhole (firstVerdict present) ≡ false
+  pub bytes : xs ≡ joinedPieces messages ++ present
 
 -- a piece of peer n is taken: the image passes, the peer is there, and its stream is open (rule 8.6)
 pub record Takes {S : Type 0} (O : Streams S) (s : State S) (image : List ℕ) (n : ℕ) : Type 0 where

@@ -36,6 +36,6 @@ pub data OffersAll (image : List ℕ) (n : ℕ) : List ℕ → List ℕ → List
       → OffersAll image n m e (p ∷ ps) (vs ++ ws)
 
 -- the pieces as one
-abbrev pub joined : List (List ℕ) → List ℕ
-joined [] = []
-joined (p ∷ ps) = p ++ joined ps
+abbrev pub joinedPieces : List (List ℕ) → List ℕ
+joinedPieces [] = []
+joinedPieces (p ∷ ps) = p ++ joinedPieces ps

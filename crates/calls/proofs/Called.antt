@@ -20,12 +20,12 @@ use Rattle.rules.specs.declared.Connected.{Connected}
 use Rattle.rules.specs.declared.Taken.{Taken}
 use Rattle.rules.specs.declared.Gone.{Gone}
 use Rattle.rules.specs.declared.Receiver.the-variants as to
-use Rattle.memory.specs.Calls.{Did, Left, startOn, connectOn, ownOn, releaseOn, pieceOn, disconnectOn}
+use Rattle.memory.specs.Calls.{Did, MemoryStep, startOn, connectOn, ownOn, releaseOn, pieceOn, disconnectOn}
 use Rattle.book.specs.Lists.{plain, connected, taken, gone, connects, Ran, ran-start, ran-connect, ran-own, ran-release, ran-piece, ran-leave}
 use Rattle.calls.specs.declared.Report.{Report}
 use Rattle.calls.specs.declared.Gids.{Gids}
 use Rattle.calls.specs.Script.{sizeOf, wellSized, words, gidsOf, peerCall, callOf}
-use Rattle.calls.specs.Places.{placeOf}
+use Rattle.calls.specs.Places.{answerPlace}
 use Rattle.calls.specs.Steps.{reportWords, Shows, Reported, Stepped, GidsIn, Entry}
 use Rattle.calls.proofs.Words.{Octets, words-length, words-below}
 use Rattle.calls.proofs.Entries.{at-least}
@@ -54,7 +54,7 @@ unfolding cells
 seven a t k n c u d p q = rw (p, q)
 
 pub shows-plain : (a : ℕ) → Shows (plain a) (record { answer = a; taken = 0; kind = 0; number = 0; count = 0 })
-unfolding placeOf
+unfolding answerPlace
 shows-plain a = record { are = refl }
 
 module _ (t : Taken) (w : ℕ) (e : w ≡ t .taken % 4294967296) where
@@ -62,19 +62,19 @@ module _ (t : Taken) (w : ℕ) (e : w ≡ t .taken % 4294967296) where
   low-taken = rw e (low-word (t .taken))
 
   pub shows-nobody : t .judgement .receiver ≡ to.Nobody → Shows (taken t) (record { answer = t .judgement .answer; taken = w; kind = 0; number = 0; count = 0 })
-  unfolding placeOf
+  unfolding answerPlace
   shows-nobody q = record { are = rw q (seven (t .judgement .answer) w 0 0 0 (t .taken) 0 low-taken refl) }
 
   pub shows-bus : t .judgement .receiver ≡ to.Bus → Shows (taken t) (record { answer = t .judgement .answer; taken = w; kind = 1; number = 0; count = 0 })
-  unfolding placeOf
+  unfolding answerPlace
   shows-bus q = record { are = rw q (seven (t .judgement .answer) w 1 0 0 (t .taken) 0 low-taken refl) }
 
   pub shows-peer : (n : ℕ) → t .judgement .receiver ≡ to.Peer n → Shows (taken t) (record { answer = t .judgement .answer; taken = w; kind = 2; number = n; count = 0 })
-  unfolding placeOf
+  unfolding answerPlace
   shows-peer n q = record { are = rw q (seven (t .judgement .answer) w 2 n 0 (t .taken) 0 low-taken refl) }
 
   pub shows-slots : (mask n : ℕ) → t .judgement .receiver ≡ to.Slots mask n → Shows (taken t) (record { answer = t .judgement .answer; taken = w; kind = 3; number = mask; count = n })
-  unfolding placeOf
+  unfolding answerPlace
   shows-slots mask n q = record { are = rw q (seven (t .judgement .answer) w 3 mask n (t .taken) n low-taken refl) }
 
 pub ruleset showing = (shows-plain, shows-nobody, shows-bus, shows-peer, shows-slots, needs)
@@ -102,7 +102,7 @@ pub connect-reported : (image m a e : List ℕ) (uid : ℕ) (g : Gids) (c : Conn
     → Did (connectOn image m uid (take (g .count) (g .list))) c e
     → w ≡ c .slot % 4294967296
     → Reported (connects image (wordAt Little a 0) (gidsOf a)) m (record { answer = c .answer; taken = 0; kind = 0; number = c .number; count = w }) e
-unfolding placeOf
+unfolding answerPlace
 connect-reported image m a e uid g c w f u l h d q =
     let n = (length a - 4) / 4 in
     let x : connectOn image m uid (take (g .count) (g .list)) ≡ connectOn image m (wordAt Little a 0) (gidsOf a)
@@ -113,7 +113,7 @@ connect-reported image m a e uid g c w f u l h d q =
       answer = connected c;
       ran =
           ran-connect {uid = wordAt Little a 0} (rw (← u) l) (words-below n (drop 4 a) (bytes-drop 4 a (λ j. f j .fits)))
-          (record { result = d .result ∙ ap (λ (o : Left Connected). o .result) x; memory = d .memory ∙ ap (λ (o : Left Connected). o .memory) x });
+          (record { result = d .result ∙ ap (λ (o : MemoryStep Connected). o .result) x; memory = d .memory ∙ ap (λ (o : MemoryStep Connected). o .memory) x });
       shows = record { are = seven (c .answer) 0 0 (c .number) w 0 (c .slot) refl (rw q (low-word (c .slot))) };
     }
 
@@ -152,7 +152,7 @@ module _ (image m a e : List ℕ) (kind : ℕ) where
     module _ (j : kind ≡ 1 → ⊥) (n : ℕ) (p : n ≡ wordAt Little a 0) where
       pub leave-called : kind ≡ 5 → (g : Gone) → Did (disconnectOn m n) g e
           → Reported (callOf image kind a) m (record { answer = g .answer; taken = 0; kind = 0; number = g .bytes; count = 0 }) e
-      unfolding callOf placeOf
+      unfolding callOf answerPlace
       leave-called k g d =
           rw (ne-eqb kind 0 h, ne-eqb kind 1 j, eq-eqb kind 5 k) (record { answer = gone g; ran = ran-leave (rw p at d); shows = record { are = refl } })
 

@@ -12,7 +12,7 @@ use Rattle.wire.specs.Words.{wordAt}
 use Rattle.wire.specs.declared.Order.the-variants.{Little}
 use Rattle.wire.proofs.Texts.{both-first, both-second}
 use Rattle.wire.proofs.Words.{rest-at}
-use Rattle.calls.specs.Script.{kindOf, sizeOf, argumentOf, wellSized, entrySize, layout, calls, callOf}
+use Rattle.calls.specs.Script.{entryKind, sizeOf, argumentOf, wellSized, entrySize, layout, scriptCalls, callOf}
 use Rattle.calls.specs.Steps.{Sized, Entry, Counted}
 
 -- ---- the length that a kind may have
@@ -58,10 +58,10 @@ size-short s h = record { is = rw (lt-ltb (length s) 8 h); inside = omega arith 
 module _ (s : List ℕ) (h : 8 ≤ length s) (k n : ℕ) (p : k ≡ wordAt Little s 0) (q : n ≡ wordAt Little s 4) (b : Bool) (e : b ≡ wellSized k n) where
   pub size-bad : not b ≡ true → Sized s 0
   unfolding entrySize
-  size-bad t = let w : wellSized (kindOf s) (sizeOf s) ≡ false = rw (← p, ← q) (sym e ∙ not-true b t) in record { is = rw (le-ltb (length s) 8 h, w); inside = omega arith }
+  size-bad t = let w : wellSized (entryKind s) (sizeOf s) ≡ false = rw (← p, ← q) (sym e ∙ not-true b t) in record { is = rw (le-ltb (length s) 8 h, w); inside = omega arith }
 
   module _ (t : not b ≡ false) where
-    well : wellSized (kindOf s) (sizeOf s) ≡ true
+    well : wellSized (entryKind s) (sizeOf s) ≡ true
     well = rw (← p, ← q) (sym e ∙ not-false b t)
 
     pub size-cut : length s - 8 < n → Sized s 0
@@ -81,9 +81,9 @@ pub ruleset sizes = (size-short, size-bad, size-cut, size-good, needs)
 -- an entry of some length stands there
 pub entry-of : (s : List ℕ) → (entrySize s ≡ 0 → ⊥) → Entry s
 unfolding entrySize
-entry-of s h = go (ltb (length s) 8) refl (wellSized (kindOf s) (sizeOf s)) refl (ltb (length s - 8) (sizeOf s)) refl
+entry-of s h = go (ltb (length s) 8) refl (wellSized (entryKind s) (sizeOf s)) refl (ltb (length s - 8) (sizeOf s)) refl
   where
-    go : (x : Bool) → ltb (length s) 8 ≡ x → (y : Bool) → wellSized (kindOf s) (sizeOf s) ≡ y → (z : Bool) → ltb (length s - 8) (sizeOf s) ≡ z → Entry s
+    go : (x : Bool) → ltb (length s) 8 ≡ x → (y : Bool) → wellSized (entryKind s) (sizeOf s) ≡ y → (z : Bool) → ltb (length s - 8) (sizeOf s) ≡ z → Entry s
     go true p y q z r = absurd (h (rw p))
     go false p false q z r = absurd (h (rw (p, q)))
     go false p true q true r = absurd (h (rw (p, q, r)))
@@ -106,14 +106,14 @@ layout-end zero s h = eq-eqb (length s) 0 (omega arith)
 layout-end (suc f) s h = let e : length s ≡ 0 = omega arith in rw (layout, eq-eqb (length s) 0 e)
 
 pub calls-step : (image : List ℕ) (f : ℕ) (s : List ℕ) → 0 < length s
-    → calls image (suc f) s ≡ callOf image (kindOf s) (argumentOf s) ∷ calls image f (drop (entrySize s) s)
-unfolding calls
-calls-step image f s h = rw (calls, ne-eqb (length s) 0 (λ e. omega arith))
+    → scriptCalls image (suc f) s ≡ callOf image (entryKind s) (argumentOf s) ∷ scriptCalls image f (drop (entrySize s) s)
+unfolding scriptCalls
+calls-step image f s h = rw (scriptCalls, ne-eqb (length s) 0 (λ e. omega arith))
 
-pub calls-end : (image : List ℕ) (f : ℕ) (s : List ℕ) → length s ≤ 0 → calls image f s ≡ []
-unfolding calls
+pub calls-end : (image : List ℕ) (f : ℕ) (s : List ℕ) → length s ≤ 0 → scriptCalls image f s ≡ []
+unfolding scriptCalls
 calls-end image zero s h = refl
-calls-end image (suc f) s h = let e : length s ≡ 0 = omega arith in rw (calls, eq-eqb (length s) 0 e)
+calls-end image (suc f) s h = let e : length s ≡ 0 = omega arith in rw (scriptCalls, eq-eqb (length s) 0 e)
 
 -- what is left behind an entry, as the code cuts it
 pub behind : {s : List ℕ} {k : ℕ} → Sized s k → take (length s - k) (drop k s) ≡ drop (entrySize s) s
@@ -130,7 +130,7 @@ pub record Counting (s rest : List ℕ) (n : ℕ) : Type 0 where
   pub enough : length rest ≤ fuel
   pub few : n + length rest ≤ length s
   pub same : layout (length s) s ≡ layout fuel rest
-  pub many : (image : List ℕ) → length (calls image (length s) s) ≡ n + length (calls image fuel rest)
+  pub many : (image : List ℕ) → length (scriptCalls image (length s) s) ≡ n + length (scriptCalls image fuel rest)
 
 pub counting-begins : (s : List ℕ) → Counting s s 0
 counting-begins s = record { fuel = length s; enough = omega arith; few = omega arith; same = refl; many = λ image. omega arith }
@@ -140,7 +140,7 @@ module _ {s rest : List ℕ} {n : ℕ} (c : Counting s rest n) where
     pub counting-more : (k ≡ 0 → ⊥) → Counting s (take (length rest - k) (drop k rest)) (n + 1)
     counting-more e = go (c .fuel) (c .enough) (c .same) (c .many)
       where
-        go : (f : ℕ) → length rest ≤ f → layout (length s) s ≡ layout f rest → ((image : List ℕ) → length (calls image (length s) s) ≡ n + length (calls image f rest))
+        go : (f : ℕ) → length rest ≤ f → layout (length s) s ≡ layout f rest → ((image : List ℕ) → length (scriptCalls image (length s) s) ≡ n + length (scriptCalls image f rest))
             → Counting s (take (length rest - k) (drop k rest)) (n + 1)
         go zero l q m = absurd (omega arith)
         go (suc f) l q m =

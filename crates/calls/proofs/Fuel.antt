@@ -9,8 +9,8 @@ use lib.ListN.{length, drop, length-drop}
 use borrow.Author.Tests.{ltb-true, ltb-false, eqb-true, eqb-false}
 use Rattle.rules.specs.State.{State}
 use Rattle.rules.specs.Calls.{empty}
-use Rattle.book.specs.Lists.{Call, starts, plain, entry, answers, after}
-use Rattle.calls.specs.Script.{kindOf, argumentOf, entrySize, layout, calls, callOf}
+use Rattle.book.specs.Lists.{Call, starts, plain, modelStep, answers, after}
+use Rattle.calls.specs.Script.{entryKind, argumentOf, entrySize, layout, scriptCalls, callOf}
 use Rattle.calls.proofs.Entries.{layout-step, layout-stuck, layout-end, calls-step, calls-end}
 
 pub layout-any : (f g : ℕ) (s : List ℕ) → length s ≤ f → length s ≤ g → layout f s ≡ layout g s
@@ -32,15 +32,15 @@ layout-any (suc f) (suc g) s h k = go (ltb 0 (length s)) refl (eqb (entrySize s)
         let d : length (drop (entrySize s) s) ≡ length s - entrySize s = length-drop (entrySize s) s in
         layout-step f s l n ∙ ih (omega arith) (omega arith) ∙ sym (layout-step g s l n)
 
-pub calls-any : (image : List ℕ) (f g : ℕ) (s : List ℕ) → length s ≤ f → length s ≤ g → layout f s ≡ true → calls image f s ≡ calls image g s
+pub calls-any : (image : List ℕ) (f g : ℕ) (s : List ℕ) → length s ≤ f → length s ≤ g → layout f s ≡ true → scriptCalls image f s ≡ scriptCalls image g s
 calls-any image zero g s h k w = calls-end image zero s h ∙ sym (calls-end image g s (omega arith))
 calls-any image (suc f) zero s h k w = calls-end image (suc f) s k ∙ sym (calls-end image zero s k)
 calls-any image (suc f) (suc g) s h k w = go (ltb 0 (length s)) refl (eqb (entrySize s) 0) refl (calls-any image f g (drop (entrySize s) s))
   where
     go : (x : Bool) → ltb 0 (length s) ≡ x → (y : Bool) → eqb (entrySize s) 0 ≡ y
         → (length (drop (entrySize s) s) ≤ f → length (drop (entrySize s) s) ≤ g → layout f (drop (entrySize s) s) ≡ true
-        → calls image f (drop (entrySize s) s) ≡ calls image g (drop (entrySize s) s))
-        → calls image (suc f) s ≡ calls image (suc g) s
+        → scriptCalls image f (drop (entrySize s) s) ≡ scriptCalls image g (drop (entrySize s) s))
+        → scriptCalls image (suc f) s ≡ scriptCalls image (suc g) s
     go false p y q ih = let l = ltb-false 0 (length s) p in calls-end image (suc f) s l ∙ sym (calls-end image (suc g) s l)
     go true p true q ih = absurd (false≢true (sym (layout-stuck (suc f) s (ltb-true 0 (length s) p) (eqb-true (entrySize s) 0 q)) ∙ w))
     go true p false q ih =
@@ -48,14 +48,14 @@ calls-any image (suc f) (suc g) s h k w = go (ltb 0 (length s)) refl (eqb (entry
         let n = eqb-false (entrySize s) 0 q in
         let d : length (drop (entrySize s) s) ≡ length s - entrySize s = length-drop (entrySize s) s in
         calls-step image f s l
-        ∙ ap (λ (v : List Call). callOf image (kindOf s) (argumentOf s) ∷ v) (ih (omega arith) (omega arith) (sym (layout-step f s l n) ∙ w))
+        ∙ ap (λ (v : List Call). callOf image (entryKind s) (argumentOf s) ∷ v) (ih (omega arith) (omega arith) (sym (layout-step f s l n) ∙ w))
         ∙ sym (calls-step image g s l)
 
 -- the contract's answers and memory are those of the list that begins with a start, whatever the model held before
 pub start-answers : (b : State (List ℕ)) (cs : List Call) → answers b (starts ∷ cs) ≡ plain 0 ∷ answers empty cs
-unfolding answers entry
+unfolding answers modelStep
 start-answers b cs = refl
 
 pub start-after : (b : State (List ℕ)) (cs : List Call) → after b (starts ∷ cs) ≡ after empty cs
-unfolding after entry
+unfolding after modelStep
 start-after b cs = refl

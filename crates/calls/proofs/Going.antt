@@ -24,8 +24,8 @@ use Rattle.rules.specs.Places.{receiverWords}
 use Rattle.book.proofs.List.{empty-claim}
 use Rattle.book.proofs.Runs.{run-append}
 use Rattle.calls.specs.declared.Count.{Count}
-use Rattle.calls.specs.Script.{kindOf, argumentOf, entrySize, layout, calls, callOf, decode}
-use Rattle.calls.specs.Places.{wordsOf, placeOf, outcome, Ended}
+use Rattle.calls.specs.Script.{entryKind, argumentOf, entrySize, layout, scriptCalls, callOf, decode}
+use Rattle.calls.specs.Places.{wordsOf, answerPlace, outcome, EndsAs}
 use Rattle.calls.specs.Steps.{Stepped, Sized, Entry, Counted, Ready, Replayed}
 use Rattle.calls.proofs.Entries.{entry-of, front-entry, layout-step, calls-step, calls-end, behind}
 
@@ -37,8 +37,8 @@ run-length (then q qs) = ap suc (run-length qs)
 
 -- ---- places
 
-place-length : (a : Answer) → length (placeOf a) ≡ 28
-unfolding placeOf
+place-length : (a : Answer) → length (answerPlace a) ≡ 28
+unfolding answerPlace
 place-length a = cells-length 4 wordBytes word-length (wordsOf a) ∙ omega (arith, seven a)
   where
     to-three : (r : Receiver) → length (receiverWords r) ≡ 3
@@ -62,17 +62,17 @@ pub record Going (image s m₀ x m y rest : List ℕ) (at : ℕ) : Type 0 where
   pub past : List Call
   pub given : List Answer
   pub ran : Run (memoryOf empty) past given m
-  pub all : calls image (length s) s ≡ past ++ calls image fuel rest
+  pub all : scriptCalls image (length s) s ≡ past ++ scriptCalls image fuel rest
   pub place : at ≡ 28 * length past
-  pub text : y ≡ cells placeOf given ++ drop at x
-  pub room : at + 28 * length (calls image fuel rest) ≤ length x
+  pub text : y ≡ cells answerPlace given ++ drop at x
+  pub room : at + 28 * length (scriptCalls image fuel rest) ≤ length x
   pub sized : length y ≡ length x
   pub fits : length m ≡ length m₀
 
 pub going-begins : (image s m x : List ℕ) → Ready image s m x → Going image s m x m x s 0
 unfolding cells
 going-begins image s m x r =
-    let k : 28 * length (calls image (length s) s) ≤ length x = r .room in
+    let k : 28 * length (scriptCalls image (length s) s) ≤ length x = r .room in
     record {
       fuel = length s;
       enough = omega arith;
@@ -89,14 +89,14 @@ going-begins image s m x r =
     }
 
 module _ {image s m₀ x m y rest : List ℕ} {at : ℕ} (g : Going image s m₀ x m y rest at) where
-  written : length (cells placeOf (g .given)) ≡ at
-  written = cells-length 28 placeOf place-length (g .given) ∙ omega (arith, run-length (g .ran), g .place)
+  written : length (cells answerPlace (g .given)) ≡ at
+  written = cells-length 28 answerPlace place-length (g .given) ∙ omega (arith, run-length (g .ran), g .place)
 
   module _ (h : 0 < length rest) where
     pub going-room : at + 28 ≤ length y
     going-room = go (g .fuel) (g .enough) (g .room)
       where
-        go : (f : ℕ) → length rest ≤ f → at + 28 * length (calls image f rest) ≤ length x → at + 28 ≤ length y
+        go : (f : ℕ) → length rest ≤ f → at + 28 * length (scriptCalls image f rest) ≤ length x → at + 28 ≤ length y
         go zero l r = absurd (omega arith)
         go (suc f) l r = let z : length y ≡ length x = g .sized in omega (arith, ap length (calls-step image f rest h))
 
@@ -113,23 +113,23 @@ module _ {image s m₀ x m y rest : List ℕ} {at : ℕ} (g : Going image s m₀
         go (suc j) q = omega arith
 
     module _ {k : ℕ} (z : Sized rest k) (e w : List ℕ) (t : Stepped image rest m e w) (same : length e ≡ length m) where
-      goes : (f : ℕ) → length rest ≤ suc f → layout (suc f) rest ≡ true → calls image (length s) s ≡ g .past ++ calls image (suc f) rest
-          → at + 28 * length (calls image (suc f) rest) ≤ length x
+      goes : (f : ℕ) → length rest ≤ suc f → layout (suc f) rest ≡ true → scriptCalls image (length s) s ≡ g .past ++ scriptCalls image (suc f) rest
+          → at + 28 * length (scriptCalls image (suc f) rest) ≤ length x
           → Going image s m₀ x e (take at y ++ (w ++ drop (at + 28) y)) (drop (entrySize rest) rest) (at + 28)
       goes f l q a r =
           let n : entrySize rest ≡ 0 → ⊥ = front-entry (suc f) rest h q in
-          let c = callOf image (kindOf rest) (argumentOf rest) in
-          let o = cells placeOf (g .given) in
+          let c = callOf image (entryKind rest) (argumentOf rest) in
+          let o = cells answerPlace (g .given) in
           let lw : length w ≡ 28 = ap length (t .written) ∙ place-length (t .answer) in
           let ty : take at y ≡ o = ap (take at) (g .text) ∙ take-at o (drop at x) at written in
           let dy : drop (at + 28) y ≡ drop (at + 28) x
           = sym (drop-drop 28 at y) ∙ ap (λ (v : List ℕ). drop 28 (drop at v)) (g .text) ∙ ap (drop 28) (drop-at o (drop at x) at written) ∙ drop-drop 28 at x in
-          let b : cells placeOf (g .given ++ (t .answer ∷ [])) ≡ o ++ w = cells-snoc placeOf (g .given) (t .answer) ∙ ap (λ (v : List ℕ). o ++ v) (sym (t .written)) in
-          let text : take at y ++ (w ++ drop (at + 28) y) ≡ cells placeOf (g .given ++ (t .answer ∷ [])) ++ drop (at + 28) x
+          let b : cells answerPlace (g .given ++ (t .answer ∷ [])) ≡ o ++ w = cells-snoc answerPlace (g .given) (t .answer) ∙ ap (λ (v : List ℕ). o ++ v) (sym (t .written)) in
+          let text : take at y ++ (w ++ drop (at + 28) y) ≡ cells answerPlace (g .given ++ (t .answer ∷ [])) ++ drop (at + 28) x
           = rw (ty, dy, b) (sym (append-assoc o w (drop (at + 28) x))) in
-          let lo : length (cells placeOf (g .given ++ (t .answer ∷ []))) ≡ at + 28 = ap length b ∙ length-append o w ∙ omega (arith, written) in
+          let lo : length (cells answerPlace (g .given ++ (t .answer ∷ []))) ≡ at + 28 = ap length b ∙ length-append o w ∙ omega (arith, written) in
           let d : length (drop (entrySize rest) rest) ≡ length rest - entrySize rest = length-drop (entrySize rest) rest in
-          let cs : length (calls image (suc f) rest) ≡ suc (length (calls image f (drop (entrySize rest) rest))) = ap length (calls-step image f rest h) in
+          let cs : length (scriptCalls image (suc f) rest) ≡ suc (length (scriptCalls image f (drop (entrySize rest) rest))) = ap length (calls-step image f rest h) in
           record {
             fuel = f;
             enough = omega (arith, d);
@@ -140,26 +140,26 @@ module _ {image s m₀ x m y rest : List ℕ} {at : ℕ} (g : Going image s m₀
             all =
                 a
                 ∙ ap (λ (v : List Call). g .past ++ v) (calls-step image f rest h)
-                ∙ sym (append-assoc (g .past) (c ∷ []) (calls image f (drop (entrySize rest) rest)));
+                ∙ sym (append-assoc (g .past) (c ∷ []) (scriptCalls image f (drop (entrySize rest) rest)));
             place = omega (arith, g .place, length-append (g .past) (c ∷ []));
             text = text;
             room = omega arith;
-            sized = ap length text ∙ length-append (cells placeOf (g .given ++ (t .answer ∷ []))) (drop (at + 28) x) ∙ omega (arith, lo, length-drop (at + 28) x);
+            sized = ap length text ∙ length-append (cells answerPlace (g .given ++ (t .answer ∷ []))) (drop (at + 28) x) ∙ omega (arith, lo, length-drop (at + 28) x);
             fits = same ∙ g .fits;
           }
 
       pub going-on : Going image s m₀ x e (take at y ++ (w ++ drop (at + 28 - at) (drop at y))) (take (length rest - k) (drop k rest)) (at + 28)
       going-on = rw (behind z, put-at at 28 y w) (go (g .fuel) (g .enough) (g .whole) (g .all) (g .room))
         where
-          go : (f : ℕ) → length rest ≤ f → layout f rest ≡ true → calls image (length s) s ≡ g .past ++ calls image f rest
-              → at + 28 * length (calls image f rest) ≤ length x
+          go : (f : ℕ) → length rest ≤ f → layout f rest ≡ true → scriptCalls image (length s) s ≡ g .past ++ scriptCalls image f rest
+              → at + 28 * length (scriptCalls image f rest) ≤ length x
               → Going image s m₀ x e (take at y ++ (w ++ drop (at + 28) y)) (drop (entrySize rest) rest) (at + 28)
           go zero l q a r = absurd (omega arith)
           go (suc f) l q a r = goes f l q a r
 
   pub going-ends : length rest ≤ 0 → Replayed image s x m y
   going-ends h =
-      let c : calls image (length s) s ≡ g .past = g .all ∙ ap (λ (v : List Call). g .past ++ v) (calls-end image (g .fuel) rest h) ∙ append-nil (g .past) in
+      let c : scriptCalls image (length s) s ≡ g .past = g .all ∙ ap (λ (v : List Call). g .past ++ v) (calls-end image (g .fuel) rest h) ∙ append-nil (g .past) in
       let a = empty-claim (g .ran) in
       record { memory = rw c (a .memory); room = rw (c, ← a .answered, ← g .place) (g .text) }
 
@@ -184,7 +184,7 @@ start-done m e r d h = go (eqb (length m) memoryLength) refl
     go false q = let z : r ≡ 51 = rw q at (d .result) in absurd (omega arith)
 
 module _ (image s m x : List ℕ) (c : Count) (o : Counted s c) where
-  pub run-broken : not (c .whole) ≡ true → Ended (outcome image s m x) 67 m x
+  pub run-broken : not (c .whole) ≡ true → EndsAs (outcome image s m x) 67 m x
   unfolding outcome decode
   run-broken t =
       let b : layout (length s) s ≡ false = sym (o .whole) ∙ not-true (c .whole) t in rw b (record { answer = refl; memory = refl; room = refl })
@@ -193,15 +193,15 @@ module _ (image s m x : List ℕ) (c : Count) (o : Counted s c) where
     laid : layout (length s) s ≡ true
     laid = sym (o .whole) ∙ not-false (c .whole) t
 
-    counted : length (calls image (length s) s) ≡ c .calls
+    counted : length (scriptCalls image (length s) s) ≡ c .calls
     counted = o .many (not-false (c .whole) t) image
 
-    pub run-full : length x / 28 < c .calls → Ended (outcome image s m x) 68 m x
+    pub run-full : length x / 28 < c .calls → EndsAs (outcome image s m x) 68 m x
     unfolding outcome decode
     run-full l = rw (laid, counted, lt-ltb (length x / 28) (c .calls) l) (record { answer = refl; memory = refl; room = refl })
 
     module _ (l : c .calls ≤ length x / 28) (e : List ℕ) (r : ℕ) (d : Did (startOn m) r e) where
-      pub run-unfit : (r ≡ 0 → ⊥) → Ended (outcome image s m x) 51 e x
+      pub run-unfit : (r ≡ 0 → ⊥) → EndsAs (outcome image s m x) 51 e x
       unfolding outcome decode
       run-unfit h =
           let z = start-refused m e r d h in
@@ -211,10 +211,10 @@ module _ (image s m x : List ℕ) (c : Count) (o : Counted s c) where
         pub run-ready : Ready image s e x
         run-ready = record { whole = laid; started = start-done m e r d h .1; room = omega (arith, counted) }
 
-        pub run-done : (f y : List ℕ) → Replayed image s x f y → Ended (outcome image s m x) 0 f y
+        pub run-done : (f y : List ℕ) → Replayed image s x f y → EndsAs (outcome image s m x) 0 f y
         unfolding outcome decode
         run-done f y p =
-            let z : ltb (length x / 28) (length (calls image (length s) s)) ≡ false = rw counted (le-ltb (length x / 28) (c .calls) l) in
+            let z : ltb (length x / 28) (length (scriptCalls image (length s) s)) ≡ false = rw counted (le-ltb (length x / 28) (c .calls) l) in
             rw (laid, z, eq-eqb (length m) memoryLength (start-done m e r d h .0)) (record { answer = refl; memory = p .memory; room = p .room })
 
 pub ruleset running = (run-broken, run-full, run-unfit, run-ready, run-done, needs)

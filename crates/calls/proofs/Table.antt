@@ -4,9 +4,9 @@ use mathlib.Core.Bool.{true}
 use Rattle.wire.specs.Lists.{agrees}
 use Rattle.wire.specs.Bytes.{same}
 use Rattle.wire.specs.Words.{wordAt, wordBytes}
-use Rattle.calls.specs.Script.{wellSized, entrySize, words, peerCall, callOf, layout, calls, decode}
-use Rattle.calls.specs.Table.{answer, table}
+use Rattle.calls.specs.Script.{wellSized, entrySize, words, peerCall, callOf, layout, scriptCalls, decode}
+use Rattle.calls.specs.Table.{scriptAnswer, scriptTable}
 
-pub table-agrees : agrees answer same table ≡ true
-unfolding same wordAt wordBytes wellSized entrySize words peerCall callOf layout calls decode
+pub table-agrees : agrees scriptAnswer same scriptTable ≡ true
+unfolding same wordAt wordBytes wellSized entrySize words peerCall callOf layout scriptCalls decode
 table-agrees = refl

@@ -24,40 +24,40 @@ wordsOf (connected r) = connectedWords r
 wordsOf (taken r) = takenWords r
 wordsOf (gone r) = goneWords r
 
-unfoldable pub placeOf : Answer → List ℕ
-placeOf a = cells wordBytes (wordsOf a)
+unfoldable pub answerPlace : Answer → List ℕ
+answerPlace a = cells wordBytes (wordsOf a)
 
 -- an answer, memory and the room for answers
-pub record Outcome : Type 0 where
+pub record RunEnd : Type 0 where
   pub answer : ℕ
   pub memory : List ℕ
   pub room : List ℕ
 
 -- a refusal changes nothing
-abbrev pub refused : ℕ → List ℕ → List ℕ → Outcome
-refused a m x = record { answer = a; memory = m; room = x }
+abbrev pub runRefused : ℕ → List ℕ → List ℕ → RunEnd
+runRefused a m x = record { answer = a; memory = m; room = x }
 
 -- the model's answers to the calls from an empty guard on, in front of what stood behind them
-abbrev pub ran : List Call → List ℕ → Outcome
+abbrev pub ran : List Call → List ℕ → RunEnd
 ran cs x =
     record {
       answer = 0;
       memory = memoryOf (seen tailView (after empty cs));
-      room = cells placeOf (answers empty cs) ++ drop (28 * length cs) x;
+      room = cells answerPlace (answers empty cs) ++ drop (28 * length cs) x;
     }
 
 -- 67 is a broken layout, 68 room for fewer answers than calls, 51 memory of another length (rule 12.3)
-abbrev pub told : Option (List Call) → List ℕ → List ℕ → Outcome
-told none m x = refused 67 m x
-told (some cs) m x =
-    cond (ltb (length x / 28) (length cs)) (refused 68 m x) (cond (eqb (length m) memoryLength) (ran cs x) (refused 51 m x))
+abbrev pub runTold : Option (List Call) → List ℕ → List ℕ → RunEnd
+runTold none m x = runRefused 67 m x
+runTold (some cs) m x =
+    cond (ltb (length x / 28) (length cs)) (runRefused 68 m x) (cond (eqb (length m) memoryLength) (ran cs x) (runRefused 51 m x))
 
 -- what the script in bytes s does to memory m and the room x (rule 12.3)
-unfoldable pub outcome : List ℕ → List ℕ → List ℕ → List ℕ → Outcome
-outcome image s m x = told (decode image s) m x
+unfoldable pub outcome : List ℕ → List ℕ → List ℕ → List ℕ → RunEnd
+outcome image s m x = runTold (decode image s) m x
 
 -- the whole contract
-pub record Ended (o : Outcome) (r : ℕ) (m x : List ℕ) : Type 0 where
+pub record EndsAs (o : RunEnd) (r : ℕ) (m x : List ℕ) : Type 0 where
   pub answer : r ≡ o .answer
   pub memory : m ≡ o .memory
   pub room : x ≡ o .room

@@ -12,8 +12,8 @@ use Rattle.book.specs.Lists.{Call, starts, connects, claims, releases, offers, 
 
 -- ---- the first entry
 
-abbrev pub kindOf : List ℕ → ℕ
-kindOf s = wordAt Little s 0
+abbrev pub entryKind : List ℕ → ℕ
+entryKind s = wordAt Little s 0
 
 abbrev pub sizeOf : List ℕ → ℕ
 sizeOf s = wordAt Little s 4
@@ -29,7 +29,7 @@ wellSized kind n =
 -- how many bytes the entry takes; 0 where it is none (rule 12.3)
 unfoldable pub entrySize : List ℕ → ℕ
 entrySize s =
-    cond (ltb (length s) 8) 0 (cond (wellSized (kindOf s) (sizeOf s)) (cond (ltb (length s - 8) (sizeOf s)) 0 (8 + sizeOf s)) 0)
+    cond (ltb (length s) 8) 0 (cond (wellSized (entryKind s) (sizeOf s)) (cond (ltb (length s - 8) (sizeOf s)) 0 (8 + sizeOf s)) 0)
 
 -- ---- its call
 
@@ -62,11 +62,11 @@ layout zero s = eqb (length s) 0
 layout (suc n) s =
     elim (eqb (length s) 0) [ true ↦ true | false ↦ elim (eqb (entrySize s) 0) [ true ↦ false | false ↦ layout n (drop (entrySize s) s) ] ]
 
-unfoldable pub calls : List ℕ → ℕ → List ℕ → List Call
-calls image zero s = []
-calls image (suc n) s =
-    elim (eqb (length s) 0) [ true ↦ [] | false ↦ callOf image (kindOf s) (argumentOf s) ∷ calls image n (drop (entrySize s) s) ]
+unfoldable pub scriptCalls : List ℕ → ℕ → List ℕ → List Call
+scriptCalls image zero s = []
+scriptCalls image (suc n) s =
+    elim (eqb (length s) 0) [ true ↦ [] | false ↦ callOf image (entryKind s) (argumentOf s) ∷ scriptCalls image n (drop (entrySize s) s) ]
 
 -- the calls of a script under one image; none where its layout is broken (rule 12.3)
 unfoldable pub decode : List ℕ → List ℕ → Option (List Call)
-decode image s = cond (layout (length s) s) (some (calls image (length s) s)) none
+decode image s = cond (layout (length s) s) (some (scriptCalls image (length s) s)) none

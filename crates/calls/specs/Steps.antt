@@ -14,15 +14,15 @@ use Rattle.book.specs.Lists.{Call, Answer, answers, after, Ran}
 use Rattle.calls.specs.declared.Report.{Report}
 use Rattle.calls.specs.declared.Gids.{Gids}
 use Rattle.calls.specs.declared.Count.{Count}
-use Rattle.calls.specs.Script.{kindOf, sizeOf, argumentOf, wellSized, entrySize, words, layout, calls, callOf}
-use Rattle.calls.specs.Places.{placeOf}
+use Rattle.calls.specs.Script.{entryKind, sizeOf, argumentOf, wellSized, entrySize, words, layout, scriptCalls, callOf}
+use Rattle.calls.specs.Places.{answerPlace}
 
 abbrev pub reportWords : Report → List ℕ
 reportWords r = r .answer ∷ r .taken ∷ r .kind ∷ r .number ∷ r .count ∷ 0 ∷ 0 ∷ []
 
 -- the report says the answer
 pub record Shows (a : Answer) (r : Report) : Type 0 where
-  pub are : cells wordBytes (reportWords r) ≡ placeOf a
+  pub are : cells wordBytes (reportWords r) ≡ answerPlace a
 
 -- the call was made as its contract says, and this is its report
 pub record Reported (c : Call) (m : List ℕ) (r : Report) (e : List ℕ) : Type 0 where
@@ -33,8 +33,8 @@ pub record Reported (c : Call) (m : List ℕ) (r : Report) (e : List ℕ) : Type
 -- the same, of the entry in front of s, with the report in its place
 pub record Stepped (image s m e place : List ℕ) : Type 0 where
   pub answer : Answer
-  pub ran : Ran m e (callOf image (kindOf s) (argumentOf s)) answer
-  pub written : place ≡ placeOf answer
+  pub ran : Ran m e (callOf image (entryKind s) (argumentOf s)) answer
+  pub written : place ≡ answerPlace answer
 
 -- seventeen gids at most, as they stand behind the uid
 pub record GidsIn (a : List ℕ) (r : Gids) : Type 0 where
@@ -51,20 +51,20 @@ pub record Sized (s : List ℕ) (r : ℕ) : Type 0 where
 pub record Entry (s : List ℕ) : Type 0 where
   pub long : 8 ≤ length s
   pub inside : sizeOf s ≤ length s - 8
-  pub sized : wellSized (kindOf s) (sizeOf s) ≡ true
+  pub sized : wellSized (entryKind s) (sizeOf s) ≡ true
 
 -- the layout holds, and so many calls stand there
 pub record Counted (s : List ℕ) (r : Count) : Type 0 where
   pub whole : r .whole ≡ layout (length s) s
-  pub many : r .whole ≡ true → (image : List ℕ) → length (calls image (length s) s) ≡ r .calls
+  pub many : r .whole ≡ true → (image : List ℕ) → length (scriptCalls image (length s) s) ≡ r .calls
 
 -- ---- all entries
 
 pub record Ready (image s m x : List ℕ) : Type 0 where
   pub whole : layout (length s) s ≡ true
   pub started : m ≡ memoryOf empty
-  pub room : 28 * length (calls image (length s) s) ≤ length x
+  pub room : 28 * length (scriptCalls image (length s) s) ≤ length x
 
 pub record Replayed (image s x e y : List ℕ) : Type 0 where
-  pub memory : e ≡ memoryOf (seen tailView (after empty (calls image (length s) s)))
-  pub room : y ≡ cells placeOf (answers empty (calls image (length s) s)) ++ drop (28 * length (calls image (length s) s)) x
+  pub memory : e ≡ memoryOf (seen tailView (after empty (scriptCalls image (length s) s)))
+  pub room : y ≡ cells answerPlace (answers empty (scriptCalls image (length s) s)) ++ drop (28 * length (scriptCalls image (length s) s)) x

@@ -22,29 +22,29 @@ numbers (releases n name) l = 3 ∷ n ∷ (name ++ l)
 numbers (offers image n bytes) l = 4 ∷ n ∷ (bytes ++ l)
 numbers (leaves n) l = 5 ∷ n ∷ l
 
-abbrev pub listed : List Call → List ℕ
-listed [] = []
-listed (c ∷ cs) = numbers c (listed cs)
+abbrev pub callNumbers : List Call → List ℕ
+callNumbers [] = []
+callNumbers (c ∷ cs) = numbers c (callNumbers cs)
 
-abbrev pub shown : Option (List Call) → List ℕ
-shown none = 67 ∷ []
-shown (some cs) = 0 ∷ listed cs
+abbrev pub scriptShown : Option (List Call) → List ℕ
+scriptShown none = 67 ∷ []
+scriptShown (some cs) = 0 ∷ callNumbers cs
 
-pub data Question : Type 0 where
+pub data ScriptQuestion : Type 0 where
   -- which calls stand in these bytes
-  script : List ℕ → Question
+  script : List ℕ → ScriptQuestion
   -- the words of an answer
-  report : Answer → Question
+  report : Answer → ScriptQuestion
 
-abbrev pub answer : Question → List ℕ
-answer (script s) = shown (decode [] s)
-answer (report a) = wordsOf a
+abbrev pub scriptAnswer : ScriptQuestion → List ℕ
+scriptAnswer (script s) = scriptShown (decode [] s)
+scriptAnswer (report a) = wordsOf a
 
-abbrev pub Line : Type 0
-Line = Question × List ℕ
+abbrev pub ScriptRow : Type 0
+ScriptRow = ScriptQuestion × List ℕ
 
-abbrev pub table : List Line
-table =
+abbrev pub scriptTable : List ScriptRow
+scriptTable =
     (script [], 0 ∷ [])
     ∷ (script (entryOf 0 []), 0 ∷ 0 ∷ [])
     ∷ (script (entryOf 0 (0 ∷ [])), 67 ∷ [])  -- a start has no argument

@@ -13,7 +13,7 @@ ghost use Rattle.tables.specs.Tables.{cells};
 ghost use Rattle.memory.specs.Calls.{connectOn, Did};
 ghost use Rattle.book.specs.Lists.{connects, plain, taken};
 ghost use Rattle.calls.specs.Script.{wellSized, gidsOf, peerCall, callOf};
-ghost use Rattle.calls.specs.Places.{outcome, Ended};
+ghost use Rattle.calls.specs.Places.{outcome, EndsAs};
 ghost use Rattle.calls.specs.Steps.{reportWords, Shows, Reported, Stepped, GidsIn, Sized, Entry, Counted, Ready, Replayed};
 
 // The words of a place that may be other than 0.
@@ -278,7 +278,7 @@ fn replay(image: &[u8], script: &[u8], memory: &mut [u8], answers: &mut [u8])
 
 // Starts a guard in `memory`, makes the script's calls on it and writes each call's answer to its place of 28 bytes. A script that is refused changes nothing.
 pub fn run(image: &[u8], script: &[u8], memory: &mut [u8], answers: &mut [u8]) -> u8
-    ensures { λ r. ⌜ Ended (outcome (now (image .entry)) (now (script .entry)) (now (memory .entry)) (now (answers .entry))) r (now (memory .exit)) (now (answers .exit)) ⌝ }
+    ensures { λ r. ⌜ EndsAs (outcome (now (image .entry)) (now (script .entry)) (now (memory .entry)) (now (answers .entry))) r (now (memory .exit)) (now (answers .exit)) ⌝ }
 {
     let count = count_calls(script);
     if !count.whole {

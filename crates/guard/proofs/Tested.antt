@@ -18,7 +18,7 @@ use Rattle.rules.specs.declared.Connected.{Connected}
 use Rattle.rules.specs.declared.Taken.{Taken}
 use Rattle.memory.specs.Good.{good}
 use Rattle.memory.specs.Sound.{Held}
-use Rattle.memory.specs.Calls.{Left, kept, startOn, Did}
+use Rattle.memory.specs.Calls.{MemoryStep, unchanged, startOn, Did}
 use Rattle.memory.proofs.Frame.{empty-bytes}
 use Rattle.memory.proofs.Good.{held-of}
 
@@ -54,30 +54,30 @@ pub passed-memory : (m : List ℕ) (h : Bool) → h ≡ good m → not h ≡ fal
 passed-memory m h e t = held-of m (sym e ∙ not-false h t)
 
 module _ {R : Type 0} (m : List ℕ) (h : Bool) (e : h ≡ good m) where
-  pub refused-51 : not h ≡ true → (o : Left R) {r q : R} → r ≡ q → Did (cond (good m) o (kept m q)) r m
+  pub refused-51 : not h ≡ true → (o : MemoryStep R) {r q : R} → r ≡ q → Did (cond (good m) o (unchanged m q)) r m
   refused-51 t o k = rw (← e, not-true h t) (record { result = k; memory = refl })
 
-  pub memory-done : not h ≡ false → {o : Left R} {r : R} {after : List ℕ} → Did o r after → (p : Left R) → Did (cond (good m) o p) r after
+  pub memory-done : not h ≡ false → {o : MemoryStep R} {r : R} {after : List ℕ} → Did o r after → (p : MemoryStep R) → Did (cond (good m) o p) r after
   memory-done t d p = rw (← e, not-false h t) d
 
 module _ (image : List ℕ) (a : ℕ) (e : a ≡ imageAnswer image) where
-  refused-image : {R : Type 0} (refuse : ℕ → R) → (a ≡ 0 → ⊥) → (m : List ℕ) (o : Left R) {r : R} → r ≡ refuse a
-      → Did (cond (eqb (imageAnswer image) 0) o (kept m (refuse (imageAnswer image)))) r m
+  refused-image : {R : Type 0} (refuse : ℕ → R) → (a ≡ 0 → ⊥) → (m : List ℕ) (o : MemoryStep R) {r : R} → r ≡ refuse a
+      → Did (cond (eqb (imageAnswer image) 0) o (unchanged m (refuse (imageAnswer image)))) r m
   refused-image refuse t m o k = rw (← e, ne-eqb a 0 t) (record { result = k; memory = refl })
 
-  pub connect-refused : (a ≡ 0 → ⊥) → (m : List ℕ) (o : Left Connected) {r : Connected} → r ≡ noConnect a
-      → Did (cond (eqb (imageAnswer image) 0) o (kept m (noConnect (imageAnswer image)))) r m
+  pub connect-refused : (a ≡ 0 → ⊥) → (m : List ℕ) (o : MemoryStep Connected) {r : Connected} → r ≡ noConnect a
+      → Did (cond (eqb (imageAnswer image) 0) o (unchanged m (noConnect (imageAnswer image)))) r m
   connect-refused = refused-image noConnect
 
-  pub own-refused : (a ≡ 0 → ⊥) → (m : List ℕ) (o : Left ℕ) {r : ℕ} → r ≡ a → Did (cond (eqb (imageAnswer image) 0) o (kept m (imageAnswer image))) r m
+  pub own-refused : (a ≡ 0 → ⊥) → (m : List ℕ) (o : MemoryStep ℕ) {r : ℕ} → r ≡ a → Did (cond (eqb (imageAnswer image) 0) o (unchanged m (imageAnswer image))) r m
   own-refused = refused-image (λ x. x)
 
-  pub piece-refused : (a ≡ 0 → ⊥) → (m : List ℕ) (o : Left Taken) {r : Taken} → r ≡ noPiece a
-      → Did (cond (eqb (imageAnswer image) 0) o (kept m (noPiece (imageAnswer image)))) r m
+  pub piece-refused : (a ≡ 0 → ⊥) → (m : List ℕ) (o : MemoryStep Taken) {r : Taken} → r ≡ noPiece a
+      → Did (cond (eqb (imageAnswer image) 0) o (unchanged m (noPiece (imageAnswer image)))) r m
   piece-refused = refused-image noPiece
 
-  pub image-done : a ≡ 0 → {R : Type 0} {o : Left R} {r : R} {after : List ℕ} → Did o r after
-      → (p : Left R) → Did (cond (eqb (imageAnswer image) 0) o p) r after
+  pub image-done : a ≡ 0 → {R : Type 0} {o : MemoryStep R} {r : R} {after : List ℕ} → Did o r after
+      → (p : MemoryStep R) → Did (cond (eqb (imageAnswer image) 0) o p) r after
   image-done t d p = rw (← e, eq-eqb a 0 t) d
 
 -- ---- start

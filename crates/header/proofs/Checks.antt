@@ -15,11 +15,11 @@ use Rattle.names.specs.Names.{validName}
 use Rattle.names.specs.declared.Form.{Form}
 use Rattle.signature.specs.Signature.{validSignature}
 use Rattle.header.specs.declared.Place.{Place}
-use Rattle.header.specs.Codes.{name, free, ruleOf}
+use Rattle.header.specs.Codes.{name, anyValue, ruleOf}
 use Rattle.header.specs.Fields.{Fields, placeOf, present}
 use Rattle.header.specs.Values.{numberIn, obeys, goodValue, goodField, goodValues}
 use Rattle.header.specs.Required.{hasRequired}
-use Rattle.header.specs.Reader.{Fits}
+use Rattle.header.specs.Reader.{ValuesFit}
 
 pub few : (o : Order) (t : List ℕ) → length t < 4 → 0 ≡ numberIn o t
 unfolding numberIn
@@ -53,7 +53,7 @@ module _ (o : Order) (code : ℕ) (t : List ℕ) where
       rw (ne-eqb code 1 a, ne-eqb code 2 b, ne-eqb code 3 c, ne-eqb code 4 d, ne-eqb code 5 e, ne-eqb code 6 f, ne-eqb code 7 g, ne-eqb code 8 h)
       (go (eqb code 9))
     where
-      go : (x : Bool) → true ≡ obeys o (cond x free free) t
+      go : (x : Bool) → true ≡ obeys o (cond x anyValue anyValue) t
       go true = refl
       go false = refl
 
@@ -75,7 +75,7 @@ pub ruleset field = (not-there, there, needs)
 abbrev pub Checking : Order → List ℕ → Fields → ℕ → Type 0
 Checking o h fs code = Testing (λ n. goodField o h (placeOf fs n) n) 10 code
 
-pub place-fits : {h : List ℕ} {fs : Fields} (code : ℕ) → Fits h fs → placeOf fs (code - 1) .at + placeOf fs (code - 1) .len ≤ length h
+pub place-fits : {h : List ℕ} {fs : Fields} (code : ℕ) → ValuesFit h fs → placeOf fs (code - 1) .at + placeOf fs (code - 1) .len ≤ length h
 place-fits code f = f .inside (code - 1)
 
 module _ (o : Order) (h : List ℕ) (fs : Fields) {code : ℕ} (c : Checking o h fs code) where

@@ -11,11 +11,11 @@ use Rattle.header.specs.Codes.{letterOf}
 use Rattle.header.specs.Fields.{textIn, valueAt, framed, elementAt, walk, fieldsOf}
 use Rattle.header.specs.Values.{numberIn, goodValue, goodField, goodValues}
 use Rattle.header.specs.Required.{hasRequired}
-use Rattle.header.specs.Header.{headerOf, judged, readHead, readHeader}
-use Rattle.header.specs.Table.{table, answer, fixedTable, fixedAnswerTo}
+use Rattle.header.specs.Header.{headerOf, judgedHead, readHead, readHeader}
+use Rattle.header.specs.Table.{headTable, headAnswer, fixedTable, fixedAnswerTo}
 
-pub table-agrees : agrees answer eqb table ≡ true
-unfolding allZero wordAt wordBytes startsWith wellKnown unique validName orderOf headLength messageLength sizesOf fixedPart letterOf textIn valueAt framed elementAt walk fieldsOf numberIn goodValue goodField goodValues hasRequired headerOf judged readHead readHeader
+pub table-agrees : agrees headAnswer eqb headTable ≡ true
+unfolding allZero wordAt wordBytes startsWith wellKnown unique validName orderOf headLength messageLength sizesOf fixedPart letterOf textIn valueAt framed elementAt walk fieldsOf numberIn goodValue goodField goodValues hasRequired headerOf judgedHead readHead readHeader
 table-agrees = refl
 
 -- and of its fixed part alone

@@ -20,8 +20,8 @@ use Rattle.header.specs.Fixed.{orderOf, kindOf, bodyLength, serialOf, ar
 use Rattle.header.specs.Fields.{Fields, placeOf, noFields, walk, fieldsOf}
 use Rattle.header.specs.Values.{goodValues}
 use Rattle.header.specs.Required.{hasRequired}
-use Rattle.header.specs.Header.{headerOf, judged, orSeven, readHead, readHeader, readingAnswer}
-use Rattle.header.specs.Reader.{Head, Fits}
+use Rattle.header.specs.Header.{headerOf, judgedHead, orSeven, readHead, readHeader, readingAnswer}
+use Rattle.header.specs.Reader.{SizedHead, ValuesFit}
 use Rattle.header.proofs.Front.{word-in-front, head-front, head-low, fixed-front, fixed-append, Good, fixed-good}
 use Rattle.header.proofs.Walk.{fits-none, walk-fits}
 use Rattle.header.proofs.Whole.{few-bytes, fixed-broken, head-short, head-of}
@@ -54,8 +54,8 @@ fixed-answers s k l = go (fixedPart s) refl l
 -- ---- a head that has come whole is decided: 7, 8, 9 or none
 
 module _ (h : List ℕ) (fs : Fields) (P : Reading → Type 0) (eight : P (Broken 8)) (nine : P (Broken 9)) (good : P (Whole (headerOf h fs))) where
-  judged-is : P (judged h fs)
-  unfolding judged
+  judged-is : P (judgedHead h fs)
+  unfolding judgedHead
   judged-is = go (not (goodValues (orderOf h) h fs)) (not (hasRequired (kindOf h) fs))
     where
       go : (a b : Bool) → P (cond a (Broken 8) (cond b (Broken 9) (Whole (headerOf h fs))))
@@ -138,11 +138,11 @@ pub record Fitting (s : List ℕ) (d : Header) : Type 0 where
   pub destination-fits : d .destination .at + d .destination .len ≤ d .head
 
 -- the fields of a head as long as its array says lie in it
-fields-fit : (h : List ℕ) (fs : Fields) → Head h → fieldsOf h ≡ some fs → Fits h fs
+fields-fit : (h : List ℕ) (fs : Fields) → SizedHead h → fieldsOf h ≡ some fs → ValuesFit h fs
 unfolding fieldsOf
 fields-fit h fs w e = go (allZero (drop (16 + arrayLength h) h)) e
   where
-    go : (b : Bool) → cond b (walk (arrayLength h + 1) (orderOf h) h (16 + arrayLength h) 16 noFields) none ≡ some fs → Fits h fs
+    go : (b : Bool) → cond b (walk (arrayLength h + 1) (orderOf h) h (16 + arrayLength h) 16 noFields) none ≡ some fs → ValuesFit h fs
     go true k = walk-fits (arrayLength h + 1) (orderOf h) h (16 + arrayLength h) 16 noFields fs (rw (w .sized) (omega arith)) (fits-none h) k
     go false k = let z : _≡_ {A = ℕ} 0 1 = cc in absurd (omega arith)
 
@@ -159,18 +159,18 @@ head-whole h d e = go (fieldsOf h) refl e
 module _ (s : List ℕ) (d : Header) (u : readHeader s ≡ Whole d) (k : 16 ≤ length s) {head message : ℕ} (e : fixedPart s ≡ fixed.Sizes head message)
     (l : head ≤ length s) where
   -- a place that is one of the fields'
-  in-place : (fs : Fields) (p : Place) (code : ℕ) → p ≡ placeOf fs code → Fits (take head s) fs → d .head ≡ head → p .at + p .len ≤ d .head
+  in-place : (fs : Fields) (p : Place) (code : ℕ) → p ≡ placeOf fs code → ValuesFit (take head s) fs → d .head ≡ head → p .at + p .len ≤ d .head
   in-place fs p code q t o = rw (q, o, ← length-take-le head s l) (t .inside code)
 
   fitting : Fitting s d
   unfolding headerOf
   fitting =
       let g : Good s head message = fixed-good s e in
-      let w : Head (take head s) = head-of s k (fixedPart s) refl e l in
+      let w : SizedHead (take head s) = head-of s k (fixedPart s) refl e l in
       let f = head-whole (take head s) d (sym (read-whole s k e l) ∙ u) in
       let fs : Fields = f .0 in
       let q : d ≡ headerOf (take head s) fs = f .2 in
-      let t : Fits (take head s) fs = fields-fit (take head s) fs w (f .1) in
+      let t : ValuesFit (take head s) fs = fields-fit (take head s) fs w (f .1) in
       let i : head ≡ headLength s = g .head-is in
       let j : message ≡ messageLength s = g .message-is in
       let n : length (take head s) ≡ head = length-take-le head s l in

@@ -22,7 +22,7 @@ use Rattle.header.specs.declared.Element.{Element}
 use Rattle.header.specs.declared.Element.the-variants.{At, Bad}
 use Rattle.header.specs.Codes.{letterOf}
 use Rattle.header.specs.Fields.{Fields, absent, placeOf, noFields, textIn, valueAt, framed, elementAt, walk}
-use Rattle.header.specs.Reader.{Inside, Fits}
+use Rattle.header.specs.Reader.{Inside, ValuesFit}
 use Rattle.header.proofs.Elements.{no-letter}
 
 -- ---- where an element stands
@@ -192,14 +192,14 @@ pub ruleset walking = (walking-begins, walking-ends, walking-bad, code-inside, c
 
 -- ---- what a walk has found lies in the head
 
-pub fits-none : (h : List ℕ) → Fits h noFields
+pub fits-none : (h : List ℕ) → ValuesFit h noFields
 fits-none h = record { sized = refl; inside = λ code. go code (decLe 10 code) }
   where
     go : (code : ℕ) → Dec (10 ≤ code) → placeOf noFields code .at + placeOf noFields code .len ≤ length h
     go code (yes l) = rw (List·getD-eq-default noFields absent l) (omega arith)
     go code (no l) = rw (getD-replicate 10 code absent absent (omega arith)) (omega arith)
 
-fits-more : {h : List ℕ} {fs : Fields} (c a l : ℕ) → Fits h fs → c < 10 → a + l ≤ length h → Fits h (set fs c (record { at = a; len = l }))
+fits-more : {h : List ℕ} {fs : Fields} (c a l : ℕ) → ValuesFit h fs → c < 10 → a + l ≤ length h → ValuesFit h (set fs c (record { at = a; len = l }))
 fits-more {h} {fs} c a l f k m =
     let z : length fs ≡ 10 = f .sized in
     record { sized = length-set fs c (record { at = a; len = l }) ∙ z; inside = λ code. go code (eqb code c) refl }
@@ -213,32 +213,32 @@ fits-more {h} {fs} c a l f k m =
     go code false e = rw (getD-set-other fs c code (record { at = a; len = l }) absent (eqb-false code c e)) (f .inside code)
 
 -- the same of what one more step finds, where it holds of the rest
-module _ (fuel : ℕ) (o : Order) (h : List ℕ) (end from : ℕ) (fs gs : Fields) (k : end ≤ length h) (f : Fits h fs)
+module _ (fuel : ℕ) (o : Order) (h : List ℕ) (end from : ℕ) (fs gs : Fields) (k : end ≤ length h) (f : ValuesFit h fs)
     (e : walk (suc fuel) o h end from fs ≡ some gs)
-    (rest : (s : ℕ) (fs′ : Fields) → Fits h fs′ → walk fuel o h end s fs′ ≡ some gs → Fits h gs) where
-  nothing : none ≡ some gs → Fits h gs
+    (rest : (s : ℕ) (fs′ : Fields) → ValuesFit h fs′ → walk fuel o h end s fs′ ≡ some gs → ValuesFit h gs) where
+  nothing : none ≡ some gs → ValuesFit h gs
   nothing y = let x : _≡_ {A = ℕ} 0 1 = cc in absurd (omega arith)
 
-  step-found : {c a l s : ℕ} → (from ≡ end → ⊥) → elementAt o h end from ≡ At c a l s → (b : Bool) → eqb (placeOf fs c .at) 0 ≡ b → Fits h gs
+  step-found : {c a l s : ℕ} → (from ≡ end → ⊥) → elementAt o h end from ≡ At c a l s → (b : Bool) → eqb (placeOf fs c .at) 0 ≡ b → ValuesFit h gs
   step-found {c} {a} {l} {s} n q true z =
       let t : Stands end from c a l s = element-stands o h end from q in
       rest s (set fs c (record { at = a; len = l })) (fits-more c a l f (t .known) (omega arith))
       (sym (walk-more fuel o h end from fs n q (eqb-true (placeOf fs c .at) 0 z)) ∙ e)
   step-found {c} n q false z = nothing (sym (walk-again fuel o h end from fs n q (eqb-false (placeOf fs c .at) 0 z)) ∙ e)
 
-  step-element : (from ≡ end → ⊥) → (r : Element) → elementAt o h end from ≡ r → Fits h gs
+  step-element : (from ≡ end → ⊥) → (r : Element) → elementAt o h end from ≡ r → ValuesFit h gs
   step-element n Bad q = nothing (sym (walk-bad fuel o h end from fs n q) ∙ e)
   step-element n (At c a l s) q = step-found n q (eqb (placeOf fs c .at) 0) refl
 
-  step-fits : (b : Bool) → eqb from end ≡ b → Fits h gs
+  step-fits : (b : Bool) → eqb from end ≡ b → ValuesFit h gs
   step-fits true b =
       let y : some fs ≡ some gs = sym (walk-end fuel o h end from fs (eqb-true from end b)) ∙ e in
       let x : fs ≡ gs = cc in
-      subst (Fits h) x f
+      subst (ValuesFit h) x f
   step-fits false b = step-element (eqb-false from end b) (elementAt o h end from) refl
 
-pub walk-fits : (fuel : ℕ) (o : Order) (h : List ℕ) (end from : ℕ) (fs gs : Fields) → end ≤ length h → Fits h fs
-    → walk fuel o h end from fs ≡ some gs → Fits h gs
+pub walk-fits : (fuel : ℕ) (o : Order) (h : List ℕ) (end from : ℕ) (fs gs : Fields) → end ≤ length h → ValuesFit h fs
+    → walk fuel o h end from fs ≡ some gs → ValuesFit h gs
 unfolding walk
 walk-fits zero o h end from fs gs k f e = let x : _≡_ {A = ℕ} 0 1 = cc in absurd (omega arith)
 walk-fits (suc fuel) o h end from fs gs k f e =

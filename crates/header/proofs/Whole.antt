@@ -23,8 +23,8 @@ use Rattle.header.specs.Fixed.{orderOf, arrayLength, headLength, fixedPa
 use Rattle.header.specs.Fields.{Fields, placeOf, noFields, walk, fieldsOf}
 use Rattle.header.specs.Values.{numberIn, goodValues}
 use Rattle.header.specs.Required.{hasRequired}
-use Rattle.header.specs.Header.{headerOf, judged, readHead, readHeader}
-use Rattle.header.specs.Reader.{Head, Inside, Fits, Reads, foundIn}
+use Rattle.header.specs.Header.{headerOf, judgedHead, readHead, readHeader}
+use Rattle.header.specs.Reader.{SizedHead, Inside, ValuesFit, Reads, foundIn}
 use Rattle.header.proofs.Front.{word-in-front, Good, fixed-good}
 use Rattle.header.proofs.Walk.{fits-none, walk-fits}
 
@@ -52,24 +52,24 @@ module _ {h : List ℕ} {o : Order} {fs : Fields} (w : Reads h o fs) where
   a-header n b r e f g = rw (e, f, g, add-sub-cancel-left (placeOf fs 5 .at) (placeOf fs 5 .len), w .order, w .head .sized)
 
   module _ {g : Bool} (e : g ≡ goodValues o h fs) where
-    pub bad-value : not g ≡ true → Broken 8 ≡ judged h fs
-    unfolding judged
+    pub bad-value : not g ≡ true → Broken 8 ≡ judgedHead h fs
+    unfolding judgedHead
     bad-value t = rw (← w .order, ← e, t)
 
     module _ (t : not g ≡ false) {q : Bool} (f : q ≡ hasRequired (getD h 1 0) fs) where
-      pub missing : not q ≡ true → Broken 9 ≡ judged h fs
-      unfolding judged
+      pub missing : not q ≡ true → Broken 9 ≡ judgedHead h fs
+      unfolding judgedHead
       missing u = rw (← w .order, ← e, t, ← f, u)
 
-      pub whole : not q ≡ false → {d : Header} → d ≡ headerOf h fs → Whole d ≡ judged h fs
-      unfolding judged
+      pub whole : not q ≡ false → {d : Header} → d ≡ headerOf h fs → Whole d ≡ judgedHead h fs
+      unfolding judgedHead
       whole u i = rw (← w .order, ← e, t, ← f, u, i)
 
 pub ruleset judging = (a-header, bad-value, missing, whole, needs)
 
 -- ---- 7
 
-module _ (h : List ℕ) (o : Order) (a : ℕ) (w : Head h) (p : o ≡ orderOf h) (q : a ≡ wordAt o h 12) where
+module _ (h : List ℕ) (o : Order) (a : ℕ) (w : SizedHead h) (p : o ≡ orderOf h) (q : a ≡ wordAt o h 12) where
   array-is : arrayLength h ≡ a
   array-is = rw (← p, ← q)
 
@@ -100,7 +100,7 @@ module _ (h : List ℕ) (o : Order) (a : ℕ) (w : Head h) (p : o ≡ orderOf h)
       malformed u = rw (fields-are, not-true (f .good) u)
 
       module _ (u : not (f .good) ≡ false) where
-        pub places-fit : Fits h (f .places)
+        pub places-fit : ValuesFit h (f .places)
         places-fit =
             walk-fits (16 + a - 16 + 1) (orderOf h) h (16 + a) 16 noFields (f .places) array-inside (fits-none h)
             (sym i ∙ rw (not-false (f .good) u))
@@ -108,7 +108,7 @@ module _ (h : List ℕ) (o : Order) (a : ℕ) (w : Head h) (p : o ≡ orderOf h)
         pub places-read : Reads h o (f .places)
         places-read = record { order = p; head = w; fits = places-fit; reply = places-fit .inside 5 }
 
-        pub well-formed : {r : Reading} → r ≡ judged h (f .places) → r ≡ readHead h
+        pub well-formed : {r : Reading} → r ≡ judgedHead h (f .places) → r ≡ readHead h
         unfolding readHead
         well-formed k = k ∙ rw (fields-are, not-false (f .good) u)
 
@@ -131,7 +131,7 @@ module _ (s : List ℕ) (k : 16 ≤ length s) (r : Fixed) (p : r ≡ fixedPart s
     head-short h = rw (le-ltb (length s) 16 k, ← p, e, lt-ltb (length s) head h)
 
     module _ (h : head ≤ length s) where
-      pub head-of : Head (take head s)
+      pub head-of : SizedHead (take head s)
       unfolding headLength
       head-of =
           let g : Good s head message = fixed-good s (sym p ∙ e) in
@@ -143,7 +143,7 @@ module _ (s : List ℕ) (k : 16 ≤ length s) (r : Fixed) (p : r ≡ fixedPart s
             small = rw (length-take-le head s h, g .head-is) (omega arith);
           }
 
-      pub a-head : Head (take (head - 0) (drop 0 s))
+      pub a-head : SizedHead (take (head - 0) (drop 0 s))
       a-head = rw sub-zero head-of
 
       pub then-head : {x : Reading} → x ≡ readHead (take (head - 0) (drop 0 s)) → x ≡ readHeader s

@@ -33,12 +33,12 @@ headerOf h fs =
     }
 
 -- 8, then 9 (rules 2.9, 2.10 and 2.11)
-unfoldable pub judged : List ℕ → Fields → Reading
-judged h fs = cond (not (goodValues (orderOf h) h fs)) (Broken 8) (cond (not (hasRequired (kindOf h) fs)) (Broken 9) (Whole (headerOf h fs)))
+unfoldable pub judgedHead : List ℕ → Fields → Reading
+judgedHead h fs = cond (not (goodValues (orderOf h) h fs)) (Broken 8) (cond (not (hasRequired (kindOf h) fs)) (Broken 9) (Whole (headerOf h fs)))
 
 abbrev pub orSeven : List ℕ → Option Fields → Reading
 orSeven h none = Broken 7
-orSeven h (some fs) = judged h fs
+orSeven h (some fs) = judgedHead h fs
 
 -- 7 before both, over exactly the bytes of the head (rule 2.11)
 unfoldable pub readHead : List ℕ → Reading

@@ -13,7 +13,7 @@ use Rattle.header.specs.declared.Element.{Element}
 use Rattle.header.specs.Fields.{Fields, placeOf, elementAt}
 
 -- h is a head as long as its array says
-pub record Head (h : List ℕ) : Type 0 where
+pub record SizedHead (h : List ℕ) : Type 0 where
   pub sized : length h ≡ 16 + roundUp8 (arrayLength h)
   pub small : length h ≤ 2048
 
@@ -29,15 +29,15 @@ abbrev pub elementIn : List ℕ → ℕ → ℕ → Element
 elementIn h end from = elementAt (orderOf h) h end from
 
 -- each value lies in h
-pub record Fits (h : List ℕ) (fs : Fields) : Type 0 where
+pub record ValuesFit (h : List ℕ) (fs : Fields) : Type 0 where
   pub sized : length fs ≡ 10
   pub inside : (code : ℕ) → placeOf fs code .at + placeOf fs code .len ≤ length h
 
 -- what the judgement of a whole head reads: its byte order, and fields whose values lie in it
 pub record Reads (h : List ℕ) (o : Order) (fs : Fields) : Type 0 where
   pub order : o ≡ orderOf h
-  pub head : Head h
-  pub fits : Fits h fs
+  pub head : SizedHead h
+  pub fits : ValuesFit h fs
   pub reply : placeOf fs 5 .at + placeOf fs 5 .len ≤ length h
 
 -- the fields that a walk has found

@@ -13,8 +13,8 @@ use Rattle.header.specs.Fixed.{fixedPart, fixedAnswer}
 use Rattle.header.specs.Codes.{call, return, error, signal}
 use Rattle.header.specs.Header.{readHeader, readingAnswer}
 
-abbrev pub Line : Type 0
-Line = List ℕ × ℕ
+abbrev pub HeadRow : Type 0
+HeadRow = List ℕ × ℕ
 
 abbrev mark : Order → ℕ
 mark Little = byte "l"
@@ -25,24 +25,24 @@ number Little n = wordBytes n
 number Big n = reverse (wordBytes n)
 
 -- the first 16 bytes: type, version, body length, serial, array length
-abbrev first : Order → ℕ → ℕ → ℕ → ℕ → ℕ → List ℕ
-first o kind version body serial array = mark o ∷ kind ∷ 0 ∷ version ∷ (number o body ++ (number o serial ++ number o array))
+abbrev fixedBytes : Order → ℕ → ℕ → ℕ → ℕ → ℕ → List ℕ
+fixedBytes o kind version body serial array = mark o ∷ kind ∷ 0 ∷ version ∷ (number o body ++ (number o serial ++ number o array))
 
 -- the call C, in either order: path `/` at byte 24, member `M` at byte 40
-abbrev pub callC : Order → List ℕ
-callC o =
-    first o 1 1 0 1 26
+abbrev pub callCIn : Order → List ℕ
+callCIn o =
+    fixedBytes o 1 1 0 1 26
     ++ ((1 ∷ 1 ∷ byte "o" ∷ 0 ∷ number o 1)
     ++ ((byte "/" ∷ 0 ∷ 0 ∷ 0 ∷ 0 ∷ 0 ∷ 0 ∷ 0 ∷ [])
     ++ ((3 ∷ 1 ∷ byte "s" ∷ 0 ∷ number o 1) ++ (byte "M" ∷ 0 ∷ 0 ∷ 0 ∷ 0 ∷ 0 ∷ 0 ∷ 0 ∷ []))))
 
 -- the same with another length of the array
 abbrev arrayC : Order → ℕ → List ℕ
-arrayC o n = first o 1 1 0 1 n ++ drop 16 (callC o)
+arrayC o n = fixedBytes o 1 1 0 1 n ++ drop 16 (callCIn o)
 
 -- a message of a type with these fields
 abbrev message : Order → ℕ → List ℕ → List ℕ
-message o kind fields = first o kind 1 0 1 (length fields) ++ fields
+message o kind fields = fixedBytes o kind 1 0 1 (length fields) ++ fields
 
 -- a field whose text has 7 bytes, so that no padding follows
 abbrev text : Order → ℕ → Char → String → List ℕ
@@ -64,44 +64,44 @@ abbrev replySerial : Order → ℕ → List ℕ
 replySerial o n = 5 ∷ 1 ∷ byte "u" ∷ 0 ∷ number o n
 
 -- faults of the fixed part, and heads that have not come whole
-abbrev fixedLines : Order → List Line
+abbrev fixedLines : Order → List HeadRow
 fixedLines o =
-    (take 15 (callC o), 10)
-    ∷ (take 15 (set (callC o) 0 76), 10)  -- 1 is not found before byte 16
-    ∷ (take 47 (callC o), 10)
-    ∷ (take 47 (set (callC o) 31 1), 10)  -- nor 7 before the head's last byte
-    ∷ (set (callC o) 0 76, 1)  -- T5: byte 0 as 4c
-    ∷ (first o 0 2 0 0 0, 2)  -- 2 before 3 and 4
-    ∷ (first o 0 1 0 0 0, 3)
-    ∷ (first o 1 1 0 0 2033, 4)
-    ∷ (first o 1 1 0 1 2032, 10)  -- T6
-    ∷ (first o 1 1 0 1 2033, 5)
-    ∷ (first o 5 1 134217712 1 0, 0)  -- T7
-    ∷ (first o 5 1 134217713 1 0, 6)
+    (take 15 (callCIn o), 10)
+    ∷ (take 15 (set (callCIn o) 0 76), 10)  -- 1 is not found before byte 16
+    ∷ (take 47 (callCIn o), 10)
+    ∷ (take 47 (set (callCIn o) 31 1), 10)  -- nor 7 before the head's last byte
+    ∷ (set (callCIn o) 0 76, 1)  -- T5: byte 0 as 4c
+    ∷ (fixedBytes o 0 2 0 0 0, 2)  -- 2 before 3 and 4
+    ∷ (fixedBytes o 0 1 0 0 0, 3)
+    ∷ (fixedBytes o 1 1 0 0 2033, 4)
+    ∷ (fixedBytes o 1 1 0 1 2032, 10)  -- T6
+    ∷ (fixedBytes o 1 1 0 1 2033, 5)
+    ∷ (fixedBytes o 5 1 134217712 1 0, 0)  -- T7
+    ∷ (fixedBytes o 5 1 134217713 1 0, 6)
     ∷ []
 
 -- faults of the array and of values
-abbrev arrayLines : Order → List Line
+abbrev arrayLines : Order → List HeadRow
 arrayLines o =
-    (set (callC o) 31 1, 7)  -- padding
-    ∷ (set (callC o) 47 1, 7)  -- padding behind the array
-    ∷ (set (set (callC o) 32 1) 34 (byte "o"), 7)  -- a repeated code
-    ∷ (set (callC o) 32 0, 7)  -- code 0
-    ∷ (set (callC o) 32 10, 7)  -- a code above 9
-    ∷ (set (callC o) 33 2, 7)  -- the length of a signature
-    ∷ (set (callC o) 34 (byte "o"), 7)  -- another letter
-    ∷ (set (callC o) 35 1, 7)  -- no zero behind the letter
-    ∷ (set (callC o) 41 1, 7)  -- no zero behind the value
+    (set (callCIn o) 31 1, 7)  -- padding
+    ∷ (set (callCIn o) 47 1, 7)  -- padding behind the array
+    ∷ (set (set (callCIn o) 32 1) 34 (byte "o"), 7)  -- a repeated code
+    ∷ (set (callCIn o) 32 0, 7)  -- code 0
+    ∷ (set (callCIn o) 32 10, 7)  -- a code above 9
+    ∷ (set (callCIn o) 33 2, 7)  -- the length of a signature
+    ∷ (set (callCIn o) 34 (byte "o"), 7)  -- another letter
+    ∷ (set (callCIn o) 35 1, 7)  -- no zero behind the letter
+    ∷ (set (callCIn o) 41 1, 7)  -- no zero behind the value
     ∷ (arrayC o 25, 7)  -- a field that runs past the array
     ∷ (arrayC o 27, 7)  -- an array that ends in padding
-    ∷ (set (set (callC o) 40 (byte ".")) 47 1, 7)  -- 7 before 8
-    ∷ (set (callC o) 40 (byte "."), 8)
-    ∷ (set (set (callC o) 1 4) 40 (byte "."), 8)  -- 8 before 9
+    ∷ (set (set (callCIn o) 40 (byte ".")) 47 1, 7)  -- 7 before 8
+    ∷ (set (callCIn o) 40 (byte "."), 8)
+    ∷ (set (set (callCIn o) 1 4) 40 (byte "."), 8)  -- 8 before 9
     ∷ (message o return (replySerial o 0), 8)
     ∷ []
 
 -- each field that a type requires, absent alone
-abbrev requiredLines : Order → List Line
+abbrev requiredLines : Order → List HeadRow
 requiredLines o =
     (message o return [], 9)
     ∷ (message o call (member o), 9)
@@ -114,31 +114,31 @@ requiredLines o =
     ∷ []
 
 -- heads without a fault
-abbrev goodLines : Order → List Line
+abbrev goodLines : Order → List HeadRow
 goodLines o =
     (message o 5 [], 0)  -- types 5 and up require none
-    ∷ (callC o, 0)
-    ∷ (callC o ++ bytes "body", 0)  -- bytes behind the head do not matter
+    ∷ (callCIn o, 0)
+    ∷ (callCIn o ++ bytes "body", 0)  -- bytes behind the head do not matter
     ∷ (message o return (replySerial o 7), 0)
     ∷ (message o call (path o ++ member o), 0)
     ∷ (message o error (errorName o ++ replySerial o 7), 0)
     ∷ (message o signal (path o ++ (interface o ++ member o)), 0)
     ∷ []
 
-abbrev lines : Order → List Line
+abbrev lines : Order → List HeadRow
 lines o = fixedLines o ++ (arrayLines o ++ (requiredLines o ++ goodLines o))
 
-abbrev pub table : List Line
-table = lines Little ++ lines Big
+abbrev pub headTable : List HeadRow
+headTable = lines Little ++ lines Big
 
-abbrev pub answer : List ℕ → ℕ
-answer s = readingAnswer (readHeader s)
+abbrev pub headAnswer : List ℕ → ℕ
+headAnswer s = readingAnswer (readHeader s)
 
 -- what the first 16 bytes answer by themselves
-abbrev fixedOnly : Order → List Line
-fixedOnly o = (callC o, 0) ∷ (set (callC o) 0 76, 1) ∷ (first o 1 1 0 1 2032, 0) ∷ (first o 1 1 0 1 2033, 5) ∷ (first o 5 1 134217713 1 0, 6) ∷ []
+abbrev fixedOnly : Order → List HeadRow
+fixedOnly o = (callCIn o, 0) ∷ (set (callCIn o) 0 76, 1) ∷ (fixedBytes o 1 1 0 1 2032, 0) ∷ (fixedBytes o 1 1 0 1 2033, 5) ∷ (fixedBytes o 5 1 134217713 1 0, 6) ∷ []
 
-abbrev pub fixedTable : List Line
+abbrev pub fixedTable : List HeadRow
 fixedTable = fixedOnly Little ++ fixedOnly Big
 
 abbrev pub fixedAnswerTo : List ℕ → ℕ

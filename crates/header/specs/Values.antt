@@ -10,7 +10,7 @@ use Rattle.wire.specs.declared.Order.{Order}
 use Rattle.names.specs.Names.{validName}
 use Rattle.signature.specs.Signature.{validSignature}
 use Rattle.header.specs.declared.Place.{Place}
-use Rattle.header.specs.Codes.{Rule, name, serial, signature, free, ruleOf}
+use Rattle.header.specs.Codes.{Rule, name, serial, signature, anyValue, ruleOf}
 use Rattle.header.specs.Fields.{Fields, placeOf, present, textAt}
 
 -- the number in the four bytes of a value; 0 where a value has fewer, as an absent one (rule 2.12)
@@ -22,7 +22,7 @@ abbrev pub obeys : Order → Rule → List ℕ → Bool
 obeys o (name form) t = validName form t
 obeys o serial t = not (eqb (numberIn o t) 0)
 obeys o signature t = validSignature t
-obeys o free t = true
+obeys o anyValue t = true
 
 unfoldable pub goodValue : Order → ℕ → List ℕ → Bool
 goodValue o code t = obeys o (ruleOf code) t

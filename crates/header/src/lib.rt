@@ -9,8 +9,8 @@ ghost use lib.ListN.{length};
 ghost use Rattle.header.specs.Fixed.{orderOf, sizesOf, fixedPart};
 ghost use Rattle.header.specs.Codes.{letterOf};
 ghost use Rattle.header.specs.Fields.{noFields, textIn, valueAt, framed, elementAt, walk};
-ghost use Rattle.header.specs.Header.{headerOf, judged, readHead, readHeader};
-ghost use Rattle.header.specs.Reader.{Head, Inside, Reads, foundIn};
+ghost use Rattle.header.specs.Header.{headerOf, judgedHead, readHead, readHeader};
+ghost use Rattle.header.specs.Reader.{SizedHead, Inside, Reads, foundIn};
 
 // A field's value in the head: `len` bytes from `at` on. No value starts at byte 0: there the field is absent.
 pub struct Place {
@@ -254,7 +254,7 @@ fn header_of(order: Order, head: &[u8], places: [Place; 10]) -> Header
 // 8, then 9.
 fn judge(order: Order, head: &[u8], places: [Place; 10]) -> Reading
     requires { ⌜ Reads (now head) order places ⌝ }
-    ensures { λ r. ⌜ r ≡ judged (now (head .entry)) places ⌝ }
+    ensures { λ r. ⌜ r ≡ judgedHead (now (head .entry)) places ⌝ }
 {
     if !values::are_good(order, head, places) {
         return Reading::Broken(8);
@@ -267,7 +267,7 @@ fn judge(order: Order, head: &[u8], places: [Place; 10]) -> Reading
 
 // The whole head, and nothing behind it: 7, then 8, then 9.
 fn read_head(head: &[u8]) -> Reading
-    requires { ⌜ Head (now head) ⌝ }
+    requires { ⌜ SizedHead (now head) ⌝ }
     ensures { λ r. ⌜ r ≡ readHead (now (head .entry)) ⌝ }
 {
     let order = order_of(head);

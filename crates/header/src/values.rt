@@ -8,7 +8,7 @@ ghost use lib.ListN.{length};
 ghost use Rattle.header.specs.Fields.{present, placeOf};
 ghost use Rattle.header.specs.Values.{numberIn, goodValue, goodField, goodValues};
 ghost use Rattle.header.specs.Required.{hasRequired};
-ghost use Rattle.header.specs.Reader.{Fits};
+ghost use Rattle.header.specs.Reader.{ValuesFit};
 
 // The number in the four bytes of a value, 0 where it has fewer.
 pub fn number_in(order: Order, value: &[u8]) -> u32
@@ -52,7 +52,7 @@ fn is_good(order: Order, head: &[u8], place: Place, code: usize) -> bool
 
 // Each field that is present obeys its rule.
 pub fn are_good(order: Order, head: &[u8], places: [Place; 10]) -> bool
-    requires { ⌜ Fits (now head) places ⌝ }
+    requires { ⌜ ValuesFit (now head) places ⌝ }
     ensures { λ r. ⌜ r ≡ goodValues order (now (head .entry)) places ⌝ }
 {
     let mut code = 10;

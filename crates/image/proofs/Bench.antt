@@ -8,16 +8,16 @@ use Rattle.wire.specs.Words.{wordAt, wordBytes}
 use Rattle.names.specs.Names.{startsWith, wellKnown, validName}
 use Rattle.image.specs.Good.{goodCounts, goodSections, goodHeader, goodString, goodOrAny, goodOwned, goodConnectRule, goodOwnRule}
 use Rattle.image.specs.Good.{goodStrings, goodTransactionRule, goodConnect, goodOwn, goodTransaction, goodImage, outcomeOf, imageAnswer}
-use Rattle.image.specs.Table.{Line, table, owns, transactions, answer}
+use Rattle.image.specs.Table.{ImageRow, imageTable, ownRows, transactions}
 
-abbrev Agree : List Line → Type 0
-Agree lines = agrees answer eqb lines ≡ true
+abbrev Agree : List ImageRow → Type 0
+Agree lines = agrees imageAnswer eqb lines ≡ true
 
-pub table-agrees : Agree table
+pub table-agrees : Agree imageTable
 unfolding wordAt wordBytes goodCounts goodSections goodHeader goodConnectRule goodConnect goodOrAny goodStrings goodTransactionRule goodTransaction goodImage outcomeOf imageAnswer
 table-agrees = refl
 
-pub owns-agree : Agree owns
+pub owns-agree : Agree ownRows
 unfolding wordAt wordBytes startsWith wellKnown validName goodCounts goodSections goodHeader goodString goodOrAny goodOwned goodOwnRule goodOwn goodImage outcomeOf imageAnswer
 owns-agree = refl
 

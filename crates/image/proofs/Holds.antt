@@ -11,13 +11,13 @@ use Rattle.wire.specs.Lists.{below}
 use Rattle.wire.proofs.Below.{row-each}
 use Rattle.image.specs.Image.{totalLength, connectCount, connectOffset, ownCount, ownOffset, transactionCount, transactionOffset, stringOffset}
 use Rattle.image.specs.Good.{goodCounts, goodSections, goodHeader, goodConnect, goodOwn, goodTransaction, goodImage, outcomeOf}
-use Rattle.image.specs.Contracts.{Header, GoodImage}
+use Rattle.image.specs.Contracts.{GoodImageHeader, GoodImage}
 use Rattle.image.specs.declared.Outcome.the-variants.{Good, Bad}
 
 -- ---- the header
 
 module _ (image : List ℕ) where
-  pub header-holds : goodHeader image ≡ true → Header image
+  pub header-holds : goodHeader image ≡ true → GoodImageHeader image
   unfolding goodHeader goodCounts goodSections
   header-holds h =
       let k = row-each true (leb 32 (length image) ∷ leb (length image) 65536 ∷ goodCounts image ∷ goodSections image ∷ []) h in
@@ -51,7 +51,7 @@ module _ (image : List ℕ) where
         strings-inside = leb-true (stringOffset image) (length image) (s 4);
       }
 
-  pub header-passed : (h : Bool) → h ≡ goodHeader image → not h ≡ false → Header image
+  pub header-passed : (h : Bool) → h ≡ goodHeader image → not h ≡ false → GoodImageHeader image
   header-passed h e n = header-holds (sym e ∙ not-false h n)
 
   -- ---- the image

@@ -9,7 +9,7 @@ use Rattle.image.specs.Rules.{spanAt}
 use Rattle.image.specs.Good.{goodImage}
 
 -- the header is good
-pub record Header (image : List ℕ) : Type 0 where
+pub record GoodImageHeader (image : List ℕ) : Type 0 where
   pub low : 32 ≤ length image
   pub high : length image ≤ 65536
   pub total : totalLength image ≡ length image
@@ -40,5 +40,5 @@ pub record RuleAt (image : List ℕ) (offset size from i : ℕ) : Type 0 where
 
 -- the image is good
 pub record GoodImage (image : List ℕ) : Type 0 where
-  pub header : Header image
+  pub header : GoodImageHeader image
   pub is : goodImage image ≡ true

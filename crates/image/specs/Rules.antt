@@ -26,8 +26,8 @@ pub record ConnectRule : Type 0 where
   pub reserved : ℕ
   pub id : ℕ
 
-abbrev pub connectAt : List ℕ → ℕ → ConnectRule
-connectAt image at =
+abbrev pub connectRuleAt : List ℕ → ℕ → ConnectRule
+connectRuleAt image at =
     record {
       context = getD image at 0;
       verdict = getD image (at + 1) 0;
@@ -38,7 +38,7 @@ connectAt image at =
 
 -- connect rules have 8 bytes each
 abbrev pub connectRule : List ℕ → ℕ → ConnectRule
-connectRule image i = connectAt image (connectOffset image + 8 * i)
+connectRule image i = connectRuleAt image (connectOffset image + 8 * i)
 
 -- an own rule: matcher 0 is any name, 1 the name and 2 the prefix that it cites (rule 5.5)
 pub record OwnRule : Type 0 where
@@ -49,8 +49,8 @@ pub record OwnRule : Type 0 where
   pub subject : ℕ
   pub name : Span
 
-abbrev pub ownAt : List ℕ → ℕ → OwnRule
-ownAt image at =
+abbrev pub ownRuleAt : List ℕ → ℕ → OwnRule
+ownRuleAt image at =
     record {
       context = getD image at 0;
       verdict = getD image (at + 1) 0;
@@ -62,7 +62,7 @@ ownAt image at =
 
 -- own rules have 16 bytes each
 abbrev pub ownRule : List ℕ → ℕ → OwnRule
-ownRule image i = ownAt image (ownOffset image + 16 * i)
+ownRule image i = ownRuleAt image (ownOffset image + 16 * i)
 
 -- a transaction rule: direction 0 is send and 1 receive; type 0 is any, 1 a method call and 4 a signal (rule 5.6)
 pub record TransactionRule : Type 0 where

@@ -34,12 +34,12 @@ abbrev pub cites : ℕ → ℕ → List ℕ
 cites offset len = wordBytes offset ++ wordBytes len
 
 -- an image, and its answer
-abbrev pub Line : Type 0
-Line = List ℕ × ℕ
+abbrev pub ImageRow : Type 0
+ImageRow = List ℕ × ℕ
 
 -- header and connect rules
-abbrev pub table : List Line
-table =
+abbrev pub imageTable : List ImageRow
+imageTable =
     (imageOf [] [] [] [], 0)
     ∷ (take 31 (imageOf [] [] [] []), 50)
     -- own and transaction rules and strings from byte 40 on, behind a gap; one transaction rule and strings from byte 72 on, behind the end
@@ -53,8 +53,8 @@ table =
     ∷ []
 
 -- own rules
-abbrev pub owns : List Line
-owns =
+abbrev pub ownRows : List ImageRow
+ownRows =
     (imageOf [] (head 1 1 2 0 5 ++ cites 0 0) [] [], 50)
     ∷ (imageOf [] (head 1 1 0 0 5 ++ cites 0 0) [] [], 0)
     ∷ (imageOf [] (head 0 1 2 0 5 ++ cites 0 5) [] (bytes "org.a"), 50)
@@ -63,13 +63,10 @@ owns =
     ∷ []
 
 -- transaction rules
-abbrev pub transactions : List Line
+abbrev pub transactions : List ImageRow
 transactions =
     (imageOf [] [] (head 0 0 0 0 0 ++ replicate 32 0) [], 0)
     ∷ (imageOf [] [] (head 0 0 0 2 0 ++ replicate 32 0) [], 50)
     ∷ (imageOf [] [] (head 0 0 0 0 0 ++ cites 1 0 ++ replicate 24 0) [], 50)
     ∷ (imageOf [] [] (head 2 0 1 4 9 ++ cites 2 5 ++ cites 0 2 ++ cites 2 5 ++ cites 1 4) (bytes "/aorg.a"), 0)
     ∷ []
-
-abbrev pub answer : List ℕ → ℕ
-answer image = imageAnswer image

@@ -8,7 +8,7 @@ ghost use Rattle.wire.specs.declared.Order.the-variants.{Little};
 ghost use Rattle.image.specs.Image.{connectCount, connectOffset, ownCount, ownOffset, transactionCount, transactionOffset};
 ghost use Rattle.image.specs.Rules.{spanAt, textOf, transactionAt};
 ghost use Rattle.image.specs.Good.{goodCounts, goodSections, goodHeader, goodString, goodOrAny, goodOwned, goodStrings, goodSubject, goodMatcher, goodConnect, goodOwn, goodTransaction, outcomeOf};
-ghost use Rattle.image.specs.Contracts.{Header, Strings, RuleAt, Cites};
+ghost use Rattle.image.specs.Contracts.{GoodImageHeader, Strings, RuleAt, Cites};
 
 // What the test of an image says: a bad one is answered 50 (rule 5.9).
 pub enum Outcome {
@@ -167,49 +167,49 @@ fn is_transaction(image: &[u8], strings: usize, from: usize, i: usize) -> bool
 // ---- readers of a good header
 
 pub fn connect_count(image: &[u8]) -> usize
-    requires { ⌜ Header (now image) ⌝ }
+    requires { ⌜ GoodImageHeader (now image) ⌝ }
     ensures { λ r. ⌜ (r ≡ connectCount (now (image .entry))) × (r ≤ 256) ⌝ }
 {
     word(image, 4)
 }
 
 pub fn connect_offset(image: &[u8]) -> usize
-    requires { ⌜ Header (now image) ⌝ }
+    requires { ⌜ GoodImageHeader (now image) ⌝ }
     ensures { λ r. ⌜ (r ≡ connectOffset (now (image .entry))) × (r ≤ 65536) ⌝ }
 {
     word(image, 8)
 }
 
 pub fn own_count(image: &[u8]) -> usize
-    requires { ⌜ Header (now image) ⌝ }
+    requires { ⌜ GoodImageHeader (now image) ⌝ }
     ensures { λ r. ⌜ (r ≡ ownCount (now (image .entry))) × (r ≤ 256) ⌝ }
 {
     word(image, 12)
 }
 
 pub fn own_offset(image: &[u8]) -> usize
-    requires { ⌜ Header (now image) ⌝ }
+    requires { ⌜ GoodImageHeader (now image) ⌝ }
     ensures { λ r. ⌜ (r ≡ ownOffset (now (image .entry))) × (r ≤ 65536) ⌝ }
 {
     word(image, 16)
 }
 
 pub fn transaction_count(image: &[u8]) -> usize
-    requires { ⌜ Header (now image) ⌝ }
+    requires { ⌜ GoodImageHeader (now image) ⌝ }
     ensures { λ r. ⌜ (r ≡ transactionCount (now (image .entry))) × (r ≤ 512) ⌝ }
 {
     word(image, 20)
 }
 
 pub fn transaction_offset(image: &[u8]) -> usize
-    requires { ⌜ Header (now image) ⌝ }
+    requires { ⌜ GoodImageHeader (now image) ⌝ }
     ensures { λ r. ⌜ (r ≡ transactionOffset (now (image .entry))) × (r ≤ 65536) ⌝ }
 {
     word(image, 24)
 }
 
 pub fn string_offset(image: &[u8]) -> usize
-    requires { ⌜ Header (now image) ⌝ }
+    requires { ⌜ GoodImageHeader (now image) ⌝ }
     ensures { λ r. ⌜ Strings (now (image .entry)) r ⌝ }
 {
     word(image, 28)
@@ -228,7 +228,7 @@ pub fn text(image: &[u8], strings: usize, at: usize) -> &[u8]
 // ---- the image
 
 fn are_connects(image: &[u8]) -> bool
-    requires { ⌜ Header (now image) ⌝ }
+    requires { ⌜ GoodImageHeader (now image) ⌝ }
     ensures { λ r. ⌜ r ≡ below (goodConnect (now (image .entry))) (connectCount (now (image .entry))) ⌝ }
 {
     let from = connect_offset(image);
@@ -243,7 +243,7 @@ fn are_connects(image: &[u8]) -> bool
 }
 
 fn are_owns(image: &[u8]) -> bool
-    requires { ⌜ Header (now image) ⌝ }
+    requires { ⌜ GoodImageHeader (now image) ⌝ }
     ensures { λ r. ⌜ r ≡ below (goodOwn (now (image .entry))) (ownCount (now (image .entry))) ⌝ }
 {
     let strings = string_offset(image);
@@ -259,7 +259,7 @@ fn are_owns(image: &[u8]) -> bool
 }
 
 fn are_transactions(image: &[u8]) -> bool
-    requires { ⌜ Header (now image) ⌝ }
+    requires { ⌜ GoodImageHeader (now image) ⌝ }
     ensures { λ r. ⌜ r ≡ below (goodTransaction (now (image .entry))) (transactionCount (now (image .entry))) ⌝ }
 {
     let strings = string_offset(image);

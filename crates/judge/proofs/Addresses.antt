@@ -13,7 +13,7 @@ use Rattle.policy.specs.Names.{busName, owns}
 use Rattle.rules.specs.Addresses.{uniqueName, answersTo, resolve}
 use Rattle.rules.specs.Calls.{slotAt}
 use Rattle.memory.specs.Encoding.{stateOf}
-use Rattle.memory.specs.Places.{numberAt, Found}
+use Rattle.memory.specs.Places.{numberAt, FoundSlot}
 use Rattle.memory.proofs.Reading.{sixteen, slot-free, slot-peer}
 use Rattle.memory.proofs.Search.{looking-begins, tested-hit, tested-miss, tested-ends}
 use Rattle.memory.proofs.Find.{found-first, found-passes}
@@ -46,7 +46,7 @@ pub ruleset addressees = (looking-begins, tested-hit, tested-miss, tested-ends, 
 -- ---- the destination
 
 -- who answers to a text is a peer
-answers-some : (text m : List ℕ) (j : ℕ) → Found (answersTo text) m 0 j → j < 16 → numberAt m j ≡ 0 → ⊥
+answers-some : (text m : List ℕ) (j : ℕ) → FoundSlot (answersTo text) m 0 j → j < 16 → numberAt m j ≡ 0 → ⊥
 unfolding answersTo
 answers-some text m j f h z = false≢true (ap (answersTo text) (sym (slot-free m j h z)) ∙ found-passes (answersTo text) m 0 j f h)
 
@@ -67,7 +67,7 @@ module _ (m head : List ℕ) (p : Place) (z : p .at ≡ 0 → ⊥) where
     unfolding resolve
     resolved-bus t = record { is = rw (ne-eqb (p .at) 0 z, text-is, ← q, t); stands = tt }
 
-    module _ (t : b ≡ false) {j : ℕ} (f : Found (answersTo text) m 0 j) where
+    module _ (t : b ≡ false) {j : ℕ} (f : FoundSlot (answersTo text) m 0 j) where
       pub resolved-slot : Seeks m head p → j < 16 → Resolved m head p (At j)
       unfolding resolve
       resolved-slot s h =

@@ -16,7 +16,7 @@ use Rattle.memory.specs.Encoding.{pendingBytes}
 use Rattle.memory.proofs.Frame.{pending-length}
 use Rattle.memory.proofs.Puts.{pending-stands, pending-put, call-appended}
 use Rattle.slots.specs.Slots.{peerAt, Seated}
-use Rattle.judge.specs.Steps.{Began, Ended}
+use Rattle.judge.specs.Steps.{Began, CallRemoved}
 
 -- ---- one more
 
@@ -51,7 +51,7 @@ pub call-ended : (m t : List ℕ) (i n k : ℕ) → Seated m i → n ≡ length 
     → t
     ≡ wordBytes (n - 1)
     ++ cutOut 8 (callWidth * n) (callWidth * k) (drop 4 (take (slotStart i + pendingAt + pendingLength - (slotStart i + pendingAt)) (drop (slotStart i + pendingAt) m)))
-    → Ended m i k
+    → CallRemoved m i k
     (take (slotStart i + pendingAt) m ++ (t ++ drop (slotStart i + pendingAt + pendingLength - (slotStart i + pendingAt)) (drop (slotStart i + pendingAt) m)))
 call-ended m t i n k p e f l b et =
     let ws = peerAt m i .pending in

@@ -26,8 +26,8 @@ use Rattle.memory.specs.Places.{numberAt}
 use Rattle.memory.proofs.Good.{good-is}
 use Rattle.memory.proofs.Removal.{ended-without}
 use Rattle.slots.specs.Slots.{peerAt, Seated, CallAt}
-use Rattle.judge.specs.Judging.{Left}
-use Rattle.judge.specs.Steps.{Says, Waits, Delivers, Answer, ToPeer, RepliesTo, Began, Ended}
+use Rattle.judge.specs.Judging.{JudgementLeft}
+use Rattle.judge.specs.Steps.{Says, Waits, Delivers, PolicyAnswer, ToPeer, RepliesTo, Began, CallRemoved}
 
 -- ---- whether a call waits, by the place at which the search for it ended
 
@@ -43,7 +43,7 @@ module _ {m : List ℕ} {i n : ℕ} (h : n ≡ length (peerAt m i .pending)) {c 
 
 -- ---- what changes no state leaves memory as it is
 
-pub left-as-is : {m : List ℕ} {i : ℕ} (p : Seated m i) (b : (j : ℕ) → Fits w8 (getD m j 0)) {r j : Judgement} → r ≡ j → Left (record { judgement = j; state = stateOf m }) r m
+pub left-as-is : {m : List ℕ} {i : ℕ} (p : Seated m i) (b : (j : ℕ) → Fits w8 (getD m j 0)) {r j : Judgement} → r ≡ j → JudgementLeft (record { judgement = j; state = stateOf m }) r m
 left-as-is {m} p b e = record { judgement = e; memory = sym (good-is m (λ j. b j .fits) (p .held .held)) }
 
 -- ---- a wait: 25, 26
@@ -80,20 +80,20 @@ pub ruleset delivering = (delivers-call, delivers-signal, needs)
 -- ---- 22, 23
 
 module _ {image m : List ℕ} {i j : ℕ} {head : List ℕ} {x : Header} {s : Bool} (a : Says image send m i j head x s) where
-  pub answer-send : not s ≡ true → Answer image m i j head x 22
+  pub answer-send : not s ≡ true → PolicyAnswer image m i j head x 22
   answer-send t = record { is = rw (← a .is, not-true s t) }
 
   module _ (t : not s ≡ false) {u : Bool} (d : Says image receive m j i head x u) where
-    pub answer-receive : not u ≡ true → Answer image m i j head x 23
+    pub answer-receive : not u ≡ true → PolicyAnswer image m i j head x 23
     answer-receive v = record { is = rw (← a .is, not-false s t, ← d .is, not-true u v) }
 
-    pub answer-none : not u ≡ false → Answer image m i j head x 0
+    pub answer-none : not u ≡ false → PolicyAnswer image m i j head x 0
     answer-none v = record { is = rw (← a .is, not-false s t, ← d .is, not-false u v) }
 
 pub ruleset answers = (answer-send, answer-receive, answer-none, needs)
 
 module _ {image m : List ℕ} {i j : ℕ} {head : List ℕ} {x : Header} (p : Seated m i) (b : (k : ℕ) → Fits w8 (getD m k 0)) {n : ℕ}
-    (a : Answer image m i j head x n) where
+    (a : PolicyAnswer image m i j head x n) where
   -- whether send and receive allow
   abbrev sends : Bool
   sends = maySend image (peerAt m i) (peerAt m j .names) (messageOf head x)
@@ -113,7 +113,7 @@ module _ {image m : List ℕ} {i j : ℕ} {head : List ℕ} {x : Header} (p : Se
   pub peer-refused : (n ≡ 0 → ⊥) → {r : Judgement} → r ≡ refusal n → ToPeer image m i j head x r m
   peer-refused z {r} q = record { left = go sends receives (a .is) }
     where
-      go : (u v : Bool) → n ≡ cond u (cond v 0 23) 22 → Left (outcome u v) r m
+      go : (u v : Bool) → n ≡ cond u (cond v 0 23) 22 → JudgementLeft (outcome u v) r m
       go true true e = absurd (z e)
       go true false e = left-as-is p b (q ∙ ap refusal e)
       go false v e = left-as-is p b (q ∙ ap refusal e)
@@ -121,7 +121,7 @@ module _ {image m : List ℕ} {i j : ℕ} {head : List ℕ} {x : Header} (p : Se
   pub peer-delivered : n ≡ 0 → {r : Judgement} {m′ : List ℕ} → Delivers m i j x r m′ → ToPeer image m i j head x r m′
   peer-delivered z {r} {m′} w = record { left = go sends receives (sym z ∙ a .is) }
     where
-      go : (u v : Bool) → _≡_ {A = ℕ} 0 (cond u (cond v 0 23) 22) → Left (outcome u v) r m′
+      go : (u v : Bool) → _≡_ {A = ℕ} 0 (cond u (cond v 0 23) 22) → JudgementLeft (outcome u v) r m′
       go true true e = w .left
       go true false e = absurd (omega arith)
       go false v e = absurd (omega arith)
@@ -135,7 +135,7 @@ module _ {m : List ℕ} {i j : ℕ} (p : Seated m i) (x : Header) (b : (k : ℕ)
   pub reply-none : n ≤ f → {r : Judgement} → r ≡ refusal 24 → RepliesTo m i j x r m
   reply-none l q = record { left = rw (← e, waits-no h a l) (left-as-is p b q) }
 
-  pub reply-ends : f < n → {d : ℕ} → d ≡ numberAt m j → {m′ : List ℕ} → Ended m j f m′ → RepliesTo m i j x (record { answer = 0; receiver = to.Peer d }) m′
+  pub reply-ends : f < n → {d : ℕ} → d ≡ numberAt m j → {m′ : List ℕ} → CallRemoved m j f m′ → RepliesTo m i j x (record { answer = 0; receiver = to.Peer d }) m′
   reply-ends l q g =
       let w : ended c (x .«reply_serial») (peerAt m j .pending) ≡ without f (peerAt m j .pending)
       = ended-without c (x .«reply_serial») (peerAt m j .pending) ∙ ap (λ (k : ℕ). without k (peerAt m j .pending)) (place h a) in

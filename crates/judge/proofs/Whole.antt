@@ -22,17 +22,17 @@ use Rattle.memory.proofs.Reading.{slot-peer}
 use Rattle.slots.specs.Slots.{peerAt, Seated}
 use Rattle.judge.specs.declared.address.Destination.{Destination}
 use Rattle.judge.specs.declared.address.Destination.the-variants.{Absent, Bus, At, Unknown}
-use Rattle.judge.specs.Judging.{Message, Left, Judges}
+use Rattle.judge.specs.Judging.{JudgedMessage, JudgementLeft, Judges}
 use Rattle.judge.specs.Steps.{Stands, Seeks, Resolved, ToBus, ToAll, ToPeer, RepliesTo, Replies, Directs}
 use Rattle.judge.proofs.Peers.{left-as-is}
 
 -- the bus is told, and nothing waits
 told : {image m : List ℕ} {i : ℕ} {head : List ℕ} {x : Header} → Seated m i → ((j : ℕ) → Fits w8 (getD m j 0))
-    → {r : Judgement} → ToBus image m i head x r → Left (toBus image (stateOf m) (peerAt m i) (messageOf head x)) r m
+    → {r : Judgement} → ToBus image m i head x r → JudgementLeft (toBus image (stateOf m) (peerAt m i) (messageOf head x)) r m
 told {image} {m} {i} {head} {x} a b {r} t = go (maySend image (peerAt m i) (busName ∷ []) (messageOf head x)) (t .is)
   where
     go : (c : Bool) → r ≡ cond c (passed (stateOf m) to.Bus) (refused (stateOf m) 22) .judgement
-        → Left (cond c (passed (stateOf m) to.Bus) (refused (stateOf m) 22)) r m
+        → JudgementLeft (cond c (passed (stateOf m) to.Bus) (refused (stateOf m) 22)) r m
     go true e = left-as-is a b e
     go false e = left-as-is a b e
 
@@ -82,7 +82,7 @@ pub ruleset directing = (stands-at, directs-at, directs-unknown, directs-bus, di
 
 -- ---- the whole
 
-module _ {image m : List ℕ} {i : ℕ} {head : List ℕ} {x : Header} (a : Message image m i head x) where
+module _ {image m : List ℕ} {i : ℕ} {head : List ℕ} {x : Header} (a : JudgedMessage image m i head x) where
   fits : Fitting head x
   fits = whole-fits head x (a .read)
 

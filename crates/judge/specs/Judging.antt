@@ -14,17 +14,17 @@ use Rattle.memory.specs.Encoding.{memoryOf, stateOf}
 use Rattle.slots.specs.Slots.{peerAt, Seated}
 
 -- a message whose head is whole, of the peer in slot i of good memory, under a good image
-pub record Message (image m : List ℕ) (i : ℕ) (head : List ℕ) (x : Header) : Type 0 where
+pub record JudgedMessage (image m : List ℕ) (i : ℕ) (head : List ℕ) (x : Header) : Type 0 where
   pub good : GoodImage image
   pub sender : Seated m i
   pub read : readHeader head ≡ Whole x
   pub long : length head ≡ x .head
 
 -- what a judgement leaves: r is its answer with its receiver, and m the bytes of its state
-pub record Left (j : Judged Tail) (r : Judgement) (m : List ℕ) : Type 0 where
+pub record JudgementLeft (j : Judged Tail) (r : Judgement) (m : List ℕ) : Type 0 where
   pub judgement : r ≡ j .judgement
   pub memory : m ≡ memoryOf (j .state)
 
 -- the judgement is that of the rules (rule 7.11), and memory is the bytes of the state that it leaves
 abbrev pub Judges : List ℕ → List ℕ → ℕ → List ℕ → Header → Judgement → List ℕ → Type 0
-Judges image m i head x r m′ = Left (judged image (stateOf m) i (peerAt m i) head x) r m′
+Judges image m i head x r m′ = JudgementLeft (judged image (stateOf m) i (peerAt m i) head x) r m′

@@ -20,7 +20,7 @@ use Rattle.tables.specs.Cut.{without}
 use Rattle.memory.specs.Encoding.{memoryOf, stateOf}
 use Rattle.memory.specs.Sound.{Held}
 use Rattle.slots.specs.Slots.{peerAt, Seated}
-use Rattle.judge.specs.Judging.{Left}
+use Rattle.judge.specs.Judging.{JudgementLeft}
 use Rattle.judge.specs.declared.address.Text.{Text}
 use Rattle.judge.specs.declared.address.Destination.{Destination}
 use Rattle.judge.specs.declared.address.Destination.the-variants.{Absent, Bus, At, Unknown}
@@ -82,31 +82,31 @@ pub record ToAll (image m : List ℕ) (i : ℕ) (head : List ℕ) (x : Header) (
 -- a call with this serial to the peer of this number waits
 pub record Waits (m : List ℕ) (i callee serial : ℕ) (r : Judgement) (m′ : List ℕ) : Type 0 where
   pub left : (receiver : Peer Tail) (x : Header) → receiver .number ≡ callee → x .serial ≡ serial
-      → Left (waits (stateOf m) i (peerAt m i) receiver x) r m′
+      → JudgementLeft (waits (stateOf m) i (peerAt m i) receiver x) r m′
 
 -- a message that may pass to a peer
 pub record Delivers (m : List ℕ) (i j : ℕ) (x : Header) (r : Judgement) (m′ : List ℕ) : Type 0 where
   pub left :
-      Left (cond (expectsReply x) (waits (stateOf m) i (peerAt m i) (peerAt m j) x) (passed (stateOf m) (to.Peer (peerAt m j .number)))) r m′
+      JudgementLeft (cond (expectsReply x) (waits (stateOf m) i (peerAt m i) (peerAt m j) x) (passed (stateOf m) (to.Peer (peerAt m j .number)))) r m′
 
 -- 22, 23, or 0 where policy lets it pass
-pub record Answer (image m : List ℕ) (i j : ℕ) (head : List ℕ) (x : Header) (r : ℕ) : Type 0 where
+pub record PolicyAnswer (image m : List ℕ) (i j : ℕ) (head : List ℕ) (x : Header) (r : ℕ) : Type 0 where
   pub is : r
       ≡ cond (maySend image (peerAt m i) (peerAt m j .names) (messageOf head x))
       (cond (mayReceive image (peerAt m j) (peerAt m i .names) (messageOf head x)) 0 23)
       22
 
 pub record ToPeer (image m : List ℕ) (i j : ℕ) (head : List ℕ) (x : Header) (r : Judgement) (m′ : List ℕ) : Type 0 where
-  pub left : Left (toPeer image (stateOf m) i (peerAt m i) (peerAt m j) (messageOf head x) x) r m′
+  pub left : JudgementLeft (toPeer image (stateOf m) i (peerAt m i) (peerAt m j) (messageOf head x) x) r m′
 
 pub record RepliesTo (m : List ℕ) (i j : ℕ) (x : Header) (r : Judgement) (m′ : List ℕ) : Type 0 where
-  pub left : Left (replyTo (stateOf m) j (peerAt m i) (peer (peerAt m j)) x) r m′
+  pub left : JudgementLeft (replyTo (stateOf m) j (peerAt m i) (peer (peerAt m j)) x) r m′
 
 pub record Replies (m : List ℕ) (i : ℕ) (to : Destination) (x : Header) (r : Judgement) (m′ : List ℕ) : Type 0 where
-  pub left : Left (reply (stateOf m) (peerAt m i) (addressOf to) x) r m′
+  pub left : JudgementLeft (reply (stateOf m) (peerAt m i) (addressOf to) x) r m′
 
 pub record Directs (image m : List ℕ) (i : ℕ) (to : Destination) (head : List ℕ) (x : Header) (r : Judgement) (m′ : List ℕ) : Type 0 where
-  pub left : Left (directed image (stateOf m) i (peerAt m i) (addressOf to) (messageOf head x) x) r m′
+  pub left : JudgementLeft (directed image (stateOf m) i (peerAt m i) (addressOf to) (messageOf head x) x) r m′
 
 -- ---- pending calls written
 
@@ -117,5 +117,5 @@ pub record Began (m : List ℕ) (i callee serial : ℕ) (m′ : List ℕ) : Type
       (putSlot (stateOf m) i (peer (withPending (peerAt m i) (peerAt m i .pending ++ (record { callee = callee; serial = serial } ∷ [])))))
 
 -- call k taken out
-pub record Ended (m : List ℕ) (i k : ℕ) (m′ : List ℕ) : Type 0 where
+pub record CallRemoved (m : List ℕ) (i k : ℕ) (m′ : List ℕ) : Type 0 where
   pub is : m′ ≡ memoryOf (putSlot (stateOf m) i (peer (withPending (peerAt m i) (without k (peerAt m i .pending)))))

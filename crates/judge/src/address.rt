@@ -7,7 +7,7 @@ ghost use Rattle.rules.specs.Addresses.{uniqueName, answersTo};
 ghost use Rattle.rules.specs.Calls.{slotAt};
 ghost use Rattle.memory.specs.Layout.{memoryLength};
 ghost use Rattle.memory.specs.Encoding.{stateOf};
-ghost use Rattle.memory.specs.Places.{Found};
+ghost use Rattle.memory.specs.Places.{FoundSlot};
 ghost use Rattle.slots.specs.Slots.{At};
 ghost use Rattle.judge.specs.Steps.{Spelled, Seeks, Resolved};
 
@@ -75,7 +75,7 @@ fn answers_to(memory: &[u8], i: usize, text: &[u8]) -> bool
 // The first slot whose peer answers to the text, or 16.
 fn find_addressee(memory: &[u8], text: &[u8]) -> usize
     requires { ⌜ length (now memory) ≡ memoryLength ⌝ }
-    ensures { λ r. ⌜ Found (answersTo (now (text .entry))) (now (memory .entry)) 0 r ⌝ }
+    ensures { λ r. ⌜ FoundSlot (answersTo (now (text .entry))) (now (memory .entry)) 0 r ⌝ }
 {
     let mut i = 0;
     while i < 16 {

@@ -21,8 +21,8 @@ ghost use Rattle.policy.specs.Matching.{messageOf};
 ghost use Rattle.policy.specs.Names.{namesIn};
 ghost use Rattle.rules.specs.Judge.{bit};
 ghost use Rattle.slots.specs.Slots.{At, Seated};
-ghost use Rattle.judge.specs.Judging.{Message, Judges};
-ghost use Rattle.judge.specs.Steps.{Stands, Asks, Says, ToBus, Reaches, ToAll, Waits, Delivers, Answer, ToPeer, RepliesTo, Replies, Directs};
+ghost use Rattle.judge.specs.Judging.{JudgedMessage, Judges};
+ghost use Rattle.judge.specs.Steps.{Stands, Asks, Says, ToBus, Reaches, ToAll, Waits, Delivers, PolicyAnswer, ToPeer, RepliesTo, Replies, Directs};
 
 // The types of messages (rule 2.2).
 const CALL: u8 = 1;
@@ -194,7 +194,7 @@ fn deliver(memory: &mut [u8], i: usize, j: usize, header: Header) -> Judgement
 // What policy answers to a call or a signal of slot i to the peer of slot j: 22, 23, or 0 (rule 7.7).
 fn answer_to(image: &[u8], memory: &[u8], i: usize, j: usize, head: &[u8], header: Header) -> u8
     requires { ⌜ (Asked (now image) (now head) header) × (Seated (now memory) i) × (Seated (now memory) j) ⌝ }
-    ensures { λ r. ⌜ Answer (now (image .entry)) (now (memory .entry)) i j (now (head .entry)) header r ⌝ }
+    ensures { λ r. ⌜ PolicyAnswer (now (image .entry)) (now (memory .entry)) i j (now (head .entry)) header r ⌝ }
 {
     if !may(image, policy::SEND, memory, i, j, head, header) {
         return 22;
@@ -287,7 +287,7 @@ fn direct(
 
 // The judgement of a whole message of the peer in slot i. Types above 4 are 20 (rule 7.10).
 pub fn judge(image: &[u8], memory: &mut [u8], i: usize, head: &[u8], header: Header) -> Judgement
-    requires { ⌜ Message (now image) (now memory) i (now head) header ⌝ }
+    requires { ⌜ JudgedMessage (now image) (now memory) i (now head) header ⌝ }
     ensures { λ r. ⌜ Judges (now (image .entry)) (now (memory .entry)) i (now (head .entry)) header r (now (memory .exit)) ⌝ }
 {
     if SIGNAL < header.kind {

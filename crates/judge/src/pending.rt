@@ -7,7 +7,7 @@ ghost use mathlib.Core.Path.{_≡_};
 ghost use Prim.Native.Nat.{_≤_, _<_};
 ghost use lib.ListN.{length};
 ghost use Rattle.slots.specs.Slots.{peerAt, Seated};
-ghost use Rattle.judge.specs.Steps.{Began, Ended};
+ghost use Rattle.judge.specs.Steps.{Began, CallRemoved};
 
 // The peer of slot i, which has n pending calls, awaits a reply of the callee to the serial.
 pub fn begin_call(memory: &mut [u8], i: usize, n: usize, callee: u32, serial: u32)
@@ -27,7 +27,7 @@ pub fn begin_call(memory: &mut [u8], i: usize, n: usize, callee: u32, serial: u3
 // The peer of slot i, which has n pending calls, no longer awaits the reply to call k.
 pub fn end_call(memory: &mut [u8], i: usize, n: usize, k: usize)
     requires { ⌜ (Seated (now memory) i) × (n ≡ length (peerAt (now memory) i .pending)) × (n ≤ 16) × (k < n) ⌝ }
-    ensures { λ r. ⌜ Ended (now (memory .entry)) i k (now (memory .exit)) ⌝ }
+    ensures { λ r. ⌜ CallRemoved (now (memory .entry)) i k (now (memory .exit)) ⌝ }
 {
     let at = SLOTS_AT + SLOT_LENGTH * i + PENDING_AT;
     let end = at + 132;

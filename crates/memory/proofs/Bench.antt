@@ -9,8 +9,8 @@ use Rattle.image.specs.Good.{goodHeader, goodImage, outcomeOf, imageAnswer}
 use Rattle.memory.specs.Encoding.{peerBytes, peerOf}
 use Rattle.memory.specs.Good.{good}
 use Rattle.memory.specs.Calls.{startOn, connectOn, ownOn, releaseOn, pieceOn, disconnectOn}
-use Rattle.memory.specs.Bench.{table}
+use Rattle.memory.specs.Bench.{memoryTable}
 
-pub table-agrees : agrees (λ (given : ℕ). given) eqb table ≡ true
+pub table-agrees : agrees (λ (given : ℕ). given) eqb memoryTable ≡ true
 unfolding wordAt wordBytes goodHeader goodImage outcomeOf imageAnswer peerBytes peerOf good startOn connectOn ownOn releaseOn pieceOn disconnectOn
 table-agrees = refl

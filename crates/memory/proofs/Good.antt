@@ -18,7 +18,7 @@ use Rattle.stream.specs.Tail.{Tail}
 use Rattle.rules.specs.State.{Pending, Slot, free, peer, putSlot}
 use Rattle.memory.specs.Layout.{memoryLength, slotLength, slotStart, gidWidth, gidRoom, pendingAt, callWidth, callRoom}
 use Rattle.memory.specs.Encoding.{slotBytes, memoryOf, wordOf, pendingOf, peerOf, slotOf, stateOf}
-use Rattle.memory.specs.Good.{goodSlots, plain, good}
+use Rattle.memory.specs.Good.{goodSlots, plainSlots, good}
 use Rattle.memory.specs.Sound.{headOctets, word32, narrow, Sound, Held}
 use Rattle.memory.proofs.Octets.{slot-octets}
 use Rattle.memory.proofs.Frame.{put-memory, put-last}
@@ -29,38 +29,38 @@ use Rattle.memory.proofs.Reading.{sixteen}
 pub good-sized : (m : List ℕ) → good m ≡ true → length m ≡ memoryLength
 unfolding good
 good-sized m e =
-    let g = goodSlots (stateOf m .slots) (stateOf m .last) (stateOf m .slots) && plain (parts slotLength 16 (drop 4 m)) in
+    let g = goodSlots (stateOf m .slots) (stateOf m .last) (stateOf m .slots) && plainSlots (parts slotLength 16 (drop 4 m)) in
     eqb-true (length m) memoryLength (both-first (eqb (length m) memoryLength) g e)
 
 good-rest : (m : List ℕ) → good m ≡ true
-    → goodSlots (stateOf m .slots) (stateOf m .last) (stateOf m .slots) && plain (parts slotLength 16 (drop 4 m)) ≡ true
+    → goodSlots (stateOf m .slots) (stateOf m .last) (stateOf m .slots) && plainSlots (parts slotLength 16 (drop 4 m)) ≡ true
 unfolding good
 good-rest m e =
-    let g = goodSlots (stateOf m .slots) (stateOf m .last) (stateOf m .slots) && plain (parts slotLength 16 (drop 4 m)) in
+    let g = goodSlots (stateOf m .slots) (stateOf m .last) (stateOf m .slots) && plainSlots (parts slotLength 16 (drop 4 m)) in
     both-second (eqb (length m) memoryLength) g e
 
 pub good-slots : (m : List ℕ) → good m ≡ true → goodSlots (stateOf m .slots) (stateOf m .last) (stateOf m .slots) ≡ true
 good-slots m e =
-    both-first (goodSlots (stateOf m .slots) (stateOf m .last) (stateOf m .slots)) (plain (parts slotLength 16 (drop 4 m))) (good-rest m e)
+    both-first (goodSlots (stateOf m .slots) (stateOf m .last) (stateOf m .slots)) (plainSlots (parts slotLength 16 (drop 4 m))) (good-rest m e)
 
-pub good-plain : (m : List ℕ) → good m ≡ true → plain (parts slotLength 16 (drop 4 m)) ≡ true
+pub good-plain : (m : List ℕ) → good m ≡ true → plainSlots (parts slotLength 16 (drop 4 m)) ≡ true
 good-plain m e =
-    both-second (goodSlots (stateOf m .slots) (stateOf m .last) (stateOf m .slots)) (plain (parts slotLength 16 (drop 4 m))) (good-rest m e)
+    both-second (goodSlots (stateOf m .slots) (stateOf m .last) (stateOf m .slots)) (plainSlots (parts slotLength 16 (drop 4 m))) (good-rest m e)
 
 pub held-of : (m : List ℕ) → good m ≡ true → Held m
 held-of m e = record { sized = good-sized m e; held = e }
 
 -- ---- good bytes are those of the state that is read off them
 
-plain-slots : (n : ℕ) (d : List ℕ) → length d ≡ slotLength * n → plain (parts slotLength n d) ≡ true → cells slotBytes (map slotOf (parts slotLength n d)) ≡ d
-unfolding parts plain cells
+plain-slots : (n : ℕ) (d : List ℕ) → length d ≡ slotLength * n → plainSlots (parts slotLength n d) ≡ true → cells slotBytes (map slotOf (parts slotLength n d)) ≡ d
+unfolding parts plainSlots cells
 plain-slots zero [] l e = refl
 plain-slots zero (x ∷ d) l e = absurd (omega arith)
 plain-slots (suc n) d l e =
     let b = take slotLength d in
     let r = parts slotLength n (drop slotLength d) in
-    ap₂ _++_ (same-eq (slotBytes (slotOf b)) b (both-first (same (slotBytes (slotOf b)) b) (plain r) e))
-    (plain-slots n (drop slotLength d) (length-drop slotLength d ∙ omega arith) (both-second (same (slotBytes (slotOf b)) b) (plain r) e))
+    ap₂ _++_ (same-eq (slotBytes (slotOf b)) b (both-first (same (slotBytes (slotOf b)) b) (plainSlots r) e))
+    (plain-slots n (drop slotLength d) (length-drop slotLength d ∙ omega arith) (both-second (same (slotBytes (slotOf b)) b) (plainSlots r) e))
     ∙ take-append-drop slotLength d
 
 pub good-is : (m : List ℕ) → ((i : ℕ) → getD m i 0 < 256) → good m ≡ true → memoryOf (stateOf m) ≡ m

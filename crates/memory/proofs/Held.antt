@@ -15,7 +15,7 @@ use Rattle.tables.proofs.Cells.{parts-length}
 use Rattle.rules.specs.State.{free, peer}
 use Rattle.memory.specs.Layout.{slotLength, slotStart, gidsAt, pendingAt, namesAt, headAt, firstByte, headRoom}
 use Rattle.memory.specs.Encoding.{slotBytes, slotOf, stateOf}
-use Rattle.memory.specs.Good.{plain}
+use Rattle.memory.specs.Good.{plainSlots}
 use Rattle.memory.specs.Sound.{Held}
 use Rattle.memory.specs.Places.{numberAt, peerFrom}
 use Rattle.memory.proofs.Reading.{slot-part, slot-at, slot-free, slot-peer, gids-many, pending-many, names-many}
@@ -23,11 +23,11 @@ use Rattle.memory.proofs.Fields.{gids-in, pending-in, names-in, table-c
 use Rattle.memory.proofs.Slots.{head-count}
 use Rattle.memory.proofs.Good.{good-plain}
 
-plain-at : (l : List (List ℕ)) (i : ℕ) → plain l ≡ true → i < length l → slotBytes (slotOf (getD l i [])) ≡ getD l i []
-unfolding plain
+plain-at : (l : List (List ℕ)) (i : ℕ) → plainSlots l ≡ true → i < length l → slotBytes (slotOf (getD l i [])) ≡ getD l i []
+unfolding plainSlots
 plain-at [] i e h = absurd (omega arith)
-plain-at (b ∷ l) zero e h = same-eq (slotBytes (slotOf b)) b (both-first (same (slotBytes (slotOf b)) b) (plain l) e)
-plain-at (b ∷ l) (suc i) e h = plain-at l i (both-second (same (slotBytes (slotOf b)) b) (plain l) e) (omega arith)
+plain-at (b ∷ l) zero e h = same-eq (slotBytes (slotOf b)) b (both-first (same (slotBytes (slotOf b)) b) (plainSlots l) e)
+plain-at (b ∷ l) (suc i) e h = plain-at l i (both-second (same (slotBytes (slotOf b)) b) (plainSlots l) e) (omega arith)
 
 pub held-part : (m : List ℕ) (i : ℕ) → Held m → i < 16 → take slotLength (drop (slotStart i) m) ≡ slotBytes (getD (stateOf m .slots) i free)
 held-part m i g h =

@@ -13,7 +13,7 @@ use Rattle.wire.proofs.Texts.{both-first, both-second, both-true}
 use Rattle.rules.specs.State.{free, peer}
 use Rattle.rules.proofs.Any.{first-good, rest-distinct}
 use Rattle.memory.specs.Layout.{headAt, headRoom}
-use Rattle.memory.specs.Encoding.{tailOf, peerOf, slotOf}
+use Rattle.memory.specs.Encoding.{slotTail, peerOf, slotOf}
 use Rattle.memory.specs.Sound.{octet, headOctets}
 
 -- ---- every thing of a list
@@ -58,7 +58,7 @@ below-every k (x ∷ l) h e (suc i) = below-every k l h (both-second (ltb x k) (
 -- ---- the head in a slot
 
 pub slot-octets : (b : List ℕ) → ((i : ℕ) → getD b i 0 < 256) → headOctets (slotOf b) ≡ true
-unfolding slotOf peerOf tailOf headOctets
+unfolding slotOf peerOf slotTail headOctets
 slot-octets b h = go (eqb (wordAt Little b 0) 0)
   where
     go : (z : Bool) → headOctets (cond z free (peer (peerOf b))) ≡ true

@@ -19,7 +19,7 @@ use Rattle.policy.specs.Names.{nameOf}
 use Rattle.stream.specs.Tail.{Tail}
 use Rattle.rules.specs.State.{Peer, free, peer}
 use Rattle.memory.specs.Layout.{slotLength, slotStart, gidsAt, firstGid, gidWidth, gidRoom, pendingAt, firstCallee, firstSerial, callWidth, callRoom, namesAt, firstName, nameWidth, nameRoom, takenAt, headAt, firstByte, headRoom}
-use Rattle.memory.specs.Encoding.{wordOf, pendingOf, tailOf, peerOf, slotOf, stateOf}
+use Rattle.memory.specs.Encoding.{wordOf, pendingOf, slotTail, peerOf, slotOf, stateOf}
 use Rattle.memory.specs.Places.{peerFrom, numberAt}
 
 -- ---- sixteen slots
@@ -46,8 +46,8 @@ slot-at m i h =
 
 -- ---- a slot is read no further than it reaches
 
-tail-take : (d : List ℕ) → tailOf (take slotLength d) ≡ tailOf d
-unfolding tailOf
+tail-take : (d : List ℕ) → slotTail (take slotLength d) ≡ slotTail d
+unfolding slotTail
 tail-take d =
     rw (word-take d slotLength takenAt (omega arith), word-take d slotLength headAt (omega arith), drop-take firstByte headRoom d)
     (λ j. record {
@@ -86,7 +86,7 @@ part-peer b e = rw (ne-eqb (wordAt Little b 0) 0 e)
 -- ---- the peer whose slot begins at a
 
 pub peer-from : (m : List ℕ) (a : ℕ) → peerOf (drop a m) ≡ peerFrom m a
-unfolding peerOf tailOf
+unfolding peerOf slotTail
 peer-from m a =
     rw (
       word-front m a,

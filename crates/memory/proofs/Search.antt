@@ -10,7 +10,7 @@ use lib.Seq.{drop-cons}
 use Rattle.stream.specs.Tail.{Tail}
 use Rattle.rules.specs.State.{Slot, free, firstBy}
 use Rattle.memory.specs.Encoding.{stateOf}
-use Rattle.memory.specs.Places.{Found}
+use Rattle.memory.specs.Places.{FoundSlot}
 use Rattle.memory.proofs.Reading.{sixteen}
 
 -- ---- of any list
@@ -52,7 +52,7 @@ module _ (t : Slot Tail → Bool) (m : List ℕ) (from i : ℕ) (l : Looking t m
   slots-end : i < 16 → i < length (stateOf m .slots)
   slots-end h = rw (sixteen m) h
 
-  pub looking-hit : i < 16 → t (getD (stateOf m .slots) i free) ≡ true → Found t m from i
+  pub looking-hit : i < 16 → t (getD (stateOf m .slots) i free) ≡ true → FoundSlot t m from i
   looking-hit h e =
       record {
         bound = l .high;
@@ -67,7 +67,7 @@ module _ (t : Slot Tail → Bool) (m : List ℕ) (from i : ℕ) (l : Looking t m
         left = l .left ∙ omega (arith, first-miss t (stateOf m .slots) i free (slots-end h) e);
       }
 
-  pub looking-ends : 16 ≤ i → Found t m from i
+  pub looking-ends : 16 ≤ i → FoundSlot t m from i
   looking-ends h =
       record {
         bound = l .high;
@@ -77,11 +77,11 @@ module _ (t : Slot Tail → Bool) (m : List ℕ) (from i : ℕ) (l : Looking t m
 -- the same, where r is what a test in code gave for slot i
 module _ {t : Slot Tail → Bool} {m : List ℕ} {from i : ℕ} (l : Looking t m from i) where
   module _ (h : i < 16) {r : Bool} (e : r ≡ t (getD (stateOf m .slots) i free)) where
-    pub tested-hit : r ≡ true → Found t m from i
+    pub tested-hit : r ≡ true → FoundSlot t m from i
     tested-hit q = looking-hit t m from i l h (sym e ∙ q)
 
     pub tested-miss : r ≡ false → Looking t m from (i + 1)
     tested-miss q = looking-miss t m from i l h (sym e ∙ q)
 
-  pub tested-ends : 16 ≤ i → Found t m from i
+  pub tested-ends : 16 ≤ i → FoundSlot t m from i
   tested-ends h = looking-ends t m from i l h

@@ -17,7 +17,7 @@ use Rattle.policy.specs.Names.{cellOf, nameOf}
 use Rattle.stream.specs.Tail.{Tail}
 use Rattle.rules.specs.State.{Peer, free, peer}
 use Rattle.memory.specs.Layout.{slotLength, takenAt, headAt, firstByte, headRoom}
-use Rattle.memory.specs.Encoding.{pendingBytes, headBytes, peerBytes, slotBytes, wordOf, pendingOf, tailOf, peerOf, slotOf}
+use Rattle.memory.specs.Encoding.{pendingBytes, headBytes, peerBytes, slotBytes, wordOf, pendingOf, slotTail, peerOf, slotOf}
 use Rattle.memory.proofs.Frame.{pending-length, cell-length, free-bytes}
 use Rattle.memory.proofs.Fields.{gids-in, pending-in, names-in, table-back, stream-bytes}
 
@@ -75,8 +75,8 @@ head-padded p =
     ∙ ap (drop 4) (head-bytes p)
     ∙ drop-at (wordBytes (length h)) (pad headRoom h) 4 (word-length (length h))
 
-pub tail-back : (p : Peer Tail) → p .stream .taken < 4294967296 → length (p .stream .head) ≤ headRoom → tailOf (slotBytes (peer p)) ≡ p .stream
-unfolding tailOf
+pub tail-back : (p : Peer Tail) → p .stream .taken < 4294967296 → length (p .stream .head) ≤ headRoom → slotTail (slotBytes (peer p)) ≡ p .stream
+unfolding slotTail
 tail-back p l h =
     let a = taken-back p l in
     let m : min (length (p .stream .head)) headRoom ≡ length (p .stream .head) = min-eq-left h in

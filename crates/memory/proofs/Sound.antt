@@ -19,7 +19,7 @@ use Rattle.stream.specs.Tail.{Tail}
 use Rattle.rules.specs.State.{Peer, Slot, free, peer, State}
 use Rattle.memory.specs.Layout.{memoryLength, slotLength}
 use Rattle.memory.specs.Encoding.{slotBytes, memoryOf, slotOf, stateOf}
-use Rattle.memory.specs.Good.{goodSlot, goodSlots, plain, good}
+use Rattle.memory.specs.Good.{goodSlot, goodSlots, plainSlots, good}
 use Rattle.memory.specs.Sound.{word32, narrow, Sound}
 use Rattle.memory.proofs.Frame.{slot-length, memory-length, memory-slots}
 use Rattle.memory.proofs.Peers.{GoodPeer, peer-good, slots-first, slots-later}
@@ -71,8 +71,8 @@ module _ (all : List (Slot Tail)) (last : ℕ) (g : goodSlots all last all ≡ t
       ap₂ _∷_ (slot-again x later (slots-first all last x later e) (both-first (narrow x) (every narrow later) n))
       (slots-again later (slots-later all last x later e) (both-second (narrow x) (every narrow later) n))
 
-  plain-slots : (slots : List (Slot Tail)) → goodSlots all last slots ≡ true → every narrow slots ≡ true → plain (map slotBytes slots) ≡ true
-  unfolding plain
+  plain-slots : (slots : List (Slot Tail)) → goodSlots all last slots ≡ true → every narrow slots ≡ true → plainSlots (map slotBytes slots) ≡ true
+  unfolding plainSlots
   plain-slots [] e n = refl
   plain-slots (x ∷ later) e n =
       rw (

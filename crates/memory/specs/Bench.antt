@@ -8,8 +8,8 @@ use Rattle.memory.specs.Encoding.{peerBytes, peerOf}
 use Rattle.memory.specs.Calls.{startOn, connectOn, ownOn, releaseOn, pieceOn, disconnectOn}
 
 -- what is given, and what it is to be
-abbrev pub table : List (ℕ × ℕ)
-table =
+abbrev pub memoryTable : List (ℕ × ℕ)
+memoryTable =
     (startOn [] .result, 51)
     ∷ (connectOn [] [] 0 [] .result .answer, 50)
     ∷ (ownOn [] [] 1 [] .result, 50)

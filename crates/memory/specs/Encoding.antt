@@ -49,8 +49,8 @@ wordOf b = wordAt Little b 0
 abbrev pub pendingOf : List ℕ → Pending
 pendingOf b = record { callee = wordAt Little b 0; serial = wordAt Little b 4 }
 
-unfoldable pub tailOf : List ℕ → Tail
-tailOf b =
+unfoldable pub slotTail : List ℕ → Tail
+slotTail b =
     record { taken = wordAt Little b takenAt; head = take (min (wordAt Little b headAt) headRoom) (drop (headAt + 4) b) }
 
 unfoldable pub peerOf : List ℕ → Peer Tail
@@ -61,7 +61,7 @@ peerOf b =
       gids = tableOf gidWidth gidRoom wordOf (drop gidsAt b);
       pending = tableOf callWidth callRoom pendingOf (drop pendingAt b);
       names = tableOf nameWidth nameRoom nameOf (drop namesAt b);
-      stream = tailOf b;
+      stream = slotTail b;
     }
 
 -- a slot whose number is 0 is free (rule 10.2)

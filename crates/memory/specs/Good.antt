@@ -52,12 +52,12 @@ goodSlots all last [] = true
 goodSlots all last (x ∷ later) = goodSlot all last x later && goodSlots all last later
 
 -- each part is the bytes of the slot that is read off it, so that unused places are zero (rule 10.5)
-unfoldable pub plain : List (List ℕ) → Bool
-plain [] = true
-plain (b ∷ r) = same (slotBytes (slotOf b)) b && plain r
+unfoldable pub plainSlots : List (List ℕ) → Bool
+plainSlots [] = true
+plainSlots (b ∷ r) = same (slotBytes (slotOf b)) b && plainSlots r
 
 -- the test that 51 is about (rules 10.3 and 10.6)
 unfoldable pub good : List ℕ → Bool
 good m =
     eqb (length m) memoryLength
-    && (goodSlots (stateOf m .slots) (stateOf m .last) (stateOf m .slots) && plain (parts slotLength 16 (drop 4 m)))
+    && (goodSlots (stateOf m .slots) (stateOf m .last) (stateOf m .slots) && plainSlots (parts slotLength 16 (drop 4 m)))

@@ -36,7 +36,7 @@ numberAt m i = wordAt Little m (slotStart i)
 -- ---- the slots in turn
 
 -- what was found: a slot, or 16
-pub record Found (t : Slot Tail → Bool) (m : List ℕ) (from r : ℕ) : Type 0 where
+pub record FoundSlot (t : Slot Tail → Bool) (m : List ℕ) (from r : ℕ) : Type 0 where
   pub bound : r ≤ 16
   pub is : r ≡ from + firstBy t (drop from (stateOf m .slots))
 

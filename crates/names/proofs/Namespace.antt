@@ -11,17 +11,17 @@ use borrow.Author.Needs.{needs}
 use borrow.Author.Tests.{eq-eqb, ne-eqb}
 use Rattle.wire.specs.Bytes.{bytes, same}
 use Rattle.wire.proofs.Texts.{same-length}
-use Rattle.names.specs.Namespace.{starts, inNamespace}
+use Rattle.names.specs.Namespace.{isPrefix, inNamespace}
 
 -- a name that is no longer than the prefix has no dot after it
-starts-short : (p n : List ℕ) → length n ≤ length p → starts (p ++ bytes ".") n ≡ false
+starts-short : (p n : List ℕ) → length n ≤ length p → isPrefix (p ++ bytes ".") n ≡ false
 starts-short [] [] h = refl
 starts-short [] (y ∷ n) h = absurd (omega arith)
 starts-short (x ∷ p) [] h = refl
 starts-short (x ∷ p) (y ∷ n) h = rw (starts-short p n (omega arith), and-false)
 
 -- a longer name: its first bytes are the prefix, and the next is the dot
-starts-dot : (p n : List ℕ) → length p < length n → starts (p ++ bytes ".") n ≡ same p (take (length p) n) && eqb 46 (getD n (length p) 0)
+starts-dot : (p n : List ℕ) → length p < length n → isPrefix (p ++ bytes ".") n ≡ same p (take (length p) n) && eqb 46 (getD n (length p) 0)
 unfolding same
 starts-dot [] [] h = absurd (omega arith)
 starts-dot [] (y ∷ n) h = and-true (eqb 46 y)

@@ -5,8 +5,8 @@ use Rattle.names.specs.Names.{startsWith, wellKnown, unique, validName}
 use Rattle.wire.specs.Lists.{agrees}
 use Rattle.wire.specs.Bytes.{same}
 use Rattle.names.specs.Namespace.{inNamespace}
-use Rattle.names.specs.Table.{answer, table}
+use Rattle.names.specs.Table.{nameAnswer, nameTable}
 
-pub table-agrees : agrees answer Bool·beq table ≡ true
+pub table-agrees : agrees nameAnswer Bool·beq nameTable ≡ true
 unfolding startsWith wellKnown unique validName same inNamespace
 table-agrees = refl

@@ -6,11 +6,11 @@ use lib.Dec.{eqb}
 use Rattle.wire.specs.Bytes.{bytes, same}
 
 -- the first text is how the second starts (rule 3.8)
-abbrev pub starts : List ℕ → List ℕ → Bool
-starts [] ys = true
-starts (x ∷ xs) [] = false
-starts (x ∷ xs) (y ∷ ys) = eqb x y && starts xs ys
+abbrev pub isPrefix : List ℕ → List ℕ → Bool
+isPrefix [] ys = true
+isPrefix (x ∷ xs) [] = false
+isPrefix (x ∷ xs) (y ∷ ys) = eqb x y && isPrefix xs ys
 
 -- the prefix itself, or more elements behind it (rule 3.8)
 unfoldable pub inNamespace : List ℕ → List ℕ → Bool
-inNamespace prefix name = same prefix name || starts (prefix ++ bytes ".") name
+inNamespace prefix name = same prefix name || isPrefix (prefix ++ bytes ".") name

@@ -10,20 +10,20 @@ use Rattle.names.specs.declared.Form.{Form}
 use Rattle.names.specs.declared.Form.the-variants.{Interface, WellKnown, Unique, Member, Path}
 
 -- is the text a name of the form; is the second text under the first, a prefix
-pub data Question : Type 0 where
-  named : Form → List ℕ → Question
-  under : List ℕ → List ℕ → Question
+pub data NameQuestion : Type 0 where
+  named : Form → List ℕ → NameQuestion
+  under : List ℕ → List ℕ → NameQuestion
 
-abbrev pub answer : Question → Bool
-answer (named f s) = validName f s
-answer (under p s) = inNamespace p s
+abbrev pub nameAnswer : NameQuestion → Bool
+nameAnswer (named f s) = validName f s
+nameAnswer (under p s) = inNamespace p s
 
 -- a question, and its answer
-abbrev pub Line : Type 0
-Line = Question × Bool
+abbrev pub NameRow : Type 0
+NameRow = NameQuestion × Bool
 
-abbrev pub table : List Line
-table =
+abbrev pub nameTable : List NameRow
+nameTable =
     (named Interface (bytes "org.freedesktop.DBus"), true)
     ∷ (named Interface (bytes "org"), false)
     ∷ (named Interface (bytes "org.7zip"), false)

@@ -18,7 +18,7 @@ use Rattle.memory.specs.Encoding.{slotBytes, stateOf}
 use Rattle.memory.specs.Sound.{Held}
 use Rattle.memory.specs.Calls.{stored, Did}
 use Rattle.memory.proofs.Reading.{sixteen}
-use Rattle.memory.specs.Places.{Found}
+use Rattle.memory.specs.Places.{FoundSlot}
 use Rattle.memory.proofs.Find.{found-first}
 use Rattle.memory.proofs.Frame.{free-bytes}
 use Rattle.memory.proofs.Newcomer.{newcomer-spread}
@@ -68,13 +68,13 @@ pub ruleset admitting = (admit-seated, needs)
 
 -- ---- 38, 39, and the seat
 
-pub enter-free : (m gids : List ℕ) (i : ℕ) → Held m → Found isFree m 0 i → (i ≡ 16 → ⊥) → length gids ≤ 16 → Free m i gids
+pub enter-free : (m gids : List ℕ) (i : ℕ) → Held m → FoundSlot isFree m 0 i → (i ≡ 16 → ⊥) → length gids ≤ 16 → Free m i gids
 enter-free m gids i g e q h =
     let b : i ≤ 16 = e .bound in
     let k : i < 16 = omega arith in
     record { sized = g .sized; held = g; below = k; few = h; zeros = free-part m i g e k }
 
-module _ (m : List ℕ) (f : Octets m) (g : Held m) (i : ℕ) (e : Found isFree m 0 i) (uid : ℕ) (gids : List ℕ) where
+module _ (m : List ℕ) (f : Octets m) (g : Held m) (i : ℕ) (e : FoundSlot isFree m 0 i) (uid : ℕ) (gids : List ℕ) where
   pub enter-full : i ≡ 16 → (r : Connected) → r ≡ noConnect 38 → Did (stored (entered m uid gids)) r m
   unfolding entered
   enter-full q r d =

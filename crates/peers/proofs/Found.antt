@@ -14,7 +14,7 @@ use Rattle.memory.specs.Encoding.{slotBytes, stateOf}
 use Rattle.memory.specs.Sound.{Held}
 use Rattle.memory.specs.Calls.{stored, Did}
 use Rattle.memory.proofs.Reading.{sixteen}
-use Rattle.memory.specs.Places.{Found}
+use Rattle.memory.specs.Places.{FoundSlot}
 use Rattle.memory.proofs.Find.{found-first, found-some, found-is, found-free}
 use Rattle.memory.proofs.Good.{good-is}
 use Rattle.memory.proofs.Held.{held-free, Counted, held-counted}
@@ -33,12 +33,12 @@ did-stay m f g r s e = rw e (record { result = refl; memory = sym (good-is m (be
 
 -- ---- the peer of a number
 
-pub peer-none : (n : ℕ) (m : List ℕ) (i : ℕ) → Found (isPeer n) m 0 i → i ≡ 16 → slotAt (stateOf m) (firstBy (isPeer n) (stateOf m .slots)) ≡ free
+pub peer-none : (n : ℕ) (m : List ℕ) (i : ℕ) → FoundSlot (isPeer n) m 0 i → i ≡ 16 → slotAt (stateOf m) (firstBy (isPeer n) (stateOf m .slots)) ≡ free
 peer-none n m i f e =
     let l : length (stateOf m .slots) ≤ i = rw (sixteen m) (omega arith) in
     rw (found-first (isPeer n) m i f) (List·getD-eq-default (stateOf m .slots) free l)
 
-module _ (n : ℕ) (m : List ℕ) (i : ℕ) (f : Found (isPeer n) m 0 i) (h : i ≡ 16 → ⊥) where
+module _ (n : ℕ) (m : List ℕ) (i : ℕ) (f : FoundSlot (isPeer n) m 0 i) (h : i ≡ 16 → ⊥) where
   pub found-below : i < 16
   found-below = let b : i ≤ 16 = f .bound in omega arith
 
@@ -56,5 +56,5 @@ counted m i g = held-counted m i (g .held) (g .below) (g .some)
 
 -- ---- a free slot
 
-pub free-part : (m : List ℕ) (i : ℕ) → Held m → Found isFree m 0 i → i < 16 → take slotLength (drop (slotStart i) m) ≡ slotBytes free
+pub free-part : (m : List ℕ) (i : ℕ) → Held m → FoundSlot isFree m 0 i → i < 16 → take slotLength (drop (slotStart i) m) ≡ slotBytes free
 free-part m i g f h = held-free m i g h (found-free m 0 i f h)

@@ -18,13 +18,13 @@ use Rattle.memory.specs.Layout.{memoryLength, slotLength, slotStart, takenAt}
 use Rattle.memory.specs.Encoding.{slotBytes, memoryOf, stateOf}
 use Rattle.memory.specs.Sound.{Held}
 use Rattle.memory.specs.Calls.{stored, Did}
-use Rattle.memory.specs.Places.{Found, putAt}
+use Rattle.memory.specs.Places.{FoundSlot, putAt}
 use Rattle.memory.proofs.Find.{found-number}
 use Rattle.memory.proofs.Frame.{free-bytes, slot-length}
 use Rattle.memory.proofs.Slots.{free-back}
 use Rattle.memory.proofs.Good.{framed}
 use Rattle.memory.proofs.Sweep.{put-again, put-length, swept-freed}
-use Rattle.peers.specs.Steps.{Encoded, endedFor, gone}
+use Rattle.peers.specs.Steps.{Encoded, endedFor, slotsWithout}
 use Rattle.peers.proofs.Found.{Octets, below, did-stay, peer-none, found-below, peer-place, peer-some}
 
 -- ---- a slot wiped
@@ -55,8 +55,8 @@ module _ (m : List ℕ) (g : Held m) (i : ℕ) (h : i < 16) (z : List ℕ)
       rw wiped q
 
   pub leave-gone : (c : ℕ) (m₂ : List ℕ)
-      → m₂ ≡ endedFor (take (slotStart i) m ++ (z ++ drop (slotStart i + slotLength - (slotStart i)) (drop (slotStart i) m))) c → m₂ ≡ gone m i c
-  unfolding endedFor gone
+      → m₂ ≡ endedFor (take (slotStart i) m ++ (z ++ drop (slotStart i + slotLength - (slotStart i)) (drop (slotStart i) m))) c → m₂ ≡ slotsWithout m i c
+  unfolding endedFor slotsWithout
   leave-gone c m₂ q =
       swept-freed (bereft c) m (take (slotStart i) m ++ (z ++ drop (slotStart i + slotLength - (slotStart i)) (drop (slotStart i) m))) m₂
       (slotBytes free) i h (g .sized) refl wiped q
@@ -65,14 +65,14 @@ pub ruleset leaving = (leave-encoded, leave-gone, needs)
 
 -- ---- 30, and the report
 
-module _ (m : List ℕ) (f : Octets m) (g : Held m) (n i : ℕ) (e : Found (isPeer n) m 0 i) where
+module _ (m : List ℕ) (f : Octets m) (g : Held m) (n i : ℕ) (e : FoundSlot (isPeer n) m 0 i) where
   pub disconnect-none : i ≡ 16 → (r : Gone) → r ≡ noGone 30 → Did (stored (disconnect tails (stateOf m) n)) r m
   unfolding disconnect
   disconnect-none q r d = did-stay m f g r (disconnect tails (stateOf m) n) (rw (peer-none n m i e q, d))
 
-  pub disconnect-gone : (i ≡ 16 → ⊥) → (b : ℕ) → b ≡ wordAt Little m (slotStart i + takenAt) → (m₂ : List ℕ) → m₂ ≡ gone m i n
+  pub disconnect-gone : (i ≡ 16 → ⊥) → (b : ℕ) → b ≡ wordAt Little m (slotStart i + takenAt) → (m₂ : List ℕ) → m₂ ≡ slotsWithout m i n
       → Did (stored (disconnect tails (stateOf m) n)) (record { answer = 0; bytes = b }) m₂
-  unfolding disconnect gone
+  unfolding disconnect slotsWithout
   disconnect-gone q b eb m₂ em =
       rw (peer-place n m i e q, peer-some n m i e q, found-number n m 0 i e (found-below n m i e q), ← eb) (record { result = refl; memory = em })
 

@@ -26,7 +26,7 @@ use Rattle.memory.specs.Encoding.{stateOf}
 use Rattle.memory.specs.Sound.{Held}
 use Rattle.memory.specs.Calls.{stored, Did}
 use Rattle.memory.proofs.Reading.{sixteen}
-use Rattle.memory.specs.Places.{Found}
+use Rattle.memory.specs.Places.{FoundSlot}
 use Rattle.memory.proofs.Find.{found-first}
 use Rattle.memory.proofs.Frame.{cell-length}
 use Rattle.memory.proofs.Again.{ownable-short}
@@ -142,7 +142,7 @@ pub ruleset granting = (grant-full, grant-done, needs)
 
 -- ---- 33: j is who has the name
 
-module _ (m : List ℕ) (f : Octets m) (i : ℕ) (g : Seated m i) (name : List ℕ) (j : ℕ) (o : Found (isOwner name) m 0 j) where
+module _ (m : List ℕ) (f : Octets m) (i : ℕ) (g : Seated m i) (name : List ℕ) (j : ℕ) (o : FoundSlot (isOwner name) m 0 j) where
   pub claim-granted : 16 ≤ j → (r : ℕ) (m₁ : List ℕ) → Did (stored (granted m i name)) r m₁ → Did (stored (claimed m i name)) r m₁
   unfolding claimed granted
   claim-granted h r m₁ d = rw (found-first (isOwner name) m j o, sixteen m, le-ltb j 16 h) d
@@ -158,7 +158,7 @@ pub ruleset claiming = (claim-granted, claim-other, needs)
 pub own-short : (name : List ℕ) (b : Bool) → b ≡ ownable name → not b ≡ false → length name ≤ 255
 own-short name b e t = ownable-short name (sym e ∙ not-false b t)
 
-module _ (image m : List ℕ) (f : Octets m) (g : Held m) (n i : ℕ) (e : Found (isPeer n) m 0 i) (name : List ℕ) where
+module _ (image m : List ℕ) (f : Octets m) (g : Held m) (n i : ℕ) (e : FoundSlot (isPeer n) m 0 i) (name : List ℕ) where
   pub own-none : i ≡ 16 → Did (stored (own image (stateOf m) n name)) 30 m
   unfolding own
   own-none q = did-stay m f g 30 (own image (stateOf m) n name) (rw (peer-none n m i e q))

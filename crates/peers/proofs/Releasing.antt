@@ -22,7 +22,7 @@ use Rattle.memory.specs.Layout.{slotStart, namesAt, nameWidth, nameRoom, namesL
 use Rattle.memory.specs.Encoding.{stateOf}
 use Rattle.memory.specs.Sound.{Held}
 use Rattle.memory.specs.Calls.{stored, Did}
-use Rattle.memory.specs.Places.{Found}
+use Rattle.memory.specs.Places.{FoundSlot}
 use Rattle.memory.proofs.Frame.{cell-length}
 use Rattle.memory.proofs.Removal.{released-without}
 use Rattle.memory.proofs.Puts.{names-stand, names-put}
@@ -72,7 +72,7 @@ pub ruleset giving = (give-none, give-table, give-done, needs)
 
 -- ---- 30, 31
 
-module _ (m : List ℕ) (f : Octets m) (g : Held m) (n i : ℕ) (e : Found (isPeer n) m 0 i) (name : List ℕ) where
+module _ (m : List ℕ) (f : Octets m) (g : Held m) (n i : ℕ) (e : FoundSlot (isPeer n) m 0 i) (name : List ℕ) where
   pub release-none : i ≡ 16 → Did (stored (release (stateOf m) n name)) 30 m
   unfolding release
   release-none q = did-stay m f g 30 (release (stateOf m) n name) (rw (peer-none n m i e q))

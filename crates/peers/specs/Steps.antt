@@ -58,8 +58,8 @@ unfoldable pub endedFor : List ℕ → ℕ → List ℕ
 endedFor m callee = memoryOf (mapped (bereft callee) (stateOf m))
 
 -- the same after the peer of slot i is gone
-unfoldable pub gone : List ℕ → ℕ → ℕ → List ℕ
-gone m i callee = memoryOf (record { last = stateOf m .last; slots = map (bereft callee) (set (stateOf m .slots) i free) })
+unfoldable pub slotsWithout : List ℕ → ℕ → ℕ → List ℕ
+slotsWithout m i callee = memoryOf (record { last = stateOf m .last; slots = map (bereft callee) (set (stateOf m .slots) i free) })
 
 -- ---- own and release
 

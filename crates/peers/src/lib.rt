@@ -30,7 +30,7 @@ ghost use Rattle.memory.specs.Sound.{Held};
 ghost use Rattle.memory.specs.Calls.{stored, Did};
 ghost use Rattle.slots.specs.Slots.{peerAt, At, Seated};
 ghost use Rattle.peers.specs.Writes.{newBytes, nameBytes, Naming};
-ghost use Rattle.peers.specs.Steps.{Free, admitted, entered, PlainSlot, Encoded, endedAt, endedFor, gone, granted, claimed, givenUp};
+ghost use Rattle.peers.specs.Steps.{Free, admitted, entered, PlainSlot, Encoded, endedAt, endedFor, slotsWithout, granted, claimed, givenUp};
 
 // ---- connect
 
@@ -138,7 +138,7 @@ fn end_all(memory: &mut [u8], callee: u32)
 // Frees slot i, whose peer has this number, and ends every call to it.
 fn leave(memory: &mut [u8], i: usize, number: u32)
     requires { ⌜ (Held (now memory)) × (i < 16) ⌝ }
-    ensures { λ r. ⌜ now (memory .exit) ≡ gone (now (memory .entry)) i number ⌝ }
+    ensures { λ r. ⌜ now (memory .exit) ≡ slotsWithout (now (memory .entry)) i number ⌝ }
 {
     let from = SLOTS_AT + SLOT_LENGTH * i;
     let to = from + SLOT_LENGTH;

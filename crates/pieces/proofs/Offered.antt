@@ -27,11 +27,11 @@ use Rattle.memory.specs.Encoding.{memoryOf, stateOf}
 use Rattle.memory.specs.Sound.{Held}
 use Rattle.memory.specs.Calls.{stored, Did}
 use Rattle.memory.proofs.Reading.{sixteen, slot-peer}
-use Rattle.memory.specs.Places.{Found}
+use Rattle.memory.specs.Places.{FoundSlot}
 use Rattle.memory.proofs.Find.{found-first, found-some}
 use Rattle.memory.proofs.Good.{good-is}
 use Rattle.slots.specs.Slots.{peerAt, Seated}
-use Rattle.judge.specs.Judging.{Message, Judges}
+use Rattle.judge.specs.Judging.{JudgedMessage, Judges}
 use Rattle.pieces.specs.Fed.{FedAt, cleared, headIn, Completed}
 use Rattle.pieces.proofs.Copied.{head-length}
 use Rattle.pieces.proofs.Consumed.{consumed, consumed-again, consumed-peer, consumed-clear, consumed-head, completed}
@@ -45,7 +45,7 @@ module _ (image m d head : List ℕ) (i : ℕ) (x : Header) (c : Completed image
   head-is : take (x .head - 0) head ≡ headIn m i (x .head)
   head-is = take-zero (x .head) head ∙ h
 
-  pub judge-ready : Message image d i (take (x .head - 0) head) x
+  pub judge-ready : JudgedMessage image d i (take (x .head - 0) head) x
   judge-ready =
       rw (head-is, e)
       (record {
@@ -119,7 +119,7 @@ pub ruleset offering = (offered-more, offered-broken, offered-ready, offered-who
 
 -- ---- the piece
 
-module _ (m : List ℕ) (g : Held m) (n i : ℕ) (d : Found (isPeer n) m 0 i) (h : i ≡ 16 → ⊥) where
+module _ (m : List ℕ) (g : Held m) (n i : ℕ) (d : FoundSlot (isPeer n) m 0 i) (h : i ≡ 16 → ⊥) where
   inside : i < 16
   inside = omega (arith, d .bound)
 
@@ -129,7 +129,7 @@ module _ (m : List ℕ) (g : Held m) (n i : ℕ) (d : Found (isPeer n) m 0 i) (h
   slot-is : slotAt (stateOf m) i ≡ peer (peerAt m i)
   slot-is = slot-peer m i inside (found-some n m 0 i d inside)
 
-module _ (image m bytes : List ℕ) (f : (j : ℕ) → Fits w8 (getD m j 0)) (g : Held m) (n i : ℕ) (d : Found (isPeer n) m 0 i) (r : Taken) where
+module _ (image m bytes : List ℕ) (f : (j : ℕ) → Fits w8 (getD m j 0)) (g : Held m) (n i : ℕ) (d : FoundSlot (isPeer n) m 0 i) (r : Taken) where
   first-is : firstBy (isPeer n) (stateOf m .slots) ≡ i
   first-is = found-first (isPeer n) m i d
 

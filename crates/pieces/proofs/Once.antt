@@ -27,11 +27,11 @@ use Rattle.rules.specs.declared.Judgement.{Judgement}
 use Rattle.rules.specs.declared.Taken.{Taken}
 use Rattle.memory.specs.Layout.{slotStart, takenAt, headRoom}
 use Rattle.memory.specs.Encoding.{stateOf}
-use Rattle.memory.specs.Places.{Found}
+use Rattle.memory.specs.Places.{FoundSlot}
 use Rattle.memory.specs.Sound.{Held}
 use Rattle.memory.specs.Calls.{stored, Did}
 use Rattle.slots.specs.Slots.{peerAt, Seated}
-use Rattle.judge.specs.Judging.{Message, Judges}
+use Rattle.judge.specs.Judging.{JudgedMessage, Judges}
 use Rattle.pieces.proofs.Seats.{peer-is, fine}
 use Rattle.pieces.proofs.Offered.{whole-step, piece-seat, piece-offered, piecing}
 
@@ -63,7 +63,7 @@ module _ (image m bytes : List ℕ) (f : (j : ℕ) → Fits w8 (getD m j 0)) (i 
     head-is : take (x .head - 0) bytes ≡ take (x .head) bytes
     head-is = let e : x .head - 0 ≡ x .head = omega arith in rw e
 
-    pub once-ready : GoodImage image → Message image m i (take (x .head - 0) bytes) x
+    pub once-ready : GoodImage image → JudgedMessage image m i (take (x .head - 0) bytes) x
     once-ready g =
         let w = whole-fits bytes x read-is in
         rw head-is
@@ -91,7 +91,7 @@ pub ruleset once = (once-small, once-open, once-ready, once-judged, needs)
 pub none-stands : (m : List ℕ) (i : ℕ) {w : ℕ} → w ≡ wordAt Little m (slotStart i + takenAt) → w ≡ 0 → peerAt m i .stream .taken ≡ 0
 none-stands m i e z = sym e ∙ z
 
-pub piece-once : (image m bytes : List ℕ) → ((j : ℕ) → Fits w8 (getD m j 0)) → Held m → (n i : ℕ) → Found (isPeer n) m 0 i → (i ≡ 16 → ⊥)
+pub piece-once : (image m bytes : List ℕ) → ((j : ℕ) → Fits w8 (getD m j 0)) → Held m → (n i : ℕ) → FoundSlot (isPeer n) m 0 i → (i ≡ 16 → ⊥)
     → {w : ℕ} → w ≡ wordAt Little m (slotStart i + takenAt) → w ≡ 0 → (r : Taken) (after : List ℕ)
     → Did (stored (offeredTo tails image (stateOf m) i (peerAt m i) (offer tails (peerAt m i .stream) bytes))) r after
     → Did (stored (piece tails image (stateOf m) n bytes)) r after

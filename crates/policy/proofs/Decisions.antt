@@ -8,7 +8,7 @@ use lib.Dec.{eqb}
 use lib.ListN.{getD}
 use borrow.Author.Needs.{needs}
 use Rattle.image.specs.Image.{connectCount, connectOffset, ownCount, ownOffset}
-use Rattle.image.specs.Rules.{connectAt, ownAt}
+use Rattle.image.specs.Rules.{connectRuleAt, ownRuleAt}
 use Rattle.image.specs.Contracts.{GoodImage}
 use Rattle.image.proofs.RuleHolds.{connect-context, own-holds}
 use Rattle.policy.specs.Matching.{connectFits, ownFits}
@@ -21,7 +21,7 @@ use Rattle.policy.proofs.Section.{Section, section-begins, section-down
 
 abbrev pub Connecting : List ℕ → Uid → List ℕ → ℕ → ℕ → ℕ → ℕ → Type 0
 Connecting image uid gids base end context at =
-    Section image (λ k. connectFits (connectAt image k) uid gids) (connectCount image) 8 (connectOffset image) base end context at
+    Section image (λ k. connectFits (connectRuleAt image k) uid gids) (connectCount image) 8 (connectOffset image) base end context at
 
 module _ {image : List ℕ} (uid : Uid) (gids : List ℕ) {base : ℕ} where
   pub connect-begins : GoodImage image → base ≡ connectOffset image → {n : ℕ} → n ≡ connectCount image
@@ -33,7 +33,7 @@ module _ {image : List ℕ} (uid : Uid) (gids : List ℕ) {base : ℕ} where
     unfolding mayConnect connectDecides
     connect-over z h = section-over u z h
 
-    pub connect-found : (at ≡ base → ⊥) → getD image (at - 8) 0 ≡ context → {r : Bool} → r ≡ connectFits (connectAt image (at - 8)) uid gids → r ≡ true
+    pub connect-found : (at ≡ base → ⊥) → getD image (at - 8) 0 ≡ context → {r : Bool} → r ≡ connectFits (connectRuleAt image (at - 8)) uid gids → r ≡ true
         → eqb (getD image (at - 8 + 1) 0) 1 ≡ mayConnect image uid gids
     unfolding mayConnect connectDecides
     connect-found z e f t = section-found u z e (sym f ∙ t)
@@ -44,7 +44,7 @@ pub ruleset connecting = (connect-begins, connect-over, connect-found, section-d
 
 abbrev pub Owning : List ℕ → Uid → List ℕ → List ℕ → ℕ → ℕ → ℕ → ℕ → Type 0
 Owning image uid gids name base end context at =
-    Section image (λ k. ownFits image (ownAt image k) uid gids name) (ownCount image) 16 (ownOffset image) base end context at
+    Section image (λ k. ownFits image (ownRuleAt image k) uid gids name) (ownCount image) 16 (ownOffset image) base end context at
 
 own-at : {image : List ℕ} → GoodImage image → (k : ℕ) → k < ownCount image → OwnAt image (ownOffset image + 16 * k)
 own-at g k l =
@@ -64,7 +64,7 @@ module _ {image : List ℕ} (uid : Uid) (gids name : List ℕ) {base : ℕ} wher
     pub own-place : (at ≡ base → ⊥) → OwnAt image (at - 16)
     own-place z = section-at u z (OwnAt image) (own-at (u .good))
 
-    pub own-found : (at ≡ base → ⊥) → getD image (at - 16) 0 ≡ context → {r : Bool} → r ≡ ownFits image (ownAt image (at - 16)) uid gids name → r ≡ true
+    pub own-found : (at ≡ base → ⊥) → getD image (at - 16) 0 ≡ context → {r : Bool} → r ≡ ownFits image (ownRuleAt image (at - 16)) uid gids name → r ≡ true
         → eqb (getD image (at - 16 + 1) 0) 1 ≡ mayOwn image uid gids name
     unfolding mayOwn ownDecides
     own-found z e f t = section-found u z e (sym f ∙ t)

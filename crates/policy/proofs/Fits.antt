@@ -17,7 +17,7 @@ use Rattle.wire.proofs.Texts.{same-length}
 use Rattle.wire.proofs.Words.{cut-at}
 use Rattle.names.specs.Namespace.{inNamespace}
 use Rattle.image.specs.Image.{stringOffset}
-use Rattle.image.specs.Rules.{spanAt, textOf, connectAt, ownAt, transactionAt}
+use Rattle.image.specs.Rules.{spanAt, textOf, connectRuleAt, ownRuleAt, transactionAt}
 use Rattle.header.specs.Fields.{textAt}
 use Rattle.header.specs.declared.Place.{Place}
 use Rattle.header.specs.declared.Header.{Header}
@@ -39,43 +39,43 @@ pub ruleset cuts = (cell-same, cut-at, needs)
 -- ---- connect
 
 module _ (image : List ℕ) (at : ℕ) (uid : Uid) (gids : List ℕ) where
-  pub connect-any : getD image (at + 2) 0 ≡ 0 → true ≡ connectFits (connectAt image at) uid gids
+  pub connect-any : getD image (at + 2) 0 ≡ 0 → true ≡ connectFits (connectRuleAt image at) uid gids
   unfolding connectFits
   connect-any e = rw e
 
   module _ {id : ℕ} (g : id ≡ wordAt Little image (at + 4)) (n : getD image (at + 2) 0 ≡ 0 → ⊥) where
-    pub connect-user : getD image (at + 2) 0 ≡ 1 → {r : Bool} → r ≡ sameUser uid (record { 0 = id }) → r ≡ connectFits (connectAt image at) uid gids
+    pub connect-user : getD image (at + 2) 0 ≡ 1 → {r : Bool} → r ≡ sameUser uid (record { 0 = id }) → r ≡ connectFits (connectRuleAt image at) uid gids
     unfolding connectFits
     connect-user e h = rw (e, ← g) h
 
     pub connect-group : (getD image (at + 2) 0 ≡ 1 → ⊥) → {r : Bool} → r ≡ inGroups gids (record { 0 = id })
-        → r ≡ connectFits (connectAt image at) uid gids
+        → r ≡ connectFits (connectRuleAt image at) uid gids
     unfolding connectFits
     connect-group m h = rw (ne-eqb (getD image (at + 2) 0) 0 n, ne-eqb (getD image (at + 2) 0) 1 m, ← g) h
 
 -- ---- own
 
 module _ (image : List ℕ) (at : ℕ) (name : List ℕ) where
-  pub owned-any : getD image (at + 2) 0 ≡ 0 → true ≡ ownedFits image (ownAt image at) name
+  pub owned-any : getD image (at + 2) 0 ≡ 0 → true ≡ ownedFits image (ownRuleAt image at) name
   unfolding ownedFits
   owned-any e = rw e
 
   module _ {own : List ℕ} (g : own ≡ textOf image (spanAt image (at + 8))) (n : getD image (at + 2) 0 ≡ 0 → ⊥) where
-    pub owned-same : getD image (at + 2) 0 ≡ 1 → {r : Bool} → r ≡ same own name → r ≡ ownedFits image (ownAt image at) name
+    pub owned-same : getD image (at + 2) 0 ≡ 1 → {r : Bool} → r ≡ same own name → r ≡ ownedFits image (ownRuleAt image at) name
     unfolding ownedFits
     owned-same e h = rw (e, ← g) h
 
-    pub owned-under : (getD image (at + 2) 0 ≡ 1 → ⊥) → {r : Bool} → r ≡ inNamespace own name → r ≡ ownedFits image (ownAt image at) name
+    pub owned-under : (getD image (at + 2) 0 ≡ 1 → ⊥) → {r : Bool} → r ≡ inNamespace own name → r ≡ ownedFits image (ownRuleAt image at) name
     unfolding ownedFits
     owned-under m h = rw (ne-eqb (getD image (at + 2) 0) 0 n, ne-eqb (getD image (at + 2) 0) 1 m, ← g) h
 
   module _ (uid : Uid) (gids : List ℕ) {subject : ℕ} (g : subject ≡ wordAt Little image (at + 4)) {s : Bool}
       (e : s ≡ subjectFits (getD image at 0) subject uid gids) where
-    pub own-other : not s ≡ true → false ≡ ownFits image (ownAt image at) uid gids name
+    pub own-other : not s ≡ true → false ≡ ownFits image (ownRuleAt image at) uid gids name
     unfolding ownFits
     own-other t = rw (← (rw g at e), not-true s t)
 
-    pub own-fits : not s ≡ false → {r : Bool} → r ≡ ownedFits image (ownAt image at) name → r ≡ ownFits image (ownAt image at) uid gids name
+    pub own-fits : not s ≡ false → {r : Bool} → r ≡ ownedFits image (ownRuleAt image at) name → r ≡ ownFits image (ownRuleAt image at) uid gids name
     unfolding ownFits
     own-fits t h = rw (← (rw g at e), not-false s t) h
 

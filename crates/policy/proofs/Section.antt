@@ -9,13 +9,13 @@ use native.Mathlib.Omega.{arith}
 use lib.Dec.{eqb}
 use lib.ListN.{getD}
 use Rattle.image.specs.Contracts.{GoodImage}
-use Rattle.policy.specs.Precedence.{deciding, verdict}
+use Rattle.policy.specs.Precedence.{deciding, ruleVerdict}
 use Rattle.policy.proofs.Precedence.{Searching, begin, down, over, pass, found}
 
 -- the verdict of the rules of a size from `base` on, of which those match that `fits` says match; a rule begins with its context and its verdict
 abbrev pub judged : List ℕ → (ℕ → Bool) → ℕ → ℕ → ℕ → Bool
 judged image fits n size base =
-    verdict (λ i. eqb (getD image (base + size * i + 1) 0) 1)
+    ruleVerdict (λ i. eqb (getD image (base + size * i + 1) 0) 1)
     (deciding (λ i. getD image (base + size * i) 0) (λ i. fits (base + size * i)) n)
 
 -- the search of the section at `offset` of a good image has come to a context and to the rule that ends at `at`

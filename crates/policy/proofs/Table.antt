@@ -11,12 +11,12 @@ use Rattle.policy.specs.Names.{owns}
 use Rattle.policy.specs.Subjects.{inGroups, subjectFits}
 use Rattle.policy.specs.Matching.{connectFits, ownedFits, ownFits, partFits, interfaceFits, partsFit, nameFits, transactionFits, transactionMatches}
 use Rattle.policy.specs.Decisions.{connectDecides, mayConnect, ownDecides, mayOwn, transactionDecides, mayTransact}
-use Rattle.policy.specs.Table.{Line, table, people, messages}
+use Rattle.policy.specs.Table.{DecisionRow, decisionTable, people, messageRows}
 
-abbrev Agree : List Line → Type 0
+abbrev Agree : List DecisionRow → Type 0
 Agree lines = agrees (λ (given : Bool). given) Bool·beq lines ≡ true
 
-pub table-agrees : Agree table
+pub table-agrees : Agree decisionTable
 unfolding same wordAt wordBytes inNamespace deciding owns inGroups subjectFits connectFits ownedFits ownFits partFits interfaceFits partsFit nameFits transactionFits transactionMatches connectDecides mayConnect ownDecides mayOwn transactionDecides mayTransact
 table-agrees = refl
 
@@ -24,6 +24,6 @@ pub people-agree : Agree people
 unfolding same wordAt wordBytes deciding inGroups subjectFits connectFits ownedFits ownFits connectDecides mayConnect ownDecides mayOwn
 people-agree = refl
 
-pub messages-agree : Agree messages
+pub messages-agree : Agree messageRows
 unfolding same wordAt wordBytes deciding owns subjectFits partFits interfaceFits partsFit nameFits transactionFits transactionMatches transactionDecides mayTransact
 messages-agree = refl

@@ -6,7 +6,7 @@ use Prim.Native.Nat.{ℕ}
 use lib.Dec.{eqb}
 use Rattle.image.specs.Image.{connectCount, ownCount, transactionCount}
 use Rattle.image.specs.Rules.{connectRule, ownRule, transactionRule}
-use Rattle.policy.specs.Precedence.{deciding, verdict}
+use Rattle.policy.specs.Precedence.{deciding, ruleVerdict}
 use Rattle.policy.specs.Matching.{connectFits, ownFits, Message, transactionMatches}
 use Rattle.policy.specs.declared.Uid.{Uid}
 
@@ -23,7 +23,7 @@ unfoldable pub connectDecides : List ℕ → Uid → List ℕ → Option ℕ
 connectDecides image uid gids = deciding (connectContext image) (connectHits image uid gids) (connectCount image)
 
 unfoldable pub mayConnect : List ℕ → Uid → List ℕ → Bool
-mayConnect image uid gids = verdict (λ i. eqb (connectRule image i .verdict) 1) (connectDecides image uid gids)
+mayConnect image uid gids = ruleVerdict (λ i. eqb (connectRule image i .verdict) 1) (connectDecides image uid gids)
 
 -- ---- own: may the peer have this name? (rule 6.4)
 
@@ -38,7 +38,7 @@ unfoldable pub ownDecides : List ℕ → Uid → List ℕ → List ℕ → Optio
 ownDecides image uid gids name = deciding (ownContext image) (ownHits image uid gids name) (ownCount image)
 
 unfoldable pub mayOwn : List ℕ → Uid → List ℕ → List ℕ → Bool
-mayOwn image uid gids name = verdict (λ i. eqb (ownRule image i .verdict) 1) (ownDecides image uid gids name)
+mayOwn image uid gids name = ruleVerdict (λ i. eqb (ownRule image i .verdict) 1) (ownDecides image uid gids name)
 
 -- ---- send and receive: uid and gids are the sender's for send and the receiver's for receive, `names` the other party's (rule 6.5)
 
@@ -62,4 +62,4 @@ transactionDecides image direction uid gids names m =
 
 unfoldable pub mayTransact : List ℕ → ℕ → Uid → List ℕ → List (List ℕ) → Message → Bool
 mayTransact image direction uid gids names m =
-    verdict (λ i. eqb (transactionRule image i .verdict) 1) (transactionDecides image direction uid gids names m)
+    ruleVerdict (λ i. eqb (transactionRule image i .verdict) 1) (transactionDecides image direction uid gids names m)

@@ -25,9 +25,9 @@ deciding contextOf matches zero = none
 deciding contextOf matches (suc i) = heard contextOf i (matches i) (deciding contextOf matches i)
 
 -- the decision is the verdict of the rule that decides, and deny where there is none (rule 6.1)
-abbrev pub verdict : (ℕ → Bool) → Option ℕ → Bool
-verdict allows none = false
-verdict allows (some i) = allows i
+abbrev pub ruleVerdict : (ℕ → Bool) → Option ℕ → Bool
+ruleVerdict allows none = false
+ruleVerdict allows (some i) = allows i
 
 -- ---- the same without a search: proofs/Decides.antt proves that it is
 

@@ -13,48 +13,48 @@ use Rattle.policy.specs.Decisions.{mayConnect, mayOwn, mayTransact, send
 abbrev pub strings : List ℕ
 strings = bytes "org.fooorg.a.xorg.b.y/pi.fM"
 
-abbrev pub any : List ℕ
-any = cites 0 0
+abbrev pub citesNone : List ℕ
+citesNone = cites 0 0
 
 -- org.foo, org.a.x and org.b.y; /p stands at 21, i.f at 23 and M at 26
 abbrev pub foo : List ℕ
 foo = cites 0 7
 
-abbrev pub ax : List ℕ
-ax = cites 7 7
+abbrev pub citesAx : List ℕ
+citesAx = cites 7 7
 
-abbrev pub by : List ℕ
-by = cites 14 7
+abbrev pub citesBy : List ℕ
+citesBy = cites 14 7
 
 -- a context, a verdict, a matcher and an id
-abbrev pub connect : ℕ → ℕ → ℕ → ℕ → List ℕ
-connect context verdict matcher id = head context verdict matcher 0 id
+abbrev pub connectRuleBytes : ℕ → ℕ → ℕ → ℕ → List ℕ
+connectRuleBytes context verdict matcher id = head context verdict matcher 0 id
 
 -- a context, a verdict, a matcher, a subject and a name
-abbrev pub own : ℕ → ℕ → ℕ → ℕ → List ℕ → List ℕ
-own context verdict matcher subject name = head context verdict matcher 0 subject ++ name
+abbrev pub ownRuleBytes : ℕ → ℕ → ℕ → ℕ → List ℕ → List ℕ
+ownRuleBytes context verdict matcher subject name = head context verdict matcher 0 subject ++ name
 
 -- a context, a verdict, a direction, a type, a subject and a name; then path, interface and member
-abbrev pub rule : ℕ → ℕ → ℕ → ℕ → ℕ → List ℕ → List ℕ → List ℕ → List ℕ → List ℕ
-rule context verdict direction type subject name path interface member =
+abbrev pub transactionRuleBytes : ℕ → ℕ → ℕ → ℕ → ℕ → List ℕ → List ℕ → List ℕ → List ℕ → List ℕ
+transactionRuleBytes context verdict direction type subject name path interface member =
     head context verdict direction type subject ++ name ++ path ++ interface ++ member
 
 -- a rule for sending anything to a name
 abbrev pub to : ℕ → ℕ → ℕ → List ℕ → List ℕ
-to context verdict subject name = rule context verdict send 0 subject name any any any
+to context verdict subject name = transactionRuleBytes context verdict send 0 subject name citesNone citesNone citesNone
 
 -- a default send allow of the parts
 abbrev pub of : ℕ → List ℕ → List ℕ → List ℕ → List ℕ
-of type path interface member = rule 0 1 send type 0 any path interface member
+of type path interface member = transactionRuleBytes 0 1 send type 0 citesNone path interface member
 
 -- rules of the three sections, over those strings
-abbrev pub imageWith : List ℕ → List ℕ → List ℕ → List ℕ
-imageWith connects owns transactions = imageOf connects owns transactions strings
+abbrev pub imageOfRules : List ℕ → List ℕ → List ℕ → List ℕ
+imageOfRules connects owns transactions = imageOf connects owns transactions strings
 
 -- ---- questions, asked for uid 7 with the gids 5 and 6
 
-abbrev pub call : Message
-call = record { kind = 1; path = some (bytes "/p"); interface = some (bytes "i.f"); member = some (bytes "M") }
+abbrev pub aCall : Message
+aCall = record { kind = 1; path = some (bytes "/p"); interface = some (bytes "i.f"); member = some (bytes "M") }
 
 abbrev pub bare : Message
 bare = record { kind = 1; path = some (bytes "/p"); interface = none; member = some (bytes "M") }
@@ -62,63 +62,63 @@ bare = record { kind = 1; path = some (bytes "/p"); interface = none; member = s
 abbrev pub gids : List ℕ
 gids = 5 ∷ 6 ∷ []
 
-abbrev pub connects : List ℕ → Bool
-connects rules = mayConnect (imageWith rules [] []) (record { 0 = 7 }) gids
+abbrev pub letsConnect : List ℕ → Bool
+letsConnect rules = mayConnect (imageOfRules rules [] []) (record { 0 = 7 }) gids
 
-abbrev pub owns : List ℕ → List ℕ → Bool
-owns rules name = mayOwn (imageWith [] rules []) (record { 0 = 7 }) gids name
+abbrev pub letsOwn : List ℕ → List ℕ → Bool
+letsOwn rules name = mayOwn (imageOfRules [] rules []) (record { 0 = 7 }) gids name
 
 abbrev pub passes : List ℕ → ℕ → List (List ℕ) → Message → Bool
-passes rules direction names m = mayTransact (imageWith [] [] rules) direction (record { 0 = 7 }) gids names m
+passes rules direction names m = mayTransact (imageOfRules [] [] rules) direction (record { 0 = 7 }) gids names m
 
 -- a decision, and what it is to be
-abbrev pub Line : Type 0
-Line = Bool × Bool
+abbrev pub DecisionRow : Type 0
+DecisionRow = Bool × Bool
 
 -- T8, T9 and T12; deny where no rule matches; of one context the later rule
-abbrev pub table : List Line
-table =
+abbrev pub decisionTable : List DecisionRow
+decisionTable =
     -- T8: mandatory deny before user allow
-    (passes (to 3 0 0 any ++ to 2 1 7 any) send [] call, false)
-    ∷ (passes (to 2 1 7 any ++ to 3 0 0 any) send [] call, false)
+    (passes (to 3 0 0 citesNone ++ to 2 1 7 citesNone) send [] aCall, false)
+    ∷ (passes (to 2 1 7 citesNone ++ to 3 0 0 citesNone) send [] aCall, false)
     -- T9: a prefix, through an own rule
-    ∷ (owns (own 0 1 2 0 foo) (bytes "org.foo"), true)
-    ∷ (owns (own 0 1 2 0 foo) (bytes "org.foo.bar"), true)
-    ∷ (owns (own 0 1 2 0 foo) (bytes "org.foobar"), false)
+    ∷ (letsOwn (ownRuleBytes 0 1 2 0 foo) (bytes "org.foo"), true)
+    ∷ (letsOwn (ownRuleBytes 0 1 2 0 foo) (bytes "org.foo.bar"), true)
+    ∷ (letsOwn (ownRuleBytes 0 1 2 0 foo) (bytes "org.foobar"), false)
     -- T12: default allow to one owned name, then deny to the other
-    ∷ (passes (to 0 1 0 ax ++ to 0 0 0 by) send (bytes "org.a.x" ∷ bytes "org.b.y" ∷ []) call, false)
-    ∷ (passes (to 0 0 0 by ++ to 0 1 0 ax) send (bytes "org.a.x" ∷ bytes "org.b.y" ∷ []) call, true)
-    ∷ (passes (to 0 1 0 ax ++ to 0 0 0 by) send (bytes "org.a.x" ∷ []) call, true)
-    ∷ (connects [], false)
-    ∷ (owns [] (bytes "org.foo"), false)
-    ∷ (passes [] send [] call, false)
-    ∷ (connects (connect 0 1 0 0 ++ connect 0 0 0 0), false)
-    ∷ (connects (connect 3 1 0 0 ++ connect 0 0 0 0), true)
+    ∷ (passes (to 0 1 0 citesAx ++ to 0 0 0 citesBy) send (bytes "org.a.x" ∷ bytes "org.b.y" ∷ []) aCall, false)
+    ∷ (passes (to 0 0 0 citesBy ++ to 0 1 0 citesAx) send (bytes "org.a.x" ∷ bytes "org.b.y" ∷ []) aCall, true)
+    ∷ (passes (to 0 1 0 citesAx ++ to 0 0 0 citesBy) send (bytes "org.a.x" ∷ []) aCall, true)
+    ∷ (letsConnect [], false)
+    ∷ (letsOwn [] (bytes "org.foo"), false)
+    ∷ (passes [] send [] aCall, false)
+    ∷ (letsConnect (connectRuleBytes 0 1 0 0 ++ connectRuleBytes 0 0 0 0), false)
+    ∷ (letsConnect (connectRuleBytes 3 1 0 0 ++ connectRuleBytes 0 0 0 0), true)
     ∷ []
 
 -- connect: anybody, a uid, a gid; own: a name that is equal, and subjects
-abbrev pub people : List Line
+abbrev pub people : List DecisionRow
 people =
-    (connects (connect 0 1 1 7), true)
-    ∷ (connects (connect 0 1 1 5), false)
-    ∷ (connects (connect 0 1 2 6), true)
-    ∷ (connects (connect 0 1 2 7), false)
-    ∷ (owns (own 0 1 1 0 foo) (bytes "org.foo"), true)
-    ∷ (owns (own 0 1 1 0 foo) (bytes "org.foo.bar"), false)
-    ∷ (owns (own 1 1 0 5 any) (bytes "org.foo"), true)
-    ∷ (owns (own 1 1 0 7 any) (bytes "org.foo"), false)
-    ∷ (owns (own 2 1 0 7 any) (bytes "org.foo"), true)
-    ∷ (owns (own 2 1 0 5 any) (bytes "org.foo"), false)
+    (letsConnect (connectRuleBytes 0 1 1 7), true)
+    ∷ (letsConnect (connectRuleBytes 0 1 1 5), false)
+    ∷ (letsConnect (connectRuleBytes 0 1 2 6), true)
+    ∷ (letsConnect (connectRuleBytes 0 1 2 7), false)
+    ∷ (letsOwn (ownRuleBytes 0 1 1 0 foo) (bytes "org.foo"), true)
+    ∷ (letsOwn (ownRuleBytes 0 1 1 0 foo) (bytes "org.foo.bar"), false)
+    ∷ (letsOwn (ownRuleBytes 1 1 0 5 citesNone) (bytes "org.foo"), true)
+    ∷ (letsOwn (ownRuleBytes 1 1 0 7 citesNone) (bytes "org.foo"), false)
+    ∷ (letsOwn (ownRuleBytes 2 1 0 7 citesNone) (bytes "org.foo"), true)
+    ∷ (letsOwn (ownRuleBytes 2 1 0 5 citesNone) (bytes "org.foo"), false)
     ∷ []
 
 -- direction, type, path, interface and member; a text against an absent field; a name that is not owned
-abbrev pub messages : List Line
-messages =
-    (passes (to 0 1 0 any) receive [] call, false)
-    ∷ (passes (of 4 any any any) send [] call, false)
-    ∷ (passes (of 1 (cites 21 2) (cites 23 3) (cites 26 1)) send [] call, true)
-    ∷ (passes (of 1 (cites 21 1) any any) send [] call, false)
-    ∷ (passes (of 1 any any (cites 26 1)) send [] bare, true)
-    ∷ (passes (of 1 any (cites 23 3) any) send [] bare, false)
-    ∷ (passes (to 0 1 0 foo) send [] call, false)
+abbrev pub messageRows : List DecisionRow
+messageRows =
+    (passes (to 0 1 0 citesNone) receive [] aCall, false)
+    ∷ (passes (of 4 citesNone citesNone citesNone) send [] aCall, false)
+    ∷ (passes (of 1 (cites 21 2) (cites 23 3) (cites 26 1)) send [] aCall, true)
+    ∷ (passes (of 1 (cites 21 1) citesNone citesNone) send [] aCall, false)
+    ∷ (passes (of 1 citesNone citesNone (cites 26 1)) send [] bare, true)
+    ∷ (passes (of 1 citesNone (cites 23 3) citesNone) send [] bare, false)
+    ∷ (passes (to 0 1 0 foo) send [] aCall, false)
     ∷ []

@@ -6,7 +6,7 @@ ghost use mathlib.Core.Path.{_≡_};
 ghost use Prim.Native.Nat.{_+_, _*_, _≤_, _<_};
 ghost use lib.ListN.{length, drop};
 ghost use Rattle.wire.specs.Bytes.{same};
-ghost use Rattle.image.specs.Rules.{spanAt, textOf, connectAt, ownAt, transactionAt};
+ghost use Rattle.image.specs.Rules.{spanAt, textOf, connectRuleAt, ownRuleAt, transactionAt};
 ghost use Rattle.image.specs.Contracts.{GoodImage};
 ghost use Rattle.policy.specs.Names.{nameOf, cellOf, busName, namesIn};
 ghost use Rattle.policy.specs.Subjects.{sameUser, inGroups, subjectFits};
@@ -127,7 +127,7 @@ fn text(image: &[u8], at: usize) -> &[u8]
 
 fn connect_fits(image: &[u8], at: usize, uid: Uid, gids: &[u32]) -> bool
     requires { ⌜ at + 8 ≤ length (now image) ⌝ }
-    ensures { λ r. ⌜ r ≡ connectFits (connectAt (now (image .entry)) at) uid (now (gids .entry)) ⌝ }
+    ensures { λ r. ⌜ r ≡ connectFits (connectRuleAt (now (image .entry)) at) uid (now (gids .entry)) ⌝ }
 {
     let matcher = image[at + 2];
     if matcher == 0 {
@@ -143,7 +143,7 @@ fn connect_fits(image: &[u8], at: usize, uid: Uid, gids: &[u32]) -> bool
 // The name is the rule's, or in the rule's namespace.
 fn owned_fits(image: &[u8], at: usize, name: &[u8]) -> bool
     requires { ⌜ OwnAt (now image) at ⌝ }
-    ensures { λ r. ⌜ r ≡ ownedFits (now (image .entry)) (ownAt (now (image .entry)) at) (now (name .entry)) ⌝ }
+    ensures { λ r. ⌜ r ≡ ownedFits (now (image .entry)) (ownRuleAt (now (image .entry)) at) (now (name .entry)) ⌝ }
 {
     let matcher = image[at + 2];
     if matcher == 0 {
@@ -158,7 +158,7 @@ fn owned_fits(image: &[u8], at: usize, name: &[u8]) -> bool
 
 fn own_fits(image: &[u8], at: usize, uid: Uid, gids: &[u32], name: &[u8]) -> bool
     requires { ⌜ OwnAt (now image) at ⌝ }
-    ensures { λ r. ⌜ r ≡ ownFits (now (image .entry)) (ownAt (now (image .entry)) at) uid (now (gids .entry)) (now (name .entry)) ⌝ }
+    ensures { λ r. ⌜ r ≡ ownFits (now (image .entry)) (ownRuleAt (now (image .entry)) at) uid (now (gids .entry)) (now (name .entry)) ⌝ }
 {
     let subject = wire::u32_at(wire::Order::Little, image, at + 4);
     if !subject_fits(image[at], subject, uid, gids) {

@@ -11,7 +11,7 @@ struct Part {
     receiver: Receiver,
 }
 
-pub struct Fed {
+pub struct Feeding {
     pub reader: Reader,
     pub taken: u64,
     pub answer: u8,
@@ -92,10 +92,10 @@ fn offer(
 }
 
 // The last part, with the sum of those before it. What it left of the piece is read past.
-fn finish(last: Part, buffer: &mut [u8], before: u64, left: usize) -> Fed {
+fn finish(last: Part, buffer: &mut [u8], before: u64, left: usize) -> Feeding {
     let offered = wire::least(last.offered, left);
     let receiver = last.receiver;
-    Fed {
+    Feeding {
         reader: crate::reader::skip(last.reader, buffer, left - offered),
         taken: std::num::wrapping_add_u64(before, last.taken as u64),
         answer: last.answer,
@@ -111,7 +111,7 @@ pub fn feed(
     memory: &mut [u8],
     peer: u32,
     length: usize,
-) -> Fed {
+) -> Feeding {
     let mut left = length;
     let mut taken = 0;
     let mut now = feed_part(reader, buffer, image, memory, peer, left);

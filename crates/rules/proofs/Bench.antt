@@ -18,12 +18,12 @@ use Rattle.rules.specs.Addresses.{digits, uniqueName, answersTo, resolve
 use Rattle.rules.specs.Pending.{awaits, ended, endedAll}
 use Rattle.rules.specs.Judge.{maskOf, countOf, judged}
 use Rattle.rules.specs.Calls.{connect, own, released, release, piece, disconnect}
-use Rattle.rules.specs.Bench.{Line, messages, replies, connects, claims, pieces, offerings}
+use Rattle.rules.specs.Bench.{CallRow, judgementRows, replies, connectRows, claimRows, pieceRows, offerings}
 
-abbrev Holds : List Line → Type 0
+abbrev Holds : List CallRow → Type 0
 Holds lines = agrees (λ (given : List ℕ). given) same lines ≡ true
 
-pub messages-hold : Holds messages
+pub messages-hold : Holds judgementRows
 unfolding same wordAt wordBytes deciding owns subjectFits messageOf partFits interfaceFits partsFit nameFits transactionFits transactionMatches transactionDecides mayTransact firstBy digits uniqueName answersTo resolve awaits maskOf countOf judged
 messages-hold = refl
 
@@ -31,15 +31,15 @@ pub replies-hold : Holds replies
 unfolding same wordAt wordBytes deciding owns subjectFits messageOf partFits interfaceFits partsFit nameFits transactionFits transactionMatches transactionDecides mayTransact firstBy dropFirst digits uniqueName answersTo resolve awaits ended endedAll judged disconnect
 replies-hold = refl
 
-pub connects-hold : Holds connects
+pub connects-hold : Holds connectRows
 unfolding same wordAt wordBytes deciding connectFits connectDecides mayConnect firstBy connect
 connects-hold = refl
 
-pub claims-hold : Holds claims
+pub claims-hold : Holds claimRows
 unfolding same wordAt wordBytes startsWith wellKnown deciding owns subjectFits ownedFits ownFits ownDecides mayOwn firstBy dropFirst own released release
 claims-hold = refl
 
-pub pieces-hold : Holds pieces
+pub pieces-hold : Holds pieceRows
 unfolding same offer firstBy endedAll piece disconnect
 pieces-hold = refl
 

@@ -18,7 +18,7 @@ use Rattle.policy.specs.Names.{busName}
 use Rattle.policy.specs.Matching.{fieldOf}
 use Rattle.stream.specs.Stream.{Streams}
 use Rattle.rules.specs.State.{Slot, free, peer, Peer, Pending, State, isPeer, firstBy, withPending}
-use Rattle.rules.specs.Addresses.{Address, absent, bus, slot, unknown, answersTo, found, resolve}
+use Rattle.rules.specs.Addresses.{Address, undirected, bus, slot, unknown, answersTo, found, resolve}
 use Rattle.rules.specs.Pending.{awaits, ended, bereft}
 use Rattle.rules.specs.Awaited.{isWaiting, awaited}
 use Rattle.rules.specs.Judge.{Judged, replyTo, reply, isReply, judged}
@@ -52,7 +52,7 @@ module _ {S : Type 0} (image : List ℕ) (s : State S) (i : ℕ) (sender : Peer 
       go false e = rw e
 
   reply-answer : (a : Address) → reply s sender a x .judgement .answer ≡ cond (awaited (s .slots) (sender .number) (x .«reply_serial») a) 0 24
-  reply-answer absent = refl
+  reply-answer undirected = refl
   reply-answer bus = refl
   reply-answer unknown = refl
   reply-answer (slot j) = to-answer j (getD (s .slots) j free)
@@ -73,7 +73,7 @@ module _ {S : Type 0} (image : List ℕ) (s : State S) (i : ℕ) (sender : Peer 
 
     once : (a : Address) → awaited (s .slots) (sender .number) (x .«reply_serial») a ≡ true
         → awaited (reply s sender a x .state .slots) (sender .number) (x .«reply_serial») a ≡ false
-    once absent w = absurd (false≢true w)
+    once undirected w = absurd (false≢true w)
     once bus w = absurd (false≢true w)
     once unknown w = absurd (false≢true w)
     once (slot j) w = once-to j (getD (s .slots) j free) refl w
@@ -97,7 +97,7 @@ module _ {S : Type 0} (image : List ℕ) (s : State S) (i : ℕ) (sender : Peer 
       go false w = rw w
 
   resolve-after : (d : Option (List ℕ)) (a : Address) → resolve (reply s sender a x .state .slots) d ≡ resolve (s .slots) d
-  resolve-after d absent = refl
+  resolve-after d undirected = refl
   resolve-after d bus = refl
   resolve-after d unknown = refl
   resolve-after d (slot j) = resolve-to d j (getD (s .slots) j free) refl

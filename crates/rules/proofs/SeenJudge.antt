@@ -10,7 +10,7 @@ use Rattle.header.specs.declared.Header.{Header}
 use Rattle.policy.specs.Names.{busName}
 use Rattle.policy.specs.Matching.{Message, fieldOf, messageOf}
 use Rattle.rules.specs.State.{Slot, free, peer, Peer, State, putSlot, withPending}
-use Rattle.rules.specs.Addresses.{Address, absent, bus, slot, unknown, resolve}
+use Rattle.rules.specs.Addresses.{Address, undirected, bus, slot, unknown, resolve}
 use Rattle.rules.specs.Pending.{awaits, ended}
 use Rattle.rules.specs.Judge.{Judged, refused, passed, maySend, mayReceive, toBus, waits, expectsReply, toPeer, reaches, maskOf, countOf, toAll}
 use Rattle.rules.specs.Judge.{replyTo, reply, toSlot, directed, isReply, judged}
@@ -75,7 +75,7 @@ module _ {A B : Type 0} (f : A → B) (image : List ℕ) (s : State A) (sender :
       (passed (putSlot z j (peer (withPending (seenPeer f caller) ws))) r) (refused z 24) (put-passed j (withPending caller ws) r) refl
 
   reply-seen : (a : Address) → reply z sender′ a x ≡ seenJudged f (reply s sender a x)
-  reply-seen absent = refl
+  reply-seen undirected = refl
   reply-seen bus = refl
   reply-seen unknown = refl
   reply-seen (slot j) = ap (λ (y : Slot B). replyTo z j sender′ y x) (slot-seen f s j) ∙ reply-to-seen j (getD (s .slots) j free)
@@ -85,7 +85,7 @@ module _ {A B : Type 0} (f : A → B) (image : List ℕ) (s : State A) (sender :
   to-slot-seen i m (peer receiver) = peer-seen i receiver m
 
   directed-seen : (i : ℕ) (m : Message) (a : Address) → directed image z i sender′ a m x ≡ seenJudged f (directed image s i sender a m x)
-  directed-seen i m absent =
+  directed-seen i m undirected =
       chosen (seenJudged f) (eqb (x .kind) call) (toBus image s sender m) (toAll image s sender m) (toBus image z sender′ m) (toAll image z sender′ m)
       (bus-seen m) (all-seen m)
   directed-seen i m bus = bus-seen m

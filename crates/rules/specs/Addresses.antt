@@ -30,7 +30,7 @@ answersTo text (peer p) = same text (uniqueName (p .number)) || owns (p .names) 
 
 -- where a message goes: to no destination, to the bus, to the peer of a slot, or to nobody
 pub data Address : Type 0 where
-  absent : Address
+  undirected : Address
   bus : Address
   slot : ℕ → Address
   unknown : Address
@@ -41,5 +41,5 @@ found n i = cond (ltb i n) (slot i) unknown
 
 -- the bus's name is tested first, since no peer can own it (rule 7.3)
 unfoldable pub resolve : {S : Type 0} → List (Slot S) → Option (List ℕ) → Address
-resolve slots none = absent
+resolve slots none = undirected
 resolve slots (some text) = cond (same text busName) bus (found (length slots) (firstBy (answersTo text) slots))

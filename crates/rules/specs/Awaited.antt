@@ -6,7 +6,7 @@ use lib.ListN.{getD}
 use Rattle.header.specs.declared.Header.{Header}
 use Rattle.policy.specs.Matching.{fieldOf}
 use Rattle.rules.specs.State.{Slot, free, peer, State}
-use Rattle.rules.specs.Addresses.{Address, absent, bus, slot, unknown, resolve}
+use Rattle.rules.specs.Addresses.{Address, undirected, bus, slot, unknown, resolve}
 use Rattle.rules.specs.Pending.{awaits}
 
 -- the slot's peer awaits the reply of that callee to that serial
@@ -16,7 +16,7 @@ isWaiting callee serial (peer p) = awaits callee serial (p .pending)
 
 -- the peer whom the address means awaits it
 abbrev pub awaited : {S : Type 0} → List (Slot S) → ℕ → ℕ → Address → Bool
-awaited slots callee serial absent = false
+awaited slots callee serial undirected = false
 awaited slots callee serial bus = false
 awaited slots callee serial unknown = false
 awaited slots callee serial (slot j) = isWaiting callee serial (getD slots j free)

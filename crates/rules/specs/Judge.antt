@@ -10,7 +10,7 @@ use Rattle.policy.specs.Names.{busName}
 use Rattle.policy.specs.Matching.{Message, fieldOf, messageOf}
 use Rattle.policy.specs.Decisions.{send, receive, mayTransact}
 use Rattle.rules.specs.State.{Slot, free, peer, Peer, State, putSlot, withPending}
-use Rattle.rules.specs.Addresses.{Address, absent, bus, slot, unknown, resolve}
+use Rattle.rules.specs.Addresses.{Address, undirected, bus, slot, unknown, resolve}
 use Rattle.rules.specs.Pending.{awaits, ended}
 use Rattle.rules.specs.declared.Receiver.{Receiver}
 use Rattle.rules.specs.declared.Receiver.the-variants as to
@@ -111,7 +111,7 @@ replyTo s j sender (peer caller) x =
 
 -- only a peer awaits replies: the bus does not, nor does nobody (rule 7.9)
 abbrev pub reply : {S : Type 0} → State S → Peer S → Address → Header → Judged S
-reply s sender absent x = refused s 24
+reply s sender undirected x = refused s 24
 reply s sender bus x = refused s 24
 reply s sender unknown x = refused s 24
 reply s sender (slot j) x = replyTo s j sender (getD (s .slots) j free) x
@@ -125,7 +125,7 @@ toSlot image s i sender (peer receiver) m x = toPeer image s i sender receiver m
 
 -- without a destination a call is for the bus and a signal for everybody (rules 7.5, 7.6 and 7.7)
 abbrev pub directed : {S : Type 0} → List ℕ → State S → ℕ → Peer S → Address → Message → Header → Judged S
-directed image s i sender absent m x = cond (eqb (x .kind) call) (toBus image s sender m) (toAll image s sender m)
+directed image s i sender undirected m x = cond (eqb (x .kind) call) (toBus image s sender m) (toAll image s sender m)
 directed image s i sender bus m x = toBus image s sender m
 directed image s i sender unknown m x = refused s 21
 directed image s i sender (slot j) m x = toSlot image s i sender (getD (s .slots) j free) m x

@@ -7,9 +7,9 @@ use Prim.Native.Nat.{ℕ, zero, suc, _+_, _*_, _≤_, _<_}
 use native.Mathlib.Omega.{arith}
 use lib.ListN.{length, drop, length-drop}
 use Rattle.wire.specs.Bytes.{oneOf}
-use Rattle.signature.specs.Signature.{Row, headOf, closed, tuple, entry, oneMore, one, row}
-use Rattle.signature.specs.declared.Head.{Head}
-use Rattle.signature.specs.declared.Head.the-variants.{Plain, Array, Dict, Paren, None}
+use Rattle.signature.specs.Signature.{Row, headOf, closedBy, tuple, dictEntry, oneMore, one, row}
+use Rattle.signature.specs.declared.FirstCode.{FirstCode}
+use Rattle.signature.specs.declared.FirstCode.the-variants.{Plain, Array, Dict, Paren, None}
 
 -- what is left is shorter than s, or no longer
 abbrev Shorter : List ℕ → Option (List ℕ) → Type 0
@@ -20,8 +20,8 @@ abbrev NoLonger : List ℕ → Option Row → Type 0
 NoLonger s none = Unit {0}
 NoLonger s (some r) = length (r .1) ≤ length s
 
-closed-shorter : (by : ℕ) (well : Bool) (s t : List ℕ) → length s ≤ length t → Shorter t (closed by well s)
-unfolding closed
+closed-shorter : (by : ℕ) (well : Bool) (s t : List ℕ) → length s ≤ length t → Shorter t (closedBy by well s)
+unfolding closedBy
 closed-shorter by well [] t h = tt
 closed-shorter by well (b ∷ s) t h = go (well && lib.Dec.eqb b by)
   where
@@ -29,7 +29,7 @@ closed-shorter by well (b ∷ s) t h = go (well && lib.Dec.eqb b by)
     go true = omega arith
     go false = tt
 
-entry-shorter : (key : Bool) (s t : List ℕ) (o : Option Row) → length s ≤ length t → NoLonger s o → Shorter t (entry key o)
+entry-shorter : (key : Bool) (s t : List ℕ) (o : Option Row) → length s ≤ length t → NoLonger s o → Shorter t (dictEntry key o)
 entry-shorter key s t none h k = tt
 entry-shorter key s t (some r) h k = closed-shorter _ _ (r .1) t (omega arith)
 
@@ -39,7 +39,7 @@ tuple-shorter s t (some r) h k = closed-shorter _ _ (r .1) t (omega arith)
 
 -- a step of each, from what holds at one unit of fuel less
 module _ (f : ℕ) (ones : (a p : ℕ) (s : List ℕ) → Shorter s (one f a p s)) (rows : (a p : ℕ) (s : List ℕ) → NoLonger s (row f a p s)) where
-  one-step : (a p b : ℕ) (s : List ℕ) (x : Head) → headOf a p (b ∷ s) ≡ x → Shorter (b ∷ s) (one (suc f) a p (b ∷ s))
+  one-step : (a p b : ℕ) (s : List ℕ) (x : FirstCode) → headOf a p (b ∷ s) ≡ x → Shorter (b ∷ s) (one (suc f) a p (b ∷ s))
   unfolding one
   one-step a p b s Plain e = rw (one, e) (omega arith)
   one-step a p b s Array e = rw (one, e) (longer s b (one f (a + 1) p s) (ones (a + 1) p s))
@@ -82,13 +82,13 @@ mutual
 module _ (f g : ℕ)
     (ones : (a p : ℕ) (s : List ℕ) → 2 * length s ≤ f → 2 * length s ≤ g → one f a p s ≡ one g a p s)
     (rows : (a p : ℕ) (s : List ℕ) → 2 * length s + 1 ≤ f → 2 * length s + 1 ≤ g → row f a p s ≡ row g a p s) where
-  one-same : (a p b : ℕ) (s : List ℕ) (x : Head) → headOf a p (b ∷ s) ≡ x → 2 * length (b ∷ s) ≤ suc f → 2 * length (b ∷ s) ≤ suc g
+  one-same : (a p b : ℕ) (s : List ℕ) (x : FirstCode) → headOf a p (b ∷ s) ≡ x → 2 * length (b ∷ s) ≤ suc f → 2 * length (b ∷ s) ≤ suc g
       → one (suc f) a p (b ∷ s) ≡ one (suc g) a p (b ∷ s)
   unfolding one
   one-same a p b s Plain e h k = rw (one, e)
   one-same a p b s Array e h k = rw (one, e) (ones (a + 1) p s (omega arith) (omega arith))
   one-same a p b s (Dict key) e h k =
-      rw (one, e) (ap (entry key) (rows (a + 1) p (drop 1 s) (omega (arith, length-drop 1 s)) (omega (arith, length-drop 1 s))))
+      rw (one, e) (ap (dictEntry key) (rows (a + 1) p (drop 1 s) (omega (arith, length-drop 1 s)) (omega (arith, length-drop 1 s))))
   one-same a p b s Paren e h k = rw (one, e) (ap tuple (rows a (p + 1) s (omega arith) (omega arith)))
   one-same a p b s None e h k = rw (one, e)
 

@@ -13,24 +13,24 @@ use borrow.Author.Needs.{needs}
 use borrow.Author.Tests.{ne-eqb}
 use Rattle.wire.specs.Bytes.{byte}
 use Rattle.wire.proofs.From.{next, past, skip}
-use Rattle.signature.specs.Signature.{basic, headOf, closed, one, row}
+use Rattle.signature.specs.Signature.{basic, headOf, closedBy, one, row}
 use Rattle.signature.specs.Reader.{leftOf, rowOf, StepFits, RunFits, HeadAt, OneAt, RowAt}
-use Rattle.signature.specs.declared.Head.{Head}
-use Rattle.signature.specs.declared.Head.the-variants as head
-use Rattle.signature.specs.declared.Step.{Step}
-use Rattle.signature.specs.declared.Step.the-variants as step
-use Rattle.signature.specs.declared.Run.{Run}
-use Rattle.signature.specs.declared.Run.the-variants as run
+use Rattle.signature.specs.declared.FirstCode.{FirstCode}
+use Rattle.signature.specs.declared.FirstCode.the-variants as head
+use Rattle.signature.specs.declared.TypeEnd.{TypeEnd}
+use Rattle.signature.specs.declared.TypeEnd.the-variants as step
+use Rattle.signature.specs.declared.RowEnd.{RowEnd}
+use Rattle.signature.specs.declared.RowEnd.the-variants as run
 
 -- a type that ends past a later start ends past this one
-further : (s : List ℕ) (at from : ℕ) → at ≤ from → (r : Step) → StepFits s from r → StepFits s at r
+further : (s : List ℕ) (at from : ℕ) → at ≤ from → (r : TypeEnd) → StepFits s from r → StepFits s at r
 further s at from h (step.Rest k) f = omega arith
 further s at from h step.Bad f = tt
 
 -- ---- what a variant says of places
 
 module _ {s : List ℕ} {at arrays parens : ℕ} where
-  module _ {x : Head} (h : HeadAt s at arrays parens x) where
+  module _ {x : FirstCode} (h : HeadAt s at arrays parens x) where
     pub plain-in : x ≡ head.Plain → at < length s
     plain-in e = subst (HeadAt s at arrays parens) e h .fits
 
@@ -43,17 +43,17 @@ module _ {s : List ℕ} {at arrays parens : ℕ} where
     pub paren-in : x ≡ head.Paren → (at < length s) × (parens < 32)
     paren-in e = subst (HeadAt s at arrays parens) e h .fits
 
-  pub type-in : {x : Step} → OneAt s at arrays parens x → {k : ℕ} → x ≡ step.Rest k → (at < k) × (k ≤ length s)
+  pub type-in : {x : TypeEnd} → OneAt s at arrays parens x → {k : ℕ} → x ≡ step.Rest k → (at < k) × (k ≤ length s)
   type-in o e = subst (OneAt s at arrays parens) e o .fits
 
-  pub row-in : {m : Run} → RowAt s at arrays parens m → {n end : ℕ} → m ≡ run.Types n end → (at ≤ end) × (n ≤ length s - at)
+  pub row-in : {m : RowEnd} → RowAt s at arrays parens m → {n end : ℕ} → m ≡ run.Types n end → (at ≤ end) × (n ≤ length s - at)
   row-in w e = subst (RowAt s at arrays parens) e w .fits
 
 -- ---- one type
 
 -- no fuel is never enough: what each way through the code shows is one step of the rule
 module _ {s : List ℕ} {at arrays parens : ℕ} where
-  one-is : {r : Step} → at < length s → StepFits s at r
+  one-is : {r : TypeEnd} → at < length s → StepFits s at r
       → ((fuel : ℕ) → 2 * (length s - at) ≤ suc fuel → leftOf s r ≡ one (suc fuel) arrays parens (drop at s)) → OneAt s at arrays parens r
   one-is {r} h f step = record { is = go; fits = f }
     where
@@ -61,7 +61,7 @@ module _ {s : List ℕ} {at arrays parens : ℕ} where
       go zero l = absurd (omega arith)
       go (suc fuel) l = step fuel l
 
-  row-is : {r : Run} → RunFits s at r
+  row-is : {r : RowEnd} → RunFits s at r
       → ((fuel : ℕ) → 2 * (length s - at) ≤ fuel → rowOf s r ≡ row (suc fuel) arrays parens (drop at s)) → RowAt s at arrays parens r
   row-is {r} f step = record { is = go; fits = f }
     where
@@ -69,12 +69,12 @@ module _ {s : List ℕ} {at arrays parens : ℕ} where
       go zero l = absurd (omega arith)
       go (suc fuel) l = step fuel (omega arith)
 
-module _ {s : List ℕ} {at arrays parens : ℕ} {x : Head} (h : HeadAt s at arrays parens x) where
+module _ {s : List ℕ} {at arrays parens : ℕ} {x : FirstCode} (h : HeadAt s at arrays parens x) where
   pub plain : x ≡ head.Plain → OneAt s at arrays parens (step.Rest (at + 1))
   unfolding one
   plain e = one-is (plain-in h e) (omega (arith, plain-in h e)) (λ fuel l. rw (one, ← h .is, e, skip s at 1 (at + 1) refl))
 
-  pub array : x ≡ head.Array → {r : Step} → OneAt s (at + 1) (arrays + 1) parens r → OneAt s at arrays parens r
+  pub array : x ≡ head.Array → {r : TypeEnd} → OneAt s (at + 1) (arrays + 1) parens r → OneAt s at arrays parens r
   unfolding one
   array e {r} o =
       one-is (array-in h e .0) (further s at (at + 1) (omega arith) r (o .fits))
@@ -88,8 +88,8 @@ module _ {s : List ℕ} {at arrays parens : ℕ} {x : Head} (h : HeadAt s at arr
       go zero l = refl
       go (suc fuel) l = rw (one, ← h .is, e)
 
-  module _ {key : Bool} (e : x ≡ head.Dict key) {m : Run} (w : RowAt s (at + 2) (arrays + 1) parens m) where
-    pub dict : {n end : ℕ} → m ≡ run.Types n end → {r : Step} → leftOf s r ≡ closed (byte "}") (key && eqb n 2) (drop end s)
+  module _ {key : Bool} (e : x ≡ head.Dict key) {m : RowEnd} (w : RowAt s (at + 2) (arrays + 1) parens m) where
+    pub dict : {n end : ℕ} → m ≡ run.Types n end → {r : TypeEnd} → leftOf s r ≡ closedBy (byte "}") (key && eqb n 2) (drop end s)
         → StepFits s end r → OneAt s at arrays parens r
     unfolding one
     dict {n} {end} q {r} d f =
@@ -100,8 +100,8 @@ module _ {s : List ℕ} {at arrays parens : ℕ} {x : Head} (h : HeadAt s at arr
     unfolding one
     dict-bad q = one-is (dict-in h e .0) tt (λ fuel l. rw (one, ← h .is, e, skip s at 2 (at + 2) refl, ← w .is fuel (omega (arith, dict-in h e)), q))
 
-  module _ (e : x ≡ head.Paren) {m : Run} (w : RowAt s (at + 1) arrays (parens + 1) m) where
-    pub paren : {n end : ℕ} → m ≡ run.Types n end → {r : Step} → leftOf s r ≡ closed (byte ")") (leb 1 n) (drop end s)
+  module _ (e : x ≡ head.Paren) {m : RowEnd} (w : RowAt s (at + 1) arrays (parens + 1) m) where
+    pub paren : {n end : ℕ} → m ≡ run.Types n end → {r : TypeEnd} → leftOf s r ≡ closedBy (byte ")") (leb 1 n) (drop end s)
         → StepFits s end r → OneAt s at arrays parens r
     unfolding one
     paren {n} {end} q {r} d f =
@@ -124,7 +124,7 @@ module _ {s : List ℕ} {at arrays parens : ℕ} where
   at-close h t = row-is (omega arith) (λ fuel l. rw (row, next s at h, t))
 
   module _ (h : at < length s) (t : eqb (getD s at 0) (byte ")") || eqb (getD s at 0) (byte "}") ≡ false)
-      {x : Step} (o : OneAt s at arrays parens x) where
+      {x : TypeEnd} (o : OneAt s at arrays parens x) where
     -- the type in front, where its first byte is written out
     front-is : (fuel : ℕ) → 2 * (length s - at) ≤ fuel → leftOf s x ≡ one fuel arrays parens (getD s at 0 ∷ drop (at + 1) s)
     front-is fuel l = rw (next s at h) at (o .is fuel l)
@@ -133,7 +133,7 @@ module _ {s : List ℕ} {at arrays parens : ℕ} where
     unfolding row
     at-bad e = row-is tt (λ fuel l. rw (row, next s at h, t, ← front-is fuel l, e))
 
-    module _ {k : ℕ} (e : x ≡ step.Rest k) {m : Run} (w : RowAt s k arrays parens m) where
+    module _ {k : ℕ} (e : x ≡ step.Rest k) {m : RowEnd} (w : RowAt s k arrays parens m) where
       pub more : {n end : ℕ} → m ≡ run.Types n end → RowAt s at arrays parens (run.Types (n + 1) end)
       unfolding row
       more q =
@@ -147,19 +147,19 @@ module _ {s : List ℕ} {at arrays parens : ℕ} where
 -- ---- a row that is being read: n types from `at` on have been passed, and what is left starts at i
 
 -- n types more, in front
-abbrev shifted : ℕ → Run → Run
+abbrev shifted : ℕ → RowEnd → RowEnd
 shifted n (run.Types m e) = run.Types (m + n) e
 shifted n run.Bad = run.Bad
 
 pub record Going (s : List ℕ) (at arrays parens i n : ℕ) : Type 0 where
   pub low : at ≤ i
   pub few : n + (length s - i) ≤ length s - at
-  pub rest : (r : Run) → RowAt s i arrays parens r → RowAt s at arrays parens (shifted n r)
+  pub rest : (r : RowEnd) → RowAt s i arrays parens r → RowAt s at arrays parens (shifted n r)
 
 pub going-begin : {s : List ℕ} {at arrays parens : ℕ} → Going s at arrays parens at 0
 going-begin {s} {at} {arrays} {parens} = record { low = omega arith; few = omega arith; rest = same }
   where
-    same : (r : Run) → RowAt s at arrays parens r → RowAt s at arrays parens (shifted 0 r)
+    same : (r : RowEnd) → RowAt s at arrays parens r → RowAt s at arrays parens (shifted 0 r)
     same (run.Types m e) w = rw (add-zero m) w
     same run.Bad w = w
 
@@ -180,14 +180,14 @@ module _ {s : List ℕ} {at arrays parens i n : ℕ} (g : Going s at arrays pare
     pub going-close : eqb (getD s i 0) (byte ")") || eqb (getD s i 0) (byte "}") ≡ true → RowAt s at arrays parens (run.Types n i)
     going-close t = rw (zero-add n) at (g .rest (run.Types 0 i) (at-close h t))
 
-    module _ (t : eqb (getD s i 0) (byte ")") || eqb (getD s i 0) (byte "}") ≡ false) {x : Step} (o : OneAt s i arrays parens x) where
+    module _ (t : eqb (getD s i 0) (byte ")") || eqb (getD s i 0) (byte "}") ≡ false) {x : TypeEnd} (o : OneAt s i arrays parens x) where
       pub going-bad : x ≡ step.Bad → RowAt s at arrays parens run.Bad
       going-bad e = g .rest run.Bad (at-bad h t o e)
 
       pub going-on : {k : ℕ} → x ≡ step.Rest k → Going s at arrays parens k (n + 1)
       going-on {k} e = record { low = omega (arith, type-in o e); few = omega (arith, type-in o e); rest = one-more }
         where
-          one-more : (r : Run) → RowAt s k arrays parens r → RowAt s at arrays parens (shifted (n + 1) r)
+          one-more : (r : RowEnd) → RowAt s k arrays parens r → RowAt s at arrays parens (shifted (n + 1) r)
           one-more (run.Types m end) w =
               let q : m + 1 + n ≡ m + (n + 1) = omega arith in
               rw q at (g .rest (run.Types (m + 1) end) (more h t o e w refl))

@@ -6,8 +6,8 @@ use Prim.Native.Nat.{ℕ, zero, suc, _+_, _*_}
 use lib.Dec.{leb, ltb, eqb}
 use lib.ListN.{length, drop}
 use Rattle.wire.specs.Bytes.{byte, oneOf, front}
-use Rattle.signature.specs.declared.Head.{Head}
-use Rattle.signature.specs.declared.Head.the-variants.{Plain, Array, Dict, Paren, None}
+use Rattle.signature.specs.declared.FirstCode.{FirstCode}
+use Rattle.signature.specs.declared.FirstCode.the-variants.{Plain, Array, Dict, Paren, None}
 
 -- what a dict entry may have for its key (rule 4.3)
 abbrev pub basic : ℕ → Bool
@@ -15,7 +15,7 @@ basic b = oneOf false "ybnqiuxtdsogh" b
 
 -- how a type begins, with so many arrays and parentheses open (rules 4.2 and 4.4): a basic letter or `v`; a `(`; an `a`, which may start a dict
 -- entry with or without a basic key (rule 4.3)
-unfoldable pub headOf : ℕ → ℕ → List ℕ → Head
+unfoldable pub headOf : ℕ → ℕ → List ℕ → FirstCode
 headOf arrays parens [] = None
 headOf arrays parens (b ∷ s) =
     cond (basic b || eqb b (byte "v")) Plain
@@ -23,9 +23,9 @@ headOf arrays parens (b ∷ s) =
     (cond (eqb b (byte "a") && ltb arrays 32) (cond (eqb (front s) (byte "{")) (Dict (basic (front (drop 1 s)))) Array) None))
 
 -- what is left after the byte `by`, where it stands in front and all is `well`
-unfoldable pub closed : ℕ → Bool → List ℕ → Option (List ℕ)
-closed by well [] = none
-closed by well (b ∷ s) = cond (well && eqb b by) (some s) none
+unfoldable pub closedBy : ℕ → Bool → List ℕ → Option (List ℕ)
+closedBy by well [] = none
+closedBy by well (b ∷ s) = cond (well && eqb b by) (some s) none
 
 -- types in a row: how many, and what is left
 abbrev pub Row : Type 0
@@ -34,20 +34,20 @@ Row = ℕ × List ℕ
 -- `(` row `)`, of one type or more (rule 4.2)
 abbrev pub tuple : Option Row → Option (List ℕ)
 tuple none = none
-tuple (some r) = closed (byte ")") (leb 1 (r .0)) (r .1)
+tuple (some r) = closedBy (byte ")") (leb 1 (r .0)) (r .1)
 
 -- `{` row `}`, of two types, where the first is `key`, a basic one (rule 4.3)
-abbrev pub entry : Bool → Option Row → Option (List ℕ)
-entry key none = none
-entry key (some r) = closed (byte "}") (key && eqb (r .0) 2) (r .1)
+abbrev pub dictEntry : Bool → Option Row → Option (List ℕ)
+dictEntry key none = none
+dictEntry key (some r) = closedBy (byte "}") (key && eqb (r .0) 2) (r .1)
 
 abbrev pub oneMore : Option Row → Option Row
 oneMore none = none
 oneMore (some r) = some (r .0 + 1, r .1)
 
-abbrev pub whole : Option Row → Bool
-whole none = false
-whole (some r) = eqb (length (r .1)) 0
+abbrev pub isWholeRow : Option Row → Bool
+isWholeRow none = false
+isWholeRow (some r) = eqb (length (r .1)) 0
 
 unfoldable mutual
   -- what is left after the one type in front of s, with so many arrays and parentheses open (rules 4.2 and 4.4); a dict entry opens no parenthesis.
@@ -58,7 +58,7 @@ unfoldable mutual
       elim (headOf arrays parens s) [
         | Plain ↦ some (drop 1 s)
         | Array ↦ one fuel (arrays + 1) parens (drop 1 s)
-        | Dict key ↦ entry key (row fuel (arrays + 1) parens (drop 2 s))
+        | Dict key ↦ dictEntry key (row fuel (arrays + 1) parens (drop 2 s))
         | Paren ↦ tuple (row fuel arrays (parens + 1) (drop 1 s))
         | None ↦ none
       ]
@@ -75,4 +75,4 @@ unfoldable mutual
 
 -- a row of no types is a signature too (rule 4.1)
 unfoldable pub validSignature : List ℕ → Bool
-validSignature s = leb (length s) 255 && whole (row (2 * length s + 1) 0 0 s)
+validSignature s = leb (length s) 255 && isWholeRow (row (2 * length s + 1) 0 0 s)

@@ -6,11 +6,11 @@ use lib.ListN.{replicate}
 use Rattle.wire.specs.Bytes.{byte, bytes}
 
 -- a signature, and whether it is good
-abbrev pub Line : Type 0
-Line = List ℕ × Bool
+abbrev pub SignatureRow : Type 0
+SignatureRow = List ℕ × Bool
 
-abbrev pub table : List Line
-table =
+abbrev pub signatureTable : List SignatureRow
+signatureTable =
     (bytes "", true)
     ∷ (bytes "a{sv}", true)
     ∷ (bytes "{sv}", false)

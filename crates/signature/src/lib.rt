@@ -1,11 +1,11 @@
 // The signature rule of D-Bus: a list of types calls one type, and one type calls a list for parentheses and braces.
 ghost use mathlib.Core.Path.{_≡_};
 ghost use lib.ListN.{drop};
-ghost use Rattle.signature.specs.Signature.{basic, closed, validSignature};
+ghost use Rattle.signature.specs.Signature.{basic, closedBy, validSignature};
 ghost use Rattle.signature.specs.Reader.{leftOf, StepFits, HeadAt, OneAt, RowAt};
 
 // How a type begins; a dict entry, with or without a basic key.
-pub enum Head {
+pub enum FirstCode {
     Plain,
     Array,
     Dict(bool),
@@ -14,13 +14,13 @@ pub enum Head {
 }
 
 // Where the bytes after one type start.
-pub enum Step {
+pub enum TypeEnd {
     Rest(usize),
     Bad,
 }
 
 // How many types stand in a row, and where the bytes after them start.
-pub enum Run {
+pub enum RowEnd {
     Types(usize, usize),
     Bad,
 }
@@ -43,67 +43,67 @@ fn is_basic(b: u8) -> bool
         | (b == b'h')
 }
 
-fn head_at(s: &[u8], at: usize, arrays: usize, parens: usize) -> Head
+fn head_at(s: &[u8], at: usize, arrays: usize, parens: usize) -> FirstCode
     ensures { λ r. ⌜ HeadAt (now (s .entry)) at arrays parens r ⌝ }
 {
     if s.len() <= at {
-        return Head::None;
+        return FirstCode::None;
     }
     let b = s[at];
     if is_basic(b) | (b == b'v') {
-        return Head::Plain;
+        return FirstCode::Plain;
     }
     if (b == b'(') & (parens < 32) {
-        return Head::Paren;
+        return FirstCode::Paren;
     }
     if (b == b'a') & (arrays < 32) {
         if wire::peek(s, at + 1) == b'{' {
             if is_basic(wire::peek(s, at + 2)) {
-                return Head::Dict(true);
+                return FirstCode::Dict(true);
             }
-            return Head::Dict(false);
+            return FirstCode::Dict(false);
         }
-        return Head::Array;
+        return FirstCode::Array;
     }
-    Head::None
+    FirstCode::None
 }
 
 // Past the closing byte at `end`, where all is well so far.
-fn close(s: &[u8], end: usize, well: bool, by: u8) -> Step
-    ensures is { λ r. ⌜ leftOf (now (s .entry)) r ≡ closed by well (drop end (now (s .entry))) ⌝ }
+fn close(s: &[u8], end: usize, well: bool, by: u8) -> TypeEnd
+    ensures is { λ r. ⌜ leftOf (now (s .entry)) r ≡ closedBy by well (drop end (now (s .entry))) ⌝ }
     ensures fits { λ r. ⌜ StepFits (now (s .entry)) end r ⌝ }
 {
     if s.len() <= end {
-        return Step::Bad;
+        return TypeEnd::Bad;
     }
     if well & (s[end] == by) {
-        Step::Rest(end + 1)
+        TypeEnd::Rest(end + 1)
     } else {
-        Step::Bad
+        TypeEnd::Bad
     }
 }
 
 // The one type at `at`.
-fn one(s: &[u8], at: usize, arrays: usize, parens: usize) -> Step
+fn one(s: &[u8], at: usize, arrays: usize, parens: usize) -> TypeEnd
     ensures { λ r. ⌜ OneAt (now (s .entry)) at arrays parens r ⌝ }
 {
     match head_at(s, at, arrays, parens) {
-        Head::Plain => Step::Rest(at + 1),
-        Head::Array => one(s, at + 1, arrays + 1, parens),
-        Head::Dict(key) => match list(s, at + 2, arrays + 1, parens) {
-            Run::Types(n, end) => close(s, end, key & (n == 2), b'}'),
-            Run::Bad => Step::Bad,
+        FirstCode::Plain => TypeEnd::Rest(at + 1),
+        FirstCode::Array => one(s, at + 1, arrays + 1, parens),
+        FirstCode::Dict(key) => match list(s, at + 2, arrays + 1, parens) {
+            RowEnd::Types(n, end) => close(s, end, key & (n == 2), b'}'),
+            RowEnd::Bad => TypeEnd::Bad,
         },
-        Head::Paren => match list(s, at + 1, arrays, parens + 1) {
-            Run::Types(n, end) => close(s, end, 1 <= n, b')'),
-            Run::Bad => Step::Bad,
+        FirstCode::Paren => match list(s, at + 1, arrays, parens + 1) {
+            RowEnd::Types(n, end) => close(s, end, 1 <= n, b')'),
+            RowEnd::Bad => TypeEnd::Bad,
         },
-        Head::None => Step::Bad,
+        FirstCode::None => TypeEnd::Bad,
     }
 }
 
 // The types in a row from `at` on, up to a closing byte or the end. A plain letter is a type at sight; any other is asked of `one`.
-fn list(s: &[u8], at: usize, arrays: usize, parens: usize) -> Run
+fn list(s: &[u8], at: usize, arrays: usize, parens: usize) -> RowEnd
     ensures { λ r. ⌜ RowAt (now (s .entry)) at arrays parens r ⌝ }
 {
     let mut i = at;
@@ -115,20 +115,20 @@ fn list(s: &[u8], at: usize, arrays: usize, parens: usize) -> Run
             n += 1;
         } else {
             if (b == b')') | (b == b'}') {
-                return Run::Types(n, i);
+                return RowEnd::Types(n, i);
             }
             match one(s, i, arrays, parens) {
-                Step::Rest(next) => {
+                TypeEnd::Rest(next) => {
                     i = next;
                     n += 1;
                 }
-                Step::Bad => {
-                    return Run::Bad;
+                TypeEnd::Bad => {
+                    return RowEnd::Bad;
                 }
             }
         }
     }
-    Run::Types(n, i)
+    RowEnd::Types(n, i)
 }
 
 pub fn is_valid(s: &[u8]) -> bool
@@ -138,7 +138,7 @@ pub fn is_valid(s: &[u8]) -> bool
         return false;
     }
     match list(s, 0, 0, 0) {
-        Run::Types(_, end) => s.len() <= end,
-        Run::Bad => false,
+        RowEnd::Types(_, end) => s.len() <= end,
+        RowEnd::Bad => false,
     }
 }

@@ -20,7 +20,7 @@ ghost use Rattle.wire.specs.Bytes.{same};
 ghost use Rattle.policy.specs.Names.{owns};
 ghost use Rattle.memory.specs.Layout.{memoryLength, slotLength, slotStart, firstName, nameWidth};
 ghost use Rattle.memory.specs.Encoding.{stateOf};
-ghost use Rattle.memory.specs.Places.{numberAt, Found};
+ghost use Rattle.memory.specs.Places.{numberAt, FoundSlot};
 ghost use Rattle.slots.specs.Slots.{peerAt, nameAt, namePlace, At, GidsOf, CallAt};
 
 // A peer's gids: the first `count` of the list.
@@ -56,7 +56,7 @@ pub fn last_of(memory: &[u8]) -> u32
 // The first slot from `from` on whose peer has this number, or 16.
 pub fn find(memory: &[u8], number: u32, from: usize) -> usize
     requires { ⌜ (length (now memory) ≡ memoryLength) × (from ≤ 16) ⌝ }
-    ensures { λ r. ⌜ Found (isPeer number) (now (memory .entry)) from r ⌝ }
+    ensures { λ r. ⌜ FoundSlot (isPeer number) (now (memory .entry)) from r ⌝ }
 {
     if number == 0 {
         return 16;
@@ -74,7 +74,7 @@ pub fn find(memory: &[u8], number: u32, from: usize) -> usize
 // The lowest free slot, or 16.
 pub fn find_free(memory: &[u8]) -> usize
     requires { ⌜ length (now memory) ≡ memoryLength ⌝ }
-    ensures { λ r. ⌜ Found isFree (now (memory .entry)) 0 r ⌝ }
+    ensures { λ r. ⌜ FoundSlot isFree (now (memory .entry)) 0 r ⌝ }
 {
     let mut i = 0;
     while i < 16 {
@@ -167,7 +167,7 @@ fn is_owner(memory: &[u8], i: usize, name: &[u8]) -> bool
 // The first slot from `from` on whose peer owns the name, or 16.
 pub fn find_owner(memory: &[u8], name: &[u8], from: usize) -> usize
     requires { ⌜ (length (now memory) ≡ memoryLength) × (from ≤ 16) ⌝ }
-    ensures { λ r. ⌜ Found (isOwner (now (name .entry))) (now (memory .entry)) from r ⌝ }
+    ensures { λ r. ⌜ FoundSlot (isOwner (now (name .entry))) (now (memory .entry)) from r ⌝ }
 {
     let mut i = from;
     while i < 16 {

@@ -16,7 +16,7 @@ use Rattle.memory.specs.Layout.{memoryLength}
 use Rattle.memory.specs.Encoding.{memoryOf, stateOf}
 use Rattle.memory.specs.Good.{good}
 use Rattle.memory.specs.Sound.{Sound}
-use Rattle.memory.specs.Calls.{Did, kept, onMemory, onImage, startOn, connectOn, ownOn, releaseOn, pieceOn, disconnectOn}
+use Rattle.memory.specs.Calls.{Did, unchanged, onMemory, onImage, startOn, connectOn, ownOn, releaseOn, pieceOn, disconnectOn}
 use Rattle.memory.proofs.Good.{good-sound}
 use Rattle.memory.proofs.Octets.{every-below}
 use Rattle.memory.proofs.Sound.{good-memory}
@@ -31,7 +31,7 @@ module _ {R : Type 0} (refuse : ℕ → R) (m : List ℕ) (g : good m ≡ true) 
   image-good : (image : List ℕ) {r : R} {e : List ℕ} → Did (onImage refuse image m z) r e → good e ≡ true
   image-good image {r} {e} d = go (eqb (imageAnswer image) 0) d
     where
-      go : (b : Bool) → Did (cond b (onMemory refuse m z) (kept m (refuse (imageAnswer image)))) r e → good e ≡ true
+      go : (b : Bool) → Did (cond b (onMemory refuse m z) (unchanged m (refuse (imageAnswer image)))) r e → good e ≡ true
       go true x = memory-good x
       go false x = ap good (x .memory) ∙ g
 

@@ -12,7 +12,7 @@ use Rattle.policy.specs.Names.{busName}
 use Rattle.policy.specs.Matching.{Message, fieldOf, messageOf}
 use Rattle.stream.specs.Tail.{Tail}
 use Rattle.rules.specs.State.{Peer, Slot, free, peer, State, isPeer, putSlot, withPending}
-use Rattle.rules.specs.Addresses.{Address, absent, bus, slot, unknown, resolve}
+use Rattle.rules.specs.Addresses.{Address, undirected, bus, slot, unknown, resolve}
 use Rattle.rules.specs.Pending.{awaits, ended}
 use Rattle.rules.specs.Judge.{Judged, refused, passed, maySend, mayReceive, expectsReply, toBus, toAll, waits, toPeer, toSlot, directed, replyTo, reply, judged}
 use Rattle.rules.specs.declared.Receiver.the-variants as to
@@ -39,7 +39,7 @@ module _ (image : List ℕ) (s : State Tail) (sender : Peer Tail) (x : Header) (
       (λ h. ended-sound s j caller g e (sender .number) (x .«reply_serial»)) (λ h. g)
 
   replied : (a : Address) → Leaves (reply s sender a x)
-  replied absent = g
+  replied undirected = g
   replied bus = g
   replied unknown = g
   replied (slot j) = reply-to j (getD (s .slots) j free) refl
@@ -71,7 +71,7 @@ module _ (image : List ℕ) (s : State Tail) (i : ℕ) (sender : Peer Tail) (x :
   to-slot m j (peer receiver) r = to-peer m j receiver r
 
   sent : (m : Message) (a : Address) → Leaves (directed image s i sender a m x)
-  sent m absent = choice Leaves (eqb (x .kind) 1) (toBus image s sender m) (toAll image s sender m) (λ h. to-bus image s sender x g m) (λ h. g)
+  sent m undirected = choice Leaves (eqb (x .kind) 1) (toBus image s sender m) (toAll image s sender m) (λ h. to-bus image s sender x g m) (λ h. g)
   sent m bus = to-bus image s sender x g m
   sent m unknown = g
   sent m (slot j) = to-slot m j (getD (s .slots) j free) refl

@@ -21,7 +21,7 @@ use Rattle.stream.specs.Stream.{more, broken, whole}
 use Rattle.stream.specs.Tail.{finished}
 use Rattle.stream.proofs.Heads.{Known, early, late, known}
 use Rattle.rules.specs.State.{Slot, free, peer, Peer, State, putSlot, withPending}
-use Rattle.rules.specs.Addresses.{Address, absent, bus, slot, unknown, resolve}
+use Rattle.rules.specs.Addresses.{Address, undirected, bus, slot, unknown, resolve}
 use Rattle.rules.specs.Pending.{awaits, ended}
 use Rattle.rules.specs.Judge.{Judged, refused, passed, maySend, mayReceive, toBus, waits, expectsReply, toPeer, toAll, replyTo, reply, toSlot, directed, judged}
 use Rattle.rules.specs.Places.{isJudged}
@@ -73,7 +73,7 @@ module _ {S : Type 0} (image : List ℕ) (s : State S) (i : ℕ) (sender : Peer 
   slot-proper (peer receiver) m = peer-proper receiver m
 
   directed-proper : (a : Address) (m : Message) → Proper (directed image s i sender a m x)
-  directed-proper absent m = choice Proper (eqb (x .kind) 1) (toBus image s sender m) (toAll image s sender m) (λ e. bus-proper m) (λ e. refl)
+  directed-proper undirected m = choice Proper (eqb (x .kind) 1) (toBus image s sender m) (toAll image s sender m) (λ e. bus-proper m) (λ e. refl)
   directed-proper bus m = bus-proper m
   directed-proper unknown m = refl
   directed-proper (slot j) m = slot-proper (getD (s .slots) j free) m
@@ -86,7 +86,7 @@ module _ {S : Type 0} (image : List ℕ) (s : State S) (i : ℕ) (sender : Peer 
       (λ e. refl) (λ e. refl)
 
   reply-proper : (a : Address) → Proper (reply s sender a x)
-  reply-proper absent = refl
+  reply-proper undirected = refl
   reply-proper bus = refl
   reply-proper unknown = refl
   reply-proper (slot j) = to-proper j (getD (s .slots) j free)

@@ -19,7 +19,7 @@ use Rattle.rules.specs.declared.Gone.{Gone}
 use Rattle.memory.specs.Layout.{memoryLength}
 use Rattle.memory.specs.Encoding.{memoryOf, stateOf}
 use Rattle.memory.specs.Good.{good}
-use Rattle.memory.specs.Calls.{Did, stored, kept, onMemory, onImage, startOn, connectOn, ownOn, releaseOn, pieceOn, disconnectOn}
+use Rattle.memory.specs.Calls.{Did, stored, unchanged, onMemory, onImage, startOn, connectOn, ownOn, releaseOn, pieceOn, disconnectOn}
 use Rattle.memory.proofs.Good.{good-is}
 use Rattle.sound.proofs.Numbers.{broken-number}
 use Rattle.sound.proofs.Answers.{Modest, connect-modest, own-modest, release-modest, piece-modest, disconnect-modest}
@@ -29,10 +29,10 @@ use Rattle.sound.proofs.Answers.{Modest, connect-modest, own-modest, re
 module _ {R : Type 0} (say : R → ℕ) (refuse : ℕ → R) (says : (a : ℕ) → say (refuse a) ≡ a) (m : List ℕ) (z : Step Tail R)
     (modest : Modest say refuse (stateOf m) z) where
   -- a refusal's own report
-  alone : (a : ℕ) {r : R} {e : List ℕ} → Did (kept m (refuse a)) r e → Did (kept m (refuse (say r))) r e
+  alone : (a : ℕ) {r : R} {e : List ℕ} → Did (unchanged m (refuse a)) r e → Did (unchanged m (refuse (say r))) r e
   alone a d = record { result = d .result ∙ ap refuse (sym (ap say (d .result) ∙ says a)); memory = d .memory }
 
-  stored-keeps : ((i : ℕ) → getD m i 0 < 256) → good m ≡ true → {r : R} {e : List ℕ} → Did (stored z) r e → 30 ≤ say r → Did (kept m (refuse (say r))) r e
+  stored-keeps : ((i : ℕ) → getD m i 0 < 256) → good m ≡ true → {r : R} {e : List ℕ} → Did (stored z) r e → 30 ≤ say r → Did (unchanged m (refuse (say r))) r e
   stored-keeps b g {r} d h =
       let q : say r ≡ say (z .result) = ap say (d .result) in
       let s = modest .still (rw (← q) h) in
@@ -41,25 +41,25 @@ module _ {R : Type 0} (say : R → ℕ) (refuse : ℕ → R) (says : (a : ℕ) �
         memory = d .memory ∙ ap (λ (y : Step Tail R). memoryOf (y .state)) s ∙ good-is m b g;
       }
 
-  memory-keeps : ((i : ℕ) → getD m i 0 < 256) → {r : R} {e : List ℕ} → Did (onMemory refuse m z) r e → 30 ≤ say r → Did (kept m (refuse (say r))) r e
+  memory-keeps : ((i : ℕ) → getD m i 0 < 256) → {r : R} {e : List ℕ} → Did (onMemory refuse m z) r e → 30 ≤ say r → Did (unchanged m (refuse (say r))) r e
   memory-keeps b {r} {e} d h = go (good m) refl d
     where
-      go : (g : Bool) → good m ≡ g → Did (cond g (stored z) (kept m (refuse 51))) r e → Did (kept m (refuse (say r))) r e
+      go : (g : Bool) → good m ≡ g → Did (cond g (stored z) (unchanged m (refuse 51))) r e → Did (unchanged m (refuse (say r))) r e
       go true g x = stored-keeps b g x h
       go false g x = alone 51 x
 
   image-keeps : (image : List ℕ) → ((i : ℕ) → getD m i 0 < 256) → {r : R} {e : List ℕ} → Did (onImage refuse image m z) r e → 30 ≤ say r
-      → Did (kept m (refuse (say r))) r e
+      → Did (unchanged m (refuse (say r))) r e
   image-keeps image b {r} {e} d h = go (eqb (imageAnswer image) 0) d
     where
-      go : (p : Bool) → Did (cond p (onMemory refuse m z) (kept m (refuse (imageAnswer image)))) r e → Did (kept m (refuse (say r))) r e
+      go : (p : Bool) → Did (cond p (onMemory refuse m z) (unchanged m (refuse (imageAnswer image)))) r e → Did (unchanged m (refuse (say r))) r e
       go true x = memory-keeps b x h
       go false x = alone (imageAnswer image) x
 
   memory-51 : {r : R} {e : List ℕ} → Did (onMemory refuse m z) r e → (say r ≡ 51) ↔ (good m ≡ false)
   memory-51 {r} {e} d = go (good m) d
     where
-      go : (g : Bool) → Did (cond g (stored z) (kept m (refuse 51))) r e → (say r ≡ 51) ↔ (g ≡ false)
+      go : (g : Bool) → Did (cond g (stored z) (unchanged m (refuse 51))) r e → (say r ≡ 51) ↔ (g ≡ false)
       go true x = (λ q. absurd (omega (arith, modest .most, q, ap say (x .result))), λ q. absurd (false≢true (sym q)))
       go false x = (λ q. refl, λ q. ap say (x .result) ∙ says 51)
 
@@ -71,40 +71,40 @@ module _ {R : Type 0} (say : R → ℕ) (refuse : ℕ → R) (says : (a : ℕ) �
 tail-faults : (t : Tail) (a : ℕ) → tails .judge t ≡ broken a → (1 ≤ a) × (a ≤ 9)
 tail-faults t a e = broken-number (t .taken) (t .head) a e
 
-pub refusal-keeps-start : (m : List ℕ) {r : ℕ} {e : List ℕ} → Did (startOn m) r e → 30 ≤ r → Did (kept m r) r e
+pub refusal-keeps-start : (m : List ℕ) {r : ℕ} {e : List ℕ} → Did (startOn m) r e → 30 ≤ r → Did (unchanged m r) r e
 unfolding startOn
 refusal-keeps-start m {r} {e} d h = go (eqb (length m) memoryLength) d
   where
-    go : (b : Bool) → Did (cond b (record { memory = memoryOf empty; result = 0 }) (kept m 51)) r e → Did (kept m r) r e
+    go : (b : Bool) → Did (cond b (record { memory = memoryOf empty; result = 0 }) (unchanged m 51)) r e → Did (unchanged m r) r e
     go true x = absurd (omega (arith, x .result, h))
     go false x = record { result = refl; memory = x .memory }
 
 module _ (m : List ℕ) (octets : (i : ℕ) → getD m i 0 < 256) where
   pub refusal-keeps-connect : (image : List ℕ) (uid : ℕ) (gids : List ℕ) {r : Connected} {e : List ℕ} → Did (connectOn image m uid gids) r e
-      → 30 ≤ r .answer → Did (kept m (noConnect (r .answer))) r e
+      → 30 ≤ r .answer → Did (unchanged m (noConnect (r .answer))) r e
   unfolding connectOn
   refusal-keeps-connect image uid gids =
       image-keeps (λ (r : Connected). r .answer) noConnect (λ a. refl) m (connect tails image (stateOf m) uid gids)
       (connect-modest tails (stateOf m) image uid gids) image octets
 
-  pub refusal-keeps-own : (image : List ℕ) (n : ℕ) (name : List ℕ) {r : ℕ} {e : List ℕ} → Did (ownOn image m n name) r e → 30 ≤ r → Did (kept m r) r e
+  pub refusal-keeps-own : (image : List ℕ) (n : ℕ) (name : List ℕ) {r : ℕ} {e : List ℕ} → Did (ownOn image m n name) r e → 30 ≤ r → Did (unchanged m r) r e
   unfolding ownOn
   refusal-keeps-own image n name =
       image-keeps (λ (a : ℕ). a) (λ (a : ℕ). a) (λ a. refl) m (own image (stateOf m) n name) (own-modest (stateOf m) image n name) image octets
 
-  pub refusal-keeps-release : (n : ℕ) (name : List ℕ) {r : ℕ} {e : List ℕ} → Did (releaseOn m n name) r e → 30 ≤ r → Did (kept m r) r e
+  pub refusal-keeps-release : (n : ℕ) (name : List ℕ) {r : ℕ} {e : List ℕ} → Did (releaseOn m n name) r e → 30 ≤ r → Did (unchanged m r) r e
   unfolding releaseOn
   refusal-keeps-release n name =
       memory-keeps (λ (a : ℕ). a) (λ (a : ℕ). a) (λ a. refl) m (release (stateOf m) n name) (release-modest (stateOf m) n name) octets
 
   pub refusal-keeps-piece : (image : List ℕ) (n : ℕ) (bytes : List ℕ) {r : Taken} {e : List ℕ} → Did (pieceOn image m n bytes) r e
-      → 30 ≤ r .judgement .answer → Did (kept m (noPiece (r .judgement .answer))) r e
+      → 30 ≤ r .judgement .answer → Did (unchanged m (noPiece (r .judgement .answer))) r e
   unfolding pieceOn
   refusal-keeps-piece image n bytes =
       image-keeps (λ (r : Taken). r .judgement .answer) noPiece (λ a. refl) m (piece tails image (stateOf m) n bytes)
       (piece-modest tails tail-faults (stateOf m) image n bytes) image octets
 
-  pub refusal-keeps-disconnect : (n : ℕ) {r : Gone} {e : List ℕ} → Did (disconnectOn m n) r e → 30 ≤ r .answer → Did (kept m (noGone (r .answer))) r e
+  pub refusal-keeps-disconnect : (n : ℕ) {r : Gone} {e : List ℕ} → Did (disconnectOn m n) r e → 30 ≤ r .answer → Did (unchanged m (noGone (r .answer))) r e
   unfolding disconnectOn
   refusal-keeps-disconnect n =
       memory-keeps (λ (r : Gone). r .answer) noGone (λ a. refl) m (disconnect tails (stateOf m) n) (disconnect-modest tails (stateOf m) n) octets

@@ -10,11 +10,11 @@ use Rattle.header.specs.Codes.{letterOf}
 use Rattle.header.specs.Fields.{textIn, valueAt, framed, elementAt, walk, fieldsOf}
 use Rattle.header.specs.Values.{numberIn, goodValue, goodField, goodValues}
 use Rattle.header.specs.Required.{hasRequired}
-use Rattle.header.specs.Header.{headerOf, judged, readHead, readHeader}
+use Rattle.header.specs.Header.{headerOf, judgedHead, readHead, readHeader}
 use Rattle.stream.specs.Stream.{offer}
 use Rattle.stream.specs.Tail.{goodTail}
-use Rattle.stream.specs.Table.{table, answer}
+use Rattle.stream.specs.Table.{streamTable, streamAnswer}
 
-pub table-agrees : agrees answer same table ≡ true
-unfolding allZero same wordAt wordBytes startsWith wellKnown unique validName orderOf headLength messageLength sizesOf fixedPart letterOf textIn valueAt framed elementAt walk fieldsOf numberIn goodValue goodField goodValues hasRequired headerOf judged readHead readHeader offer goodTail
+pub table-agrees : agrees streamAnswer same streamTable ≡ true
+unfolding allZero same wordAt wordBytes startsWith wellKnown unique validName orderOf headLength messageLength sizesOf fixedPart letterOf textIn valueAt framed elementAt walk fieldsOf numberIn goodValue goodField goodValues hasRequired headerOf judgedHead readHead readHeader offer goodTail
 table-agrees = refl

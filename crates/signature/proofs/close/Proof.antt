@@ -7,22 +7,22 @@ use Prim.Native.Nat.{ℕ, _+_, _≤_, _<_}
 use lib.Dec.{eqb}
 use lib.ListN.{length, drop, getD}
 use borrow.Author.Needs.{needs}
-use Rattle.signature.specs.Signature.{closed}
+use Rattle.signature.specs.Signature.{closedBy}
 use Rattle.wire.proofs.From.{next, past}
 use Rattle.signature.proofs.close.Statement.{statement}
 use Rattle.signature.proofs.close.Tie as tie
 
 module _ (s : List ℕ) (end : ℕ) (well : Bool) (by : ℕ) where
-  none-left : length s ≤ end → none ≡ closed by well (drop end s)
-  unfolding closed
+  none-left : length s ≤ end → none ≡ closedBy by well (drop end s)
+  unfolding closedBy
   none-left h = rw (past s end h)
 
-  closes : end < length s → well && eqb (getD s end 0) by ≡ true → some (drop (end + 1) s) ≡ closed by well (drop end s)
-  unfolding closed
+  closes : end < length s → well && eqb (getD s end 0) by ≡ true → some (drop (end + 1) s) ≡ closedBy by well (drop end s)
+  unfolding closedBy
   closes h t = rw (next s end h, t)
 
-  differs : end < length s → well && eqb (getD s end 0) by ≡ false → none ≡ closed by well (drop end s)
-  unfolding closed
+  differs : end < length s → well && eqb (getD s end 0) by ≡ false → none ≡ closedBy by well (drop end s)
+  unfolding closedBy
   differs h t = rw (next s end h, t)
 
 ruleset closing = (none-left, closes, differs, needs)

@@ -10,7 +10,7 @@ use borrow.Author.Needs.{needs}
 use borrow.Author.Tests.{eq-eqb, ne-eqb, ltb-true}
 use Rattle.signature.specs.Signature.{basic, headOf}
 use Rattle.signature.specs.Reader.{HeadAt}
-use Rattle.signature.specs.declared.Head.the-variants.{Plain, Array, Dict, Paren, None}
+use Rattle.signature.specs.declared.FirstCode.the-variants.{Plain, Array, Dict, Paren, None}
 use Rattle.wire.specs.Bytes.{front}
 use Rattle.wire.proofs.From.{next, past, skip}
 use Rattle.wire.proofs.Texts.{both-second}

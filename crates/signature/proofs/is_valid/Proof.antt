@@ -10,8 +10,8 @@ use borrow.Author.Needs.{needs}
 use borrow.Author.Tests.{le-leb, lt-leb, leb-true, leb-false, eq-eqb, ne-eqb}
 use Rattle.signature.specs.Signature.{validSignature}
 use Rattle.signature.specs.Reader.{RowAt}
-use Rattle.signature.specs.declared.Run.{Run}
-use Rattle.signature.specs.declared.Run.the-variants as run
+use Rattle.signature.specs.declared.RowEnd.{RowEnd}
+use Rattle.signature.specs.declared.RowEnd.the-variants as run
 use Rattle.signature.proofs.is_valid.Statement.{statement}
 use Rattle.signature.proofs.is_valid.Tie as tie
 
@@ -23,7 +23,7 @@ none-left n m = go (leb n m) refl
     go true e = e ∙ sym (eq-eqb (n - m) 0 (omega (arith, leb-true n m e)))
     go false e = e ∙ sym (ne-eqb (n - m) 0 (λ z. omega (arith, leb-false n m e)))
 
-module _ {s : List ℕ} {m : Run} (w : RowAt s 0 0 0 m) (h : length s ≤ 255) where
+module _ {s : List ℕ} {m : RowEnd} (w : RowAt s 0 0 0 m) (h : length s ≤ 255) where
   whole : {n end : ℕ} → m ≡ run.Types n end → leb (length s) end ≡ validSignature s
   unfolding validSignature
   whole {n} {end} e = rw (le-leb (length s) 255 h, ← w .is (2 * length s + 1) (omega arith), e, length-drop) (none-left (length s) end)
