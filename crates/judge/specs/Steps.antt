@@ -35,7 +35,7 @@ pub record Spelled (number : ℕ) (r : Text) : Type 0 where
 
 -- the rules' address of each case
 abbrev pub addressOf : Destination → rules.Address
-addressOf Absent = rules.absent
+addressOf Absent = rules.undirected
 addressOf Bus = rules.bus
 addressOf (At j) = rules.slot j
 addressOf Unknown = rules.unknown
