@@ -11,7 +11,7 @@ ghost use Rattle.signature.specs.Signature.{validSignature};
 ghost use Rattle.header.specs.Header.{readHeader, readingAnswer};
 ghost use Rattle.memory.specs.Good.{good};
 ghost use Rattle.memory.specs.Calls.{startOn, ownOn, Did};
-ghost use Rattle.policy.specs.Contracts.{Within};
+ghost use Rattle.decide.specs.Contracts.{Within};
 
 // ---- reading
 
@@ -123,7 +123,7 @@ pub extern "C" fn bench_decide(
     match image::check(image) {
         Outcome::Good => {
             let header = message(kind, places, head);
-            let pass = policy::may_transact(image, direction, Uid(uid), gids, names, head, header);
+            let pass = decide::may_transact(image, direction, Uid(uid), gids, names, head, header);
             pass as u8
         }
         Outcome::Bad => 50,

@@ -12,7 +12,7 @@ use Rattle.header.specs.Codes.{call}
 use Rattle.header.specs.declared.Header.{Header}
 use Rattle.header.proofs.Readings.{Fitting, whole-fits}
 use Rattle.policy.specs.Matching.{messageOf}
-use Rattle.policy.specs.Contracts.{Asked}
+use Rattle.decide.specs.Contracts.{Asked}
 use Rattle.policy.specs.Names.{busName}
 use Rattle.rules.specs.Judge.{refusal, refused, passed, maySend, toBus, isReply, judged}
 use Rattle.rules.specs.declared.Judgement.{Judgement}

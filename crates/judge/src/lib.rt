@@ -15,7 +15,7 @@ use rules::refused;
 ghost use mathlib.Core.Path.{_≡_};
 ghost use Prim.Native.Nat.{_+_, _*_, _≤_, _<_};
 ghost use lib.ListN.{take};
-ghost use Rattle.policy.specs.Contracts.{Asked};
+ghost use Rattle.decide.specs.Contracts.{Asked};
 ghost use Rattle.policy.specs.Decisions.{mayTransact};
 ghost use Rattle.policy.specs.Matching.{messageOf};
 ghost use Rattle.policy.specs.Names.{namesIn};
@@ -49,7 +49,7 @@ fn ask(
     requires { ⌜ (Asked (now image) (now head) header) × (count ≤ 16) ⌝ }
     ensures { λ r. ⌜ r ≡ mayTransact (now (image .entry)) direction uid (take count gids) (namesIn (now (names .entry))) (messageOf (now (head .entry)) header) ⌝ }
 {
-    policy::may_transact(image, direction, uid, &gids[0..count], names, head, header)
+    decide::may_transact(image, direction, uid, &gids[0..count], names, head, header)
 }
 
 // The same, asked of the peer of slot i.

@@ -84,7 +84,7 @@ pub fn connect(image: &[u8], memory: &mut [u8], uid: u32, gids: &[u32]) -> Conne
     if 16 < gids.len() {
         return no_connect(37);
     }
-    if !policy::may_connect(image, Uid(uid), gids) {
+    if !decide::may_connect(image, Uid(uid), gids) {
         return no_connect(36);
     }
     enter(memory, uid, gids)
@@ -167,7 +167,7 @@ fn may_own_as(image: &[u8], uid: Uid, gids: [u32; 16], count: usize, name: &[u8]
     requires { ⌜ (GoodImage (now image)) × (count ≤ 16) ⌝ }
     ensures { λ r. ⌜ r ≡ mayOwn (now (image .entry)) uid (take count gids) (now (name .entry)) ⌝ }
 {
-    policy::may_own(image, uid, &gids[0..count], name)
+    decide::may_own(image, uid, &gids[0..count], name)
 }
 
 // The policy lets the peer of slot i own the name.

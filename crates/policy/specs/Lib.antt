@@ -3,5 +3,4 @@ pub mod Precedence
 pub mod Subjects
 pub mod Matching
 pub mod Decisions
-pub mod Contracts
 pub mod Table

@@ -216,7 +216,7 @@ fn ask_connect(image: &[u8], out: &mut [u8])
         byte(
             out,
             (uid - 5) as usize,
-            bit(policy::may_connect(image, Uid(uid), &gids)),
+            bit(decide::may_connect(image, Uid(uid), &gids)),
         );
         uid += 1;
     }
@@ -232,7 +232,7 @@ fn ask_own(image: &[u8], name: &[u8], at: usize, out: &mut [u8])
         byte(
             out,
             at + (uid - 5) as usize,
-            bit(policy::may_own(image, Uid(uid), &gids, name)),
+            bit(decide::may_own(image, Uid(uid), &gids, name)),
         );
         uid += 1;
     }
@@ -285,7 +285,7 @@ fn may_pass(
     let uid = (5 + choose(seed, at + 4) % 3) as u32;
     let gids = [(5 + choose(seed, at + 5) % 3) as u32, 8];
     let header = message(seed, at);
-    policy::may_transact(image, direction, Uid(uid), &gids, names, head, header)
+    decide::may_transact(image, direction, Uid(uid), &gids, names, head, header)
 }
 
 fn ask_pass(image: &[u8], seed: usize, names: &[u8], head: &[u8; 30], out: &mut [u8])

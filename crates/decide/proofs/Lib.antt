@@ -1,0 +1,5 @@
+mod Subjects
+mod Fits
+mod Section
+mod Decisions
+mod Transactions

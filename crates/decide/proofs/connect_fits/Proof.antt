@@ -1,0 +1,18 @@
+-- `decide::connect_fits` meets its contract.
+use Rattle.decide.proofs.Fits.{fits}
+use Rattle.decide.proofs.connect_fits.Statement.{statement}
+use Rattle.decide.proofs.connect_fits.Tie as tie
+
+pub connect-fits-spec : {M : Type 1} → statement M
+connect-fits-spec =
+    tie.close
+    (tie.spec
+    (λ c. search fits)
+    (λ c. search fits)
+    (λ c. search fits)
+    (λ c. search fits)
+    (λ c κs. search fits)
+    (λ c κs. search fits)
+    (λ c. search fits)
+    (λ c κs. search fits)
+    (λ c. search fits))

@@ -1,0 +1,15 @@
+-- `decide::parts_fit` meets its contract.
+use Rattle.decide.proofs.Fits.{fits}
+use Rattle.decide.proofs.parts_fit.Statement.{statement}
+use Rattle.decide.proofs.parts_fit.Tie as tie
+
+pub parts-fit-spec : {M : Type 1} → statement M
+parts-fit-spec =
+    tie.close
+    (tie.spec
+    (λ c. search fits)
+    (λ c κs. search fits)
+    (λ c κs. search fits)
+    (λ c. search fits)
+    (λ c κs. search fits)
+    (λ c. search fits))

@@ -1,7 +1,0 @@
--- `policy::interface_fits` meets its contract.
-use Rattle.policy.proofs.Fits.{fits}
-use Rattle.policy.proofs.interface_fits.Statement.{statement}
-use Rattle.policy.proofs.interface_fits.Tie as tie
-
-pub interface-fits-spec : {M : Type 1} → statement M
-interface-fits-spec = tie.close (tie.spec (λ c. search fits) (λ c κs. search fits) (λ c. search fits))
