@@ -11,6 +11,7 @@ use memory::PENDING_AT;
 use memory::SLOT_LENGTH;
 use memory::SLOTS_AT;
 use memory::TAKEN_AT;
+use stream::Stream;
 use wire::Order;
 ghost use mathlib.Core.Path.{_≡_};
 ghost use Prim.Native.Nat.{_+_, _*_, _≤_, _<_};
@@ -163,9 +164,10 @@ fn is_stream_good(memory: &[u8], i: usize) -> bool
 {
     let taken = slots::word_at(memory, i, TAKEN_AT) as usize;
     let stored = wire::least(slots::word_at(memory, i, HEAD_AT) as usize, 2048);
+    let s = Stream { taken, stored };
     let from = SLOTS_AT + SLOT_LENGTH * i + FIRST_BYTE;
     let to = from + 2048;
-    stream::is_good(taken, &memory[from..to], stored)
+    s.is_good(&memory[from..to])
 }
 
 // The peer of slot i keeps the rules, beside the slots after it.

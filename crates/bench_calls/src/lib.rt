@@ -49,7 +49,7 @@ pub extern "C" fn bench_signature_valid(bytes: &[u8]) -> bool
 pub extern "C" fn bench_header_read(bytes: &[u8]) -> u8
     ensures { λ r. ⌜ r ≡ readingAnswer (readHeader (now (bytes .entry))) ⌝ }
 {
-    match header::read(bytes) {
+    match reader::read(bytes) {
         Reading::Short => 10,
         Reading::Broken(n) => n,
         Reading::Whole(_) => 0,

@@ -1,8 +1,4 @@
 pub mod Examples
 pub mod Front
+pub mod Walk
 pub mod Readings
-mod Numbers
-mod Elements
-mod Checks
-mod Walk
-mod Whole

@@ -8,7 +8,7 @@ use native.Mathlib.Decide.{decLe}
 use native.Mathlib.Omega.{arith}
 use lib.ListN.{length, take, drop}
 use lib.Seq.{length-take-le, take-all, take-take, take-at}
-use borrow.Author.Tests.{le-ltb}
+use borrow.Author.Tests.{lt-ltb, le-ltb}
 use Rattle.wire.specs.Bytes.{allZero}
 use Rattle.header.specs.declared.Place.{Place}
 use Rattle.header.specs.declared.Header.{Header}
@@ -21,27 +21,42 @@ use Rattle.header.specs.Fields.{Fields, placeOf, noFields, walk, fieldsO
 use Rattle.header.specs.Values.{goodValues}
 use Rattle.header.specs.Required.{hasRequired}
 use Rattle.header.specs.Header.{headerOf, judgedHead, orSeven, readHead, readHeader, readingAnswer}
-use Rattle.header.specs.Reader.{SizedHead, ValuesFit}
+use Rattle.header.specs.Contracts.{SizedHead, ValuesFit}
 use Rattle.header.proofs.Front.{word-in-front, head-front, head-low, fixed-front, fixed-append, Good, fixed-good}
 use Rattle.header.proofs.Walk.{fits-none, walk-fits}
-use Rattle.header.proofs.Whole.{few-bytes, fixed-broken, head-short, head-of}
 
 -- ---- what a reading comes to
 
 pub read-few : (s : List ℕ) → length s < 16 → readHeader s ≡ Short
-read-few s h = sym (few-bytes s h)
+unfolding readHeader
+read-few s h = rw (lt-ltb (length s) 16 h)
 
 module _ (s : List ℕ) (k : 16 ≤ length s) where
   pub read-broken : {n : ℕ} → fixedPart s ≡ fixed.Broken n → readHeader s ≡ Broken n
-  read-broken e = sym (fixed-broken s k (fixedPart s) refl e)
+  unfolding readHeader
+  read-broken e = rw (le-ltb (length s) 16 k, e)
 
   module _ {head message : ℕ} (e : fixedPart s ≡ fixed.Sizes head message) where
     pub read-short : length s < head → readHeader s ≡ Short
-    read-short h = sym (head-short s k (fixedPart s) refl e h)
+    unfolding readHeader
+    read-short h = rw (le-ltb (length s) 16 k, e, lt-ltb (length s) head h)
 
     pub read-whole : head ≤ length s → readHeader s ≡ readHead (take head s)
     unfolding readHeader
     read-whole h = rw (le-ltb (length s) 16 k, e, le-ltb (length s) head h)
+
+-- the bytes that the fixed part says are a head are as long as their array says
+pub head-of : (s : List ℕ) {head message : ℕ} → fixedPart s ≡ fixed.Sizes head message → head ≤ length s → SizedHead (take head s)
+unfolding headLength
+head-of s {head} {message} e h =
+    let g : Good s head message = fixed-good s e in
+    let a : arrayLength s ≤ 2032 = g .array in
+    let m : 16 ≤ head = rw (g .head-is) (omega arith) in
+    let n : arrayLength (take head s) ≡ arrayLength s = word-in-front head s m 12 (omega arith) in
+    record {
+      sized = rw (length-take-le head s h, n) (g .head-is);
+      small = rw (length-take-le head s h, g .head-is) (omega arith);
+    }
 
 -- a fault of the fixed part is the answer of the whole head
 pub fixed-answers : (s : List ℕ) → 16 ≤ length s → 0 < fixedAnswer (fixedPart s) → readingAnswer (readHeader s) ≡ fixedAnswer (fixedPart s)
@@ -166,7 +181,7 @@ module _ (s : List ℕ) (d : Header) (u : readHeader s ≡ Whole d) (k : 16 ≤ 
   unfolding headerOf
   fitting =
       let g : Good s head message = fixed-good s e in
-      let w : SizedHead (take head s) = head-of s k (fixedPart s) refl e l in
+      let w : SizedHead (take head s) = head-of s e l in
       let f = head-whole (take head s) d (sym (read-whole s k e l) ∙ u) in
       let fs : Fields = f .0 in
       let q : d ≡ headerOf (take head s) fs = f .2 in

@@ -1,17 +1,14 @@
--- The walk over the array: where an element stands, and what is left of the walk.
+-- The walk over the array: where an element stands, what a step leaves, and that what was found lies in the head.
 use mathlib.Core.Path.{_≡_, refl, sym, subst, _∙_}
 use mathlib.Core.Bool.{Bool, true, false, cond, not, _&&_}
 use mathlib.Core.List.{List, [], _∷_}
 use mathlib.Core.Option.{Option, none, some}
-use Prim.Native.Nat.{ℕ, zero, suc, _+_, _-_, _*_, _≤_, _<_}
+use Prim.Native.Nat.{ℕ, zero, suc, _+_, _-_, _≤_, _<_}
 use native.Mathlib.Decide.{decLe}
 use native.Mathlib.Omega.{arith}
 use lib.Dec.{leb, ltb, eqb}
 use lib.ListN.{length, take, drop, getD, set, length-set, getD-replicate, List·getD-eq-default}
 use lib.Seq.{getD-set-same, getD-set-other}
-use mir.Syntax.{w64}
-use mir.Val
-use borrow.Author.Needs.{needs}
 use borrow.Author.Tests.{eq-eqb, ne-eqb, eqb-true, eqb-false, ltb-true, leb-true, not-true}
 use Rattle.wire.specs.Bytes.{allZero}
 use Rattle.wire.specs.Words.{wordAt, roundUp8}
@@ -22,8 +19,17 @@ use Rattle.header.specs.declared.Element.{Element}
 use Rattle.header.specs.declared.Element.the-variants.{At, Bad}
 use Rattle.header.specs.Codes.{letterOf}
 use Rattle.header.specs.Fields.{Fields, absent, placeOf, noFields, textIn, valueAt, framed, elementAt, walk}
-use Rattle.header.specs.Reader.{Inside, ValuesFit}
-use Rattle.header.proofs.Elements.{no-letter}
+use Rattle.header.specs.Contracts.{ValuesFit}
+
+-- ---- the letters
+
+other : (code k : ℕ) → 9 < code → k ≤ 9 → eqb code k ≡ false
+other code k h l = ne-eqb code k (λ e. omega arith)
+
+pub no-letter : (code : ℕ) → 9 < code → 0 ≡ letterOf code
+unfolding letterOf
+no-letter code h =
+    rw (other code 1 h (omega arith), other code 2 h (omega arith), other code 3 h (omega arith), other code 4 h (omega arith), other code 5 h (omega arith), other code 6 h (omega arith), other code 7 h (omega arith), other code 8 h (omega arith), other code 9 h (omega arith))
 
 -- ---- where an element stands
 
@@ -109,86 +115,23 @@ element-stands o h end from {c} {a} {l} {s} e = go (allZero (take (roundUp8 from
 -- ---- a step of the walk
 
 module _ (fuel : ℕ) (o : Order) (h : List ℕ) (end from : ℕ) (fs : Fields) where
-  walk-end : from ≡ end → walk (suc fuel) o h end from fs ≡ some fs
+  pub walk-end : from ≡ end → walk (suc fuel) o h end from fs ≡ some fs
   unfolding walk
   walk-end e = rw (walk, eq-eqb from end e)
 
   module _ (n : from ≡ end → ⊥) where
-    walk-bad : elementAt o h end from ≡ Bad → walk (suc fuel) o h end from fs ≡ none
+    pub walk-bad : elementAt o h end from ≡ Bad → walk (suc fuel) o h end from fs ≡ none
     unfolding walk
     walk-bad e = rw (walk, ne-eqb from end n, e)
 
     module _ {c a l s : ℕ} (e : elementAt o h end from ≡ At c a l s) where
-      walk-again : (placeOf fs c .at ≡ 0 → ⊥) → walk (suc fuel) o h end from fs ≡ none
+      pub walk-again : (placeOf fs c .at ≡ 0 → ⊥) → walk (suc fuel) o h end from fs ≡ none
       unfolding walk
       walk-again z = rw (walk, ne-eqb from end n, e, ne-eqb (placeOf fs c .at) 0 z)
 
-      walk-more : placeOf fs c .at ≡ 0 → walk (suc fuel) o h end from fs ≡ walk fuel o h end s (set fs c (record { at = a; len = l }))
+      pub walk-more : placeOf fs c .at ≡ 0 → walk (suc fuel) o h end from fs ≡ walk fuel o h end s (set fs c (record { at = a; len = l }))
       unfolding walk
       walk-more z = rw (walk, ne-eqb from end n, e, eq-eqb (placeOf fs c .at) 0 z)
-
--- ---- the walk's loop: what is to be found is what the rest gives
-
-pub record Walking (o : Order) (h : List ℕ) (end : ℕ) (fs : Fields) (from : ℕ) : Type 0 where
-  pub fuel : ℕ
-  pub enough : end - from < fuel
-  pub inside : Inside h end from
-  pub sized : length fs ≡ 10
-  pub left : walk (end - 16 + 1) o h end 16 noFields ≡ walk fuel o h end from fs
-
-pub walking-begins : {o : Order} {h : List ℕ} {end : ℕ} → Inside h end 16 → Walking o h end noFields 16
-walking-begins {o} {h} {end} i = record { fuel = end - 16 + 1; enough = omega arith; inside = i; sized = refl; left = refl }
-
-module _ {o : Order} {h : List ℕ} {end : ℕ} {fs : Fields} {from : ℕ} (w : Walking o h end fs from) where
-  -- whatever the fuel, a step of the walk says what the whole finds
-  by-step : {x : Option Fields} → ((fuel : ℕ) → walk (suc fuel) o h end from fs ≡ x) → x ≡ walk (end - 16 + 1) o h end 16 noFields
-  by-step {x} step = go (w .fuel) (w .enough) (w .left)
-    where
-      go : (fuel : ℕ) → end - from < fuel → walk (end - 16 + 1) o h end 16 noFields ≡ walk fuel o h end from fs → x ≡ walk (end - 16 + 1) o h end 16 noFields
-      go zero l k = absurd (omega arith)
-      go (suc fuel) l k = sym (k ∙ step fuel)
-
-  pub walking-ends : from ≡ end → some fs ≡ walk (end - 16 + 1) o h end 16 noFields
-  walking-ends e = by-step (λ fuel. walk-end fuel o h end from fs e)
-
-  module _ (n : from ≡ end → ⊥) {r : Element} (p : r ≡ elementAt o h end from) where
-    pub walking-bad : r ≡ Bad → none ≡ walk (end - 16 + 1) o h end 16 noFields
-    walking-bad q = by-step (λ fuel. walk-bad fuel o h end from fs n (sym p ∙ q))
-
-    module _ {c a l s : ℕ} (q : r ≡ At c a l s) where
-      pub stands : Stands end from c a l s
-      stands = element-stands o h end from (sym p ∙ q)
-
-      pub code-inside : c < 10
-      code-inside = stands .known
-
-      pub code-scaled : mir.Val.Fits w64 (c * 16)
-      code-scaled = record { fits = omega (arith, stands) }
-
-      pub walking-falls : end - s < end - from
-      walking-falls = omega (arith, stands)
-
-      pub walking-again : (placeOf fs c .at ≡ 0 → ⊥) → none ≡ walk (end - 16 + 1) o h end 16 noFields
-      walking-again z = by-step (λ fuel. walk-again fuel o h end from fs n (sym p ∙ q) z)
-
-      pub walking-more : placeOf fs c .at ≡ 0 → Walking o h end (set fs c (record { at = a; len = l })) s
-      walking-more z = go (w .fuel) (w .enough) (w .left)
-        where
-          go : (fuel : ℕ) → end - from < fuel → walk (end - 16 + 1) o h end 16 noFields ≡ walk fuel o h end from fs
-              → Walking o h end (set fs c (record { at = a; len = l })) s
-          go zero m k = absurd (omega arith)
-          go (suc fuel) m k =
-              let i : Inside h end from = w .inside in
-              let t : Stands end from c a l s = stands in
-              record {
-                fuel = fuel;
-                enough = omega arith;
-                inside = record { above = omega arith; before = t .ends; padded = i .padded; small = i .small };
-                sized = length-set fs c (record { at = a; len = l }) ∙ w .sized;
-                left = k ∙ walk-more fuel o h end from fs n (sym p ∙ q) z;
-              }
-
-pub ruleset walking = (walking-begins, walking-ends, walking-bad, code-inside, code-scaled, walking-falls, walking-again, walking-more, needs)
 
 -- ---- what a walk has found lies in the head
 

@@ -27,37 +27,34 @@ error = 3
 abbrev pub signal : ℕ
 signal = 4
 
--- a code, the letter of its type, the rule of its value, and the types of message that require it
-abbrev pub FieldRow : Type 0
-FieldRow = ℕ × ℕ × Rule × List ℕ
-
-abbrev pub codeOf : FieldRow → ℕ
-codeOf l = l .0
-
-abbrev pub requiredIn : FieldRow → List ℕ
-requiredIn l = l .3
+-- a header field: its code, the letter of its type, the rule of its value, and the types of message that require it (rule 2.7)
+pub record Field : Type 0 where
+  pub code : ℕ
+  pub letter : ℕ
+  pub rule : Rule
+  pub required : List ℕ
 
 -- path, interface, member, error name, reply serial, destination, sender, signature, descriptors (rule 2.7)
-abbrev pub fieldTable : List FieldRow
+abbrev pub fieldTable : List Field
 fieldTable =
-    (1, byte "o", name Path, call ∷ signal ∷ [])
-    ∷ (2, byte "s", name Interface, signal ∷ [])
-    ∷ (3, byte "s", name Member, call ∷ signal ∷ [])
-    ∷ (4, byte "s", name Interface, error ∷ [])
-    ∷ (5, byte "u", serial, return ∷ error ∷ [])
-    ∷ (6, byte "s", name BusName, [])
-    ∷ (7, byte "s", name BusName, [])
-    ∷ (8, byte "g", signature, [])
-    ∷ (9, byte "u", anyValue, [])
+    record { code = 1; letter = byte "o"; rule = name Path; required = call ∷ signal ∷ [] }
+    ∷ record { code = 2; letter = byte "s"; rule = name Interface; required = signal ∷ [] }
+    ∷ record { code = 3; letter = byte "s"; rule = name Member; required = call ∷ signal ∷ [] }
+    ∷ record { code = 4; letter = byte "s"; rule = name Interface; required = error ∷ [] }
+    ∷ record { code = 5; letter = byte "u"; rule = serial; required = return ∷ error ∷ [] }
+    ∷ record { code = 6; letter = byte "s"; rule = name BusName; required = [] }
+    ∷ record { code = 7; letter = byte "s"; rule = name BusName; required = [] }
+    ∷ record { code = 8; letter = byte "g"; rule = signature; required = [] }
+    ∷ record { code = 9; letter = byte "u"; rule = anyValue; required = [] }
     ∷ []
 
-abbrev pub letterIn : List FieldRow → ℕ → ℕ
+abbrev pub letterIn : List Field → ℕ → ℕ
 letterIn [] code = 0
-letterIn (l ∷ ls) code = cond (eqb code (codeOf l)) (l .1) (letterIn ls code)
+letterIn (f ∷ fs) code = cond (eqb code (f .code)) (f .letter) (letterIn fs code)
 
-abbrev pub ruleIn : List FieldRow → ℕ → Rule
+abbrev pub ruleIn : List Field → ℕ → Rule
 ruleIn [] code = anyValue
-ruleIn (l ∷ ls) code = cond (eqb code (codeOf l)) (l .2) (ruleIn ls code)
+ruleIn (f ∷ fs) code = cond (eqb code (f .code)) (f .rule) (ruleIn fs code)
 
 -- the letter of a code, 0 where no field has the code (rule 2.7)
 unfoldable pub letterOf : ℕ → ℕ

@@ -20,7 +20,7 @@ fn answer(reading: Reading) -> u64 {
 }
 
 fn head(what: &[u8], bytes: &[u8]) {
-    line(what, answer(header::read(bytes)));
+    line(what, answer(reader::read(bytes)));
 }
 
 fn name(form: Form, what: &[u8], text: &[u8]) {

@@ -105,7 +105,7 @@ module _ (m : List ℕ) (f : (j : ℕ) → Fits w8 (getD m j 0)) (i : ℕ) (s : 
       rw (cut-at (slotStart i + firstByte) headRoom m, e, ← p) (ap (λ (h : List ℕ). record { taken = t; head = h }) (take-take n headRoom (drop (slotStart i + firstByte) m) k))
 
   pub closed-at : (t n : ℕ) → t ≡ wordAt Little m (slotStart i + takenAt) → n ≡ wordAt Little m (slotStart i + headAt)
-      → GoodTail (take (slotStart i + firstByte + headRoom - (slotStart i + firstByte)) (drop (slotStart i + firstByte) m)) t n
+      → GoodTail (take (slotStart i + firstByte + headRoom - (slotStart i + firstByte)) (drop (slotStart i + firstByte) m)) (record { taken = t; stored = n })
   closed-at t n p q =
       record {
         inside =

@@ -61,11 +61,13 @@ fn is_closed_at(memory: &[u8], i: usize) -> bool
     requires { ⌜ Seated (now memory) i ⌝ }
     ensures { λ r. ⌜ r ≡ closed (peerAt (now (memory .entry)) i .stream) ⌝ }
 {
-    let taken = slots::word_at(memory, i, TAKEN_AT) as usize;
-    let stored = slots::word_at(memory, i, HEAD_AT) as usize;
+    let s = Stream {
+        taken: slots::word_at(memory, i, TAKEN_AT) as usize,
+        stored: slots::word_at(memory, i, HEAD_AT) as usize,
+    };
     let from = SLOTS_AT + SLOT_LENGTH * i + FIRST_BYTE;
     let to = from + 2048;
-    stream::is_closed(taken, &memory[from..to], stored)
+    s.is_closed(&memory[from..to])
 }
 
 // The message of slot i is consumed: no byte of it is kept. Its head has n bytes, and what is behind them is zero.
@@ -144,7 +146,7 @@ fn fresh_at(image: &[u8], memory: &mut [u8], i: usize, bytes: &[u8]) -> Taken
     requires { ⌜ (GoodImage (now image)) × (Seated (now memory) i) × (peerAt (now memory) i .stream .taken ≡ 0) ⌝ }
     ensures { λ r. ⌜ Did (stored (offeredTo tails (now (image .entry)) (stateOf (now (memory .entry))) i (peerAt (now (memory .entry)) i) (offer tails (peerAt (now (memory .entry)) i .stream) (now (bytes .entry))))) r (now (memory .exit)) ⌝ }
 {
-    match header::read(bytes) {
+    match reader::read(bytes) {
         Reading::Short => piece_at(image, memory, i, bytes),
         Reading::Broken(_) => piece_at(image, memory, i, bytes),
         Reading::Whole(header) => {

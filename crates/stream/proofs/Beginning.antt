@@ -21,11 +21,11 @@ use Rattle.stream.specs.declared.Advance.{Advance}
 use Rattle.stream.specs.Stream.{more, broken, offer}
 use Rattle.stream.specs.Tail.{tails}
 use Rattle.stream.specs.Contracts.{tailIn, Open, Advanced}
-use Rattle.stream.specs.Steps.{Resumed, resumed, Room, Stored, Begun, InHead}
+use Rattle.stream.specs.Steps.{Resumed, resumed, Room, Stored, Started, Begun, InHead}
 use Rattle.stream.proofs.Heads.{Sized, sized, whole-head}
 use Rattle.stream.proofs.Good.{Running, in-head, in-body, more-runs, kept, end-is}
 use Rattle.stream.proofs.Phases.{stored-fixed}
-use Rattle.stream.proofs.Regions.{fits, length-after, padded-after}
+use Rattle.stream.proofs.Regions.{started-length, fits, length-after, padded-after}
 use Rattle.stream.proofs.Gives.{gives, same-offer, open-resumes, plus, moved, used-up, broken-at, in-body-of}
 
 -- ---- `advance`: up to 16 bytes
@@ -46,11 +46,7 @@ module _ {region : List ℕ} {s : Stream} (o : Open region s) where
   begun-open piece l =
       let a : 16 ≤ length (take (s .stored) region) = rw head-is l in
       record {
-        sized = o .sized;
-        padded = o .padded;
-        above = l;
-        stored = o .stored;
-        within = omega arith;
+        started = record { sized = o .sized; padded = o .padded; above = l; stored = o .stored; within = omega arith };
         kept = sym head-is ∙ kept (tailIn region s) (o .good) ∙ ap (min (s .taken)) (end-is (take (s .stored) region) a);
         running = λ i. o .running;
       }
@@ -94,11 +90,14 @@ module _ {region : List ℕ} {s : Stream} (o : Open region s) where
         let b : s .taken + k ≡ 16 = omega (arith, all-kept l) in
         let c : 16 ≤ headLength (take (s .stored + k) after) = head-low (take (s .stored + k) after) in
         record {
-          sized = length-after region (s .stored) 16 piece 0 k after room w;
-          padded = padded-after region (s .stored) 16 piece 0 k after room w (o .padded);
-          above = h;
-          stored = omega arith;
-          within = omega (arith, many);
+          started =
+              record {
+                sized = length-after region (s .stored) 16 piece 0 k after room w;
+                padded = padded-after region (s .stored) 16 piece 0 k after room w (o .padded);
+                above = h;
+                stored = omega arith;
+                within = omega (arith, many);
+              };
           kept = omega arith;
           running = λ i. absurd (omega arith);
         }
@@ -112,42 +111,35 @@ pub ruleset few = (more-fixed, lt-of-le-of-lt, needs)
 -- ---- `after_fixed`: 1 to 6, or the lengths
 
 module _ {region : List ℕ} {s : Stream} {piece : List ℕ} {used : ℕ} (b : Begun region s piece used) where
-  begun-length : length (take (s .stored) region) ≡ s .stored
-  begun-length = length-take-le (s .stored) region (omega (arith, b .stored, b .sized))
+  begun : Started region s piece used
+  begun = b .started
 
   pub long-fixed : 16 ≤ length (take (s .stored - 0) (drop 0 region))
-  long-fixed = rw (sub-zero, begun-length) (b .above)
+  long-fixed = rw (sub-zero, started-length begun) (begun .above)
 
   module _ {f : Fixed} (e : f ≡ fixedPart (take (s .stored - 0) (drop 0 region))) where
     is-fixed : fixedPart (take (s .stored) region) ≡ f
     is-fixed = sym (rw sub-zero at e)
 
     pub broken-fixed : {a : ℕ} → f ≡ fixed.Broken a → Resumed region s piece used (record { stream = s; taken = used; event = Broken a }) region
-    broken-fixed {a} q = broken-at r (b .padded) (b .sized) (b .stored) (b .within) (go (decLt (headLength (take (s .stored) region)) (s .taken)))
+    broken-fixed {a} q = broken-at begun r (go (decLt (headLength (take (s .stored) region)) (s .taken)))
       where
         r : readHeader (take (s .stored) region) ≡ reading.Broken a
-        r = read-broken (take (s .stored) region) (omega (arith, begun-length, b .above)) (is-fixed ∙ q)
+        r = read-broken (take (s .stored) region) (omega (arith, started-length begun, begun .above)) (is-fixed ∙ q)
 
         never : broken a ≡ more → ⊥
         never q = let z : _≡_ {A = ℕ} 0 1 = cc in omega arith
 
         go : Dec (headLength (take (s .stored) region) < s .taken) → s .taken ≤ 134217728
         go (yes d) = absurd (never (rw r at (b .running d)))
-        go (no d) = omega (arith, b .kept, b .stored)
+        go (no d) = omega (arith, b .kept, begun .stored)
 
     pub sizes-fixed : {end message : ℕ} → f ≡ fixed.Sizes end message → InHead region s piece used end message
     sizes-fixed {end} {message} q =
         let k : s .stored ≡ min (s .taken) end = rw (z .is-head) (b .kept) in
         record {
-          sized = b .sized;
-          padded = b .padded;
-          sizes = is-fixed ∙ q;
-          above = b .above;
+          measured = record { started = begun; sizes = is-fixed ∙ q; small = z .small; below = go k (decLt end (s .taken)); few = z .fits };
           kept = k;
-          small = z .small;
-          below = go k (decLt end (s .taken));
-          few = z .fits;
-          within = b .within;
           running = λ i. b .running (rw (← z .is-head) i);
         }
       where
@@ -156,6 +148,6 @@ module _ {region : List ℕ} {s : Stream} {piece : List ℕ} {used : ℕ} (b : B
 
         go : s .stored ≡ min (s .taken) end → Dec (end < s .taken) → s .taken ≤ message
         go k (yes d) =
-            let w = in-body-of (s .taken) (take (s .stored) region) end message (omega (arith, begun-length, b .above)) (is-fixed ∙ q) (omega (arith, begun-length)) (b .running (rw (← z .is-head) d)) in
+            let w = in-body-of (s .taken) (take (s .stored) region) end message (omega (arith, started-length begun, begun .above)) (is-fixed ∙ q) (omega (arith, started-length begun)) (b .running (rw (← z .is-head) d)) in
             omega (arith, w .2)
         go k (no d) = omega (arith, z .inside)

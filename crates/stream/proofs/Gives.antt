@@ -22,11 +22,11 @@ use Rattle.stream.specs.declared.Advance.{Advance}
 use Rattle.stream.specs.Stream.{more, broken, whole, verdictAnswer, Offer, offer}
 use Rattle.stream.specs.Tail.{Tail, judge, tails}
 use Rattle.stream.specs.Contracts.{tailIn, verdictOf, eventAnswer, Gives}
-use Rattle.stream.specs.Steps.{Resumed, bumpBy, continued, resumed, allTaken, Room, Stored}
+use Rattle.stream.specs.Steps.{Resumed, bumpBy, continued, resumed, Started, allTaken, Room, Stored}
 use Rattle.stream.proofs.Heads.{whole-head, not-short}
 use Rattle.stream.proofs.Good.{kept}
 use Rattle.stream.proofs.Phases.{bump-none, continued-more, counted, ended, continued-broken, continued-short}
-use Rattle.stream.proofs.Regions.{fits, head-after}
+use Rattle.stream.proofs.Regions.{started-length, fits, head-after}
 
 -- ---- what an offer comes to
 
@@ -93,15 +93,14 @@ used-up region s piece used l e =
 
 -- ---- a piece's end in the body, and a broken head
 
-pub broken-at : {region : List ℕ} {s : Stream} {piece : List ℕ} {used a : ℕ} → readHeader (take (s .stored) region) ≡ reading.Broken a
-    → region ≡ pad 2048 (take (s .stored) region) → length region ≡ 2048 → s .stored ≤ 2048 → used ≤ length piece → s .taken ≤ 134217728
-    → Resumed region s piece used (record { stream = s; taken = used; event = Broken a }) region
-broken-at {region} {s} {piece} {used} {a} e p l m w f =
+pub broken-at : {region : List ℕ} {s : Stream} {piece : List ℕ} {used a : ℕ} → Started region s piece used → readHeader (take (s .stored) region) ≡ reading.Broken a
+    → s .taken ≤ 134217728 → Resumed region s piece used (record { stream = s; taken = used; event = Broken a }) region
+broken-at {region} {s} {piece} {used} {a} b e f =
     let z : used + 0 ≡ used = add-zero used in
     record {
       gives = gives (length piece) region s used (Broken a)
           (ap (bumpBy used) (continued-broken (s .taken) (take (s .stored) region) (drop used piece) a e) ∙ (λ i. record { verdict = broken a; taken = z i; stream = tailIn region s }))
-          p l m w f;
+          (b .padded) (b .sized) (b .stored) (b .within) f;
     }
 
 -- a whole head says the lengths that its fixed part says
@@ -111,25 +110,22 @@ lengths h x head message e f =
     (cc, cc)
 
 -- the piece ends in the body: all of it is taken
-module _ (region : List ℕ) (s : Stream) (piece : List ℕ) (used : ℕ) (x : Header) (e : readHeader (take (s .stored) region) ≡ reading.Whole x) (k : s .stored ≡ x .head)
-    (l : length region ≡ 2048) (p : region ≡ pad 2048 (take (s .stored) region)) (w : used ≤ length piece) where
-  pub stored-small : s .stored ≤ 2048
-  stored-small = omega (arith, whole-head (take (s .stored) region) e .sizes .small)
+module _ {region : List ℕ} {s : Stream} {piece : List ℕ} {used : ℕ} (b : Started region s piece used) (x : Header) (e : readHeader (take (s .stored) region) ≡ reading.Whole x)
+    (k : s .stored ≡ x .head) where
+  head-length : length (take (s .stored) region) ≡ x .head
+  head-length = started-length b ∙ k
 
-  pub head-length : length (take (s .stored) region) ≡ x .head
-  head-length = length-take-le (s .stored) region (omega (arith, stored-small)) ∙ k
-
-  pub rest : length (drop used piece) ≡ length piece - used
+  rest : length (drop used piece) ≡ length piece - used
   rest = length-drop used piece
 
   pub body-more : s .taken + (length piece - used) < x .head + x .body → Resumed region s piece used (allTaken s piece used (s .stored)) region
   body-more h =
-      let n : used + length (drop used piece) ≡ length piece = omega (arith, rest) in
+      let n : used + length (drop used piece) ≡ length piece = omega (arith, rest, b .within) in
       record {
         gives = gives (length piece) region (record { taken = s .taken + (length piece - used); stored = s .stored }) (length piece) More
             (ap (bumpBy used) (counted (take (s .stored) region) x e head-length (s .taken) (drop used piece) (rw rest h))
             ∙ (λ i. record { verdict = more; taken = n i; stream = record { taken = s .taken + rest i; head = take (s .stored) region } }))
-            p l stored-small (omega arith) (omega (arith, whole-head (take (s .stored) region) e .sizes .fits));
+            (b .padded) (b .sized) (b .stored) (omega arith) (omega (arith, whole-head (take (s .stored) region) e .sizes .fits));
       }
 
   pub body-whole : s .taken ≤ x .head + x .body → x .head + x .body ≤ s .taken + (length piece - used)
@@ -139,7 +135,7 @@ module _ (region : List ℕ) (s : Stream) (piece : List ℕ) (used : ℕ) (x : H
         gives = gives (length piece) region (record { taken = x .head + x .body; stored = s .stored }) (used + (x .head + x .body - s .taken)) (Whole x)
             (ap (bumpBy used) (ended (take (s .stored) region) x e head-length (s .taken) (drop used piece) h (rw rest i))
             ∙ (λ j. record { verdict = whole (take (k j) region) x; taken = used + (x .head + x .body - s .taken); stream = record { taken = x .head + x .body; head = take (s .stored) region } }))
-            p l stored-small (omega arith) (whole-head (take (s .stored) region) e .sizes .fits);
+            (b .padded) (b .sized) (b .stored) (omega (arith, b .within)) (whole-head (take (s .stored) region) e .sizes .fits);
       }
 
 -- an open stream whose head is whole is in the body

@@ -8,7 +8,11 @@ use lib.Seq.{take-at, drop-at, drop-drop, length-take-le}
 use Rattle.wire.specs.Bytes.{pad}
 use Rattle.wire.proofs.Words.{cut-at, put-at}
 use Rattle.wire.proofs.Parts.{drop-zeros, pad-fits}
-use Rattle.stream.specs.Steps.{Room, Stored}
+use Rattle.stream.specs.declared.Stream.{Stream}
+use Rattle.stream.specs.Steps.{Started, Room, Stored}
+
+pub started-length : {region : List ℕ} {s : Stream} {piece : List ℕ} {used : ℕ} → Started region s piece used → length (take (s .stored) region) ≡ s .stored
+started-length {region} {s} b = length-take-le (s .stored) region (omega (arith, b .stored, b .sized))
 
 -- ---- bytes stored
 

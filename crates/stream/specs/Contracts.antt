@@ -20,9 +20,9 @@ abbrev pub tailIn : List ℕ → Stream → Tail
 tailIn region s = tailOf region (s .taken) (s .stored)
 
 -- a good stream, open or closed
-pub record GoodTail (region : List ℕ) (taken stored : ℕ) : Type 0 where
-  pub inside : stored ≤ length region
-  pub good : goodTail (tailOf region taken stored) ≡ true
+pub record GoodTail (region : List ℕ) (s : Stream) : Type 0 where
+  pub inside : s .stored ≤ length region
+  pub good : goodTail (tailIn region s) ≡ true
 
 -- the verdict that an event is, with the head in a region
 abbrev pub verdictOf : List ℕ → Event → Verdict

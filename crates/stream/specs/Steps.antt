@@ -34,27 +34,32 @@ resumed t piece used = bumpBy used (continued t (drop used piece))
 pub record Resumed (region : List ℕ) (s : Stream) (piece : List ℕ) (used : ℕ) (r : Advance) (after : List ℕ) : Type 0 where
   pub gives : Gives (resumed (tailIn region s) piece used) (length piece) r after
 
--- a stream whose fixed part has come, perhaps with the latest byte
-pub record Begun (region : List ℕ) (s : Stream) (piece : List ℕ) (used : ℕ) : Type 0 where
+-- a stream whose fixed part has come, and a piece of which it has the first `used` bytes; the region is zero behind its head
+pub record Started (region : List ℕ) (s : Stream) (piece : List ℕ) (used : ℕ) : Type 0 where
   pub sized : length region ≡ 2048
   pub padded : region ≡ pad 2048 (take (s .stored) region)
   pub above : 16 ≤ s .stored
   pub stored : s .stored ≤ 2048
   pub within : used ≤ length piece
+
+-- the fixed part has come perhaps with the latest byte
+pub record Begun (region : List ℕ) (s : Stream) (piece : List ℕ) (used : ℕ) : Type 0 where
+  pub started : Started region s piece used
   pub kept : s .stored ≡ min (s .taken) (headLength (take (s .stored) region))
   pub running : headLength (take (s .stored) region) < s .taken → judge (tailIn region s) ≡ more
 
--- the same, with the lengths that its fixed part says
-pub record InHead (region : List ℕ) (s : Stream) (piece : List ℕ) (used head message : ℕ) : Type 0 where
-  pub sized : length region ≡ 2048
-  pub padded : region ≡ pad 2048 (take (s .stored) region)
+-- the lengths that the fixed part says
+pub record Measured (region : List ℕ) (s : Stream) (piece : List ℕ) (used head message : ℕ) : Type 0 where
+  pub started : Started region s piece used
   pub sizes : fixedPart (take (s .stored) region) ≡ Sizes head message
-  pub above : 16 ≤ s .stored
-  pub kept : s .stored ≡ min (s .taken) head
   pub small : head ≤ 2048
   pub below : s .taken ≤ message
   pub few : message ≤ 134217728
-  pub within : used ≤ length piece
+
+-- `Begun`, with these lengths
+pub record InHead (region : List ℕ) (s : Stream) (piece : List ℕ) (used head message : ℕ) : Type 0 where
+  pub measured : Measured region s piece used head message
+  pub kept : s .stored ≡ min (s .taken) head
   pub running : head < s .taken → judge (tailIn region s) ≡ more
 
 -- the same in the body
@@ -64,16 +69,9 @@ pub record InBody (region : List ℕ) (s : Stream) (piece : List ℕ) (used head
 
 -- the head has come, perhaps with the latest byte
 pub record AtEnd (region : List ℕ) (s : Stream) (piece : List ℕ) (used head message : ℕ) : Type 0 where
-  pub sized : length region ≡ 2048
-  pub padded : region ≡ pad 2048 (take (s .stored) region)
-  pub sizes : fixedPart (take (s .stored) region) ≡ Sizes head message
-  pub above : 16 ≤ head
+  pub measured : Measured region s piece used head message
   pub kept : s .stored ≡ head
-  pub small : head ≤ 2048
   pub reached : head ≤ s .taken
-  pub below : s .taken ≤ message
-  pub few : message ≤ 134217728
-  pub within : used ≤ length piece
 
 -- all that is left of a piece has been taken, in the body of a message whose head ends at `end`
 abbrev pub allTaken : Stream → List ℕ → ℕ → ℕ → Advance
@@ -96,8 +94,8 @@ pub record Stored (region : List ℕ) (stored limit : ℕ) (piece : List ℕ) (u
 -- ---- a stream in memory
 
 -- the head has come, and just it is kept
-pub record WholeTail (region : List ℕ) (taken stored message : ℕ) : Type 0 where
-  pub inside : stored ≤ length region
-  pub above : 16 ≤ stored
-  pub sizes : fixedPart (take stored region) ≡ Sizes stored message
-  pub reached : stored ≤ taken
+pub record WholeTail (region : List ℕ) (s : Stream) (message : ℕ) : Type 0 where
+  pub inside : s .stored ≤ length region
+  pub above : 16 ≤ s .stored
+  pub sizes : fixedPart (take (s .stored) region) ≡ Sizes (s .stored) message
+  pub reached : s .stored ≤ s .taken

@@ -6,7 +6,7 @@ ghost use mathlib.Core.Path.{_≡_};
 ghost use Prim.Native.Nat.{_≤_};
 ghost use lib.ListN.{length};
 ghost use Rattle.stream.specs.Tail.{goodTail, closed};
-ghost use Rattle.stream.specs.Contracts.{tailOf, GoodTail, Open, Advanced};
+ghost use Rattle.stream.specs.Contracts.{tailIn, GoodTail, Open, Advanced};
 ghost use Rattle.stream.specs.Steps.{WholeTail, Resumed, Room, Stored, Begun, InHead, InBody, AtEnd, allTaken};
 
 // Bytes taken of the unfinished message, and how many of them are its head's.
@@ -72,7 +72,7 @@ impl Stream {
         ensures { λ r. ⌜ Resumed (now (head .entry)) self (now (piece .entry)) used r (now (head .exit)) ⌝ }
     {
         let stored = self.stored;
-        match header::fixed_part(&head[0..stored]) {
+        match reader::fixed_part(&head[0..stored]) {
             Fixed::Broken(answer) => Advance {
                 stream: self,
                 taken: used,
@@ -138,7 +138,7 @@ impl Stream {
         requires { ⌜ AtEnd (now head) self (now piece) used end message ⌝ }
         ensures { λ r. ⌜ Resumed (now (head .entry)) self (now (piece .entry)) used r (now (head .entry)) ⌝ }
     {
-        match header::read(&head[0..end]) {
+        match reader::read(&head[0..end]) {
             Reading::Broken(answer) => Advance {
                 stream: self,
                 taken: used,
@@ -177,60 +177,63 @@ impl Stream {
             event: Event::More,
         }
     }
-}
 
-// A stream in memory is good: unfinished and not broken, or broken at its last byte. The array of fields is read only where the head is whole.
-pub fn is_good(taken: usize, head: &[u8], stored: usize) -> bool
-    requires { ⌜ stored ≤ length (now head) ⌝ }
-    ensures { λ r. ⌜ r ≡ goodTail (tailOf (now (head .entry)) taken stored) ⌝ }
-{
-    if stored < 16 {
-        return taken == stored;
-    }
-    match header::fixed_part(&head[0..stored]) {
-        Fixed::Broken(_) => (taken == 16) & (stored == 16),
-        Fixed::Sizes(end, message) => {
-            if stored < end {
-                return taken == stored;
+    // A stream in memory is good: unfinished and not broken, or broken at its last byte. The array of fields is read only where the head is whole.
+    pub fn is_good(self, head: &[u8]) -> bool
+        requires { ⌜ self .stored ≤ length (now head) ⌝ }
+        ensures { λ r. ⌜ r ≡ goodTail (tailIn (now (head .entry)) self) ⌝ }
+    {
+        let stored = self.stored;
+        if stored < 16 {
+            return self.taken == stored;
+        }
+        match reader::fixed_part(&head[0..stored]) {
+            Fixed::Broken(_) => (self.taken == 16) & (stored == 16),
+            Fixed::Sizes(end, message) => {
+                if stored < end {
+                    return self.taken == stored;
+                }
+                if end < stored {
+                    return false;
+                }
+                if self.taken < end {
+                    return false;
+                }
+                self.is_good_whole(head, message)
             }
-            if end < stored {
-                return false;
-            }
-            if taken < end {
-                return false;
-            }
-            is_good_whole(taken, head, stored, message)
         }
     }
-}
 
-// The head is whole and just it is kept: broken at its last byte, or the body is unfinished.
-fn is_good_whole(taken: usize, head: &[u8], stored: usize, message: usize) -> bool
-    requires { ⌜ WholeTail (now head) taken stored message ⌝ }
-    ensures { λ r. ⌜ r ≡ goodTail (tailOf (now (head .entry)) taken stored) ⌝ }
-{
-    match header::read(&head[0..stored]) {
-        // Never: all of the head is there.
-        Reading::Short => false,
-        Reading::Broken(_) => taken == stored,
-        Reading::Whole(_) => taken < message,
+    // The head is whole and just it is kept: broken at its last byte, or the body is unfinished.
+    fn is_good_whole(self, head: &[u8], message: usize) -> bool
+        requires { ⌜ WholeTail (now head) self message ⌝ }
+        ensures { λ r. ⌜ r ≡ goodTail (tailIn (now (head .entry)) self) ⌝ }
+    {
+        let stored = self.stored;
+        match reader::read(&head[0..stored]) {
+            // Never: all of the head is there.
+            Reading::Short => false,
+            Reading::Broken(_) => self.taken == stored,
+            Reading::Whole(_) => self.taken < message,
+        }
     }
-}
 
-// A good stream is closed: its head is broken. In the body it is not, and the head is not read again.
-pub fn is_closed(taken: usize, head: &[u8], stored: usize) -> bool
-    requires { ⌜ GoodTail (now head) taken stored ⌝ }
-    ensures { λ r. ⌜ r ≡ closed (tailOf (now (head .entry)) taken stored) ⌝ }
-{
-    if stored < 16 {
-        return false;
-    }
-    if stored < taken {
-        return false;
-    }
-    match header::read(&head[0..stored]) {
-        Reading::Short => false,
-        Reading::Broken(_) => true,
-        Reading::Whole(_) => false,
+    // A good stream is closed: its head is broken. In the body it is not, and the head is not read again.
+    pub fn is_closed(self, head: &[u8]) -> bool
+        requires { ⌜ GoodTail (now head) self ⌝ }
+        ensures { λ r. ⌜ r ≡ closed (tailIn (now (head .entry)) self) ⌝ }
+    {
+        let stored = self.stored;
+        if stored < 16 {
+            return false;
+        }
+        if stored < self.taken {
+            return false;
+        }
+        match reader::read(&head[0..stored]) {
+            Reading::Short => false,
+            Reading::Broken(_) => true,
+            Reading::Whole(_) => false,
+        }
     }
 }

@@ -1,7 +1,0 @@
--- `header::order_of` meets its contract.
-use Rattle.header.proofs.Numbers.{numbers}
-use Rattle.header.proofs.order_of.Statement.{statement}
-use Rattle.header.proofs.order_of.Tie as tie
-
-pub order-of-spec : {M : Type 1} → statement M
-order-of-spec = tie.close (tie.spec (λ c. search numbers) (λ c. search numbers) (λ c. search numbers))

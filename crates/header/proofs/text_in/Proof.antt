@@ -1,8 +1,0 @@
--- `header::text_in` meets its contract.
-use Rattle.header.proofs.Elements.{texts}
-use Rattle.header.proofs.text_in.Statement.{statement}
-use Rattle.header.proofs.text_in.Tie as tie
-
-pub text-in-spec : {M : Type 1} → statement M
-text-in-spec =
-    tie.close (tie.spec (λ c. search texts) (λ c. search texts) (λ c. search texts) (λ c. search texts) (λ c. search texts) (λ c. search texts))

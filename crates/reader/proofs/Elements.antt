@@ -1,0 +1,117 @@
+-- One element of the array, way by way.
+use mathlib.Core.Path.{_≡_, refl, _∙_}
+use mathlib.Core.Bool.{Bool, true, false, cond, not, _&&_}
+use mathlib.Core.List.{List, [], _∷_}
+use Prim.Native.Nat.{ℕ, _+_, _-_, _≤_, _<_}
+use native.Mathlib.Omega.{arith}
+use lib.Dec.{eqb}
+use lib.ListN.{take, drop, getD}
+use borrow.Author.Needs.{needs}
+use borrow.Author.Tests.{eq-eqb, ne-eqb, lt-ltb, le-ltb, le-leb, lt-leb, eqb-true, eqb-false, not-true, not-false}
+use Rattle.wire.specs.Bytes.{allZero}
+use Rattle.wire.specs.Words.{wordAt, roundUp8}
+use Rattle.wire.specs.declared.Order.{Order}
+use Rattle.header.specs.declared.Element.{Element}
+use Rattle.header.specs.declared.Element.the-variants.{At, Bad}
+use Rattle.wire.proofs.Below.{below-at}
+use Rattle.header.specs.Codes.{letterOf}
+use Rattle.header.specs.Fixed.{orderOf}
+use Rattle.header.specs.Fields.{textIn, valueAt, framed, elementAt}
+use Rattle.header.proofs.Walk.{no-letter}
+use Rattle.reader.specs.Contracts.{elementIn}
+
+-- the letters of the codes from 0 on, as the code has them
+abbrev letters : List ℕ
+letters = 0 ∷ 111 ∷ 115 ∷ 115 ∷ 115 ∷ 117 ∷ 115 ∷ 115 ∷ 103 ∷ 117 ∷ []
+
+pub a-letter : (code : ℕ) → code ≤ 9 → getD letters code 0 ≡ letterOf code
+unfolding letterOf
+a-letter code h = eqb-true (getD letters code 0) (letterOf code) (below-at (λ i. eqb (getD letters i 0) (letterOf i)) 10 refl code (omega arith))
+
+-- a test of no matter
+idle : (b : Bool) → Bad ≡ cond b Bad Bad
+idle true = refl
+idle false = refl
+
+-- a text and its zero
+module _ (h : List ℕ) (end code at len : ℕ) where
+  pub text-past : end ≤ at + len → Bad ≡ textIn h end code at len
+  unfolding textIn
+  text-past l = rw (le-ltb (at + len) end l)
+
+  module _ (l : at + len < end) where
+    pub text-ends : getD h (at + len) 0 ≡ 0 → At code at len (at + len + 1) ≡ textIn h end code at len
+    unfolding textIn
+    text-ends e = rw (lt-ltb (at + len) end l, eq-eqb (getD h (at + len) 0) 0 e)
+
+    pub text-unended : (getD h (at + len) 0 ≡ 0 → ⊥) → Bad ≡ textIn h end code at len
+    unfolding textIn
+    text-unended e = rw (lt-ltb (at + len) end l, ne-eqb (getD h (at + len) 0) 0 e)
+
+pub ruleset texts = (text-past, text-ends, text-unended, no-letter, a-letter, needs)
+
+-- a value by its letter
+module _ (o : Order) (h : List ℕ) (end code letter at : ℕ) where
+  module _ (g : letter ≡ 103) where
+    pub short-signature : end ≤ at → Bad ≡ valueAt o h end code letter at
+    unfolding valueAt
+    short-signature l = rw (eq-eqb letter 103 g) (text-past h end code (at + 1) (getD h at 0) (omega arith))
+
+    pub a-signature : (n : ℕ) → n ≡ getD h at 0 → {r : Element} → r ≡ textIn h end code (at + 1) n → r ≡ valueAt o h end code letter at
+    unfolding valueAt
+    a-signature n e f = f ∙ rw (eq-eqb letter 103 g, e)
+
+  module _ (g : letter ≡ 103 → ⊥) where
+    pub short-value : end < at + 4 → Bad ≡ valueAt o h end code letter at
+    unfolding valueAt
+    short-value l =
+        rw (ne-eqb letter 103 g, lt-leb (at + 4) end l, ← text-past h end code (at + 4) (wordAt o h at) (omega arith))
+        (idle (eqb letter 117))
+
+    module _ (l : at + 4 ≤ end) where
+      pub a-number : letter ≡ 117 → At code at 4 (at + 4) ≡ valueAt o h end code letter at
+      unfolding valueAt
+      a-number u = rw (ne-eqb letter 103 g, eq-eqb letter 117 u, le-leb (at + 4) end l)
+
+      pub a-text : (letter ≡ 117 → ⊥) → (n : ℕ) → n ≡ wordAt o h at → {r : Element} → r ≡ textIn h end code (at + 4) n
+          → r ≡ valueAt o h end code letter at
+      unfolding valueAt
+      a-text u n e f = f ∙ rw (ne-eqb letter 103 g, ne-eqb letter 117 u, e)
+
+  pub value-past : end < at → Bad ≡ valueAt o h end code letter at
+  value-past l = go (eqb letter 103) refl
+    where
+      go : (b : Bool) → eqb letter 103 ≡ b → Bad ≡ valueAt o h end code letter at
+      go true e = short-signature (eqb-true letter 103 e) (omega arith)
+      go false e = short-value (eqb-false letter 103 e) (omega arith)
+
+pub ruleset values = (short-signature, a-signature, short-value, a-number, a-text, needs)
+
+-- the whole element
+module _ (h : List ℕ) (at : ℕ) where
+  pub a-frame : (c : ℕ) → c ≡ getD h at 0 → (l : ℕ) → l ≡ letterOf c
+      → not (eqb l 0) && eqb (getD h (at + 1) 0) 1 && eqb (getD h (at + 2) 0) l && eqb (getD h (at + 3) 0) 0 ≡ framed h at
+  unfolding framed
+  a-frame c e l f = rw (f, e)
+
+module _ (o : Order) (h : List ℕ) (end from at : ℕ) (e : at ≡ roundUp8 from) where
+  pub element-past : end < at + 4 → Bad ≡ elementAt o h end from
+  unfolding elementAt
+  element-past l =
+      rw (← e, ← value-past o h end (getD h at 0) (letterOf (getD h at 0)) (at + 4) l) (idle (allZero (take (at - from) (drop from h)) && framed h at))
+
+  module _ (z f : Bool) (p : z ≡ allZero (take (at - from) (drop from h))) (q : f ≡ framed h at) where
+    pub element-unframed : not (z && f) ≡ true → Bad ≡ elementAt o h end from
+    unfolding elementAt
+    element-unframed t = rw (← e, ← p, ← q, not-true (z && f) t)
+
+    pub element-framed : not (z && f) ≡ false → (c : ℕ) → c ≡ getD h at 0 → (l : ℕ) → l ≡ letterOf c → {r : Element} → r ≡ valueAt o h end c l (at + 4)
+        → r ≡ elementAt o h end from
+    unfolding elementAt
+    element-framed t c g l k i = i ∙ rw (← e, ← p, ← q, not-false (z && f) t, k, g)
+
+pub ruleset elements = (a-frame, element-past, element-unframed, element-framed, needs)
+
+-- the same in the byte order of h
+pub in-order : (o : Order) (h : List ℕ) (end from : ℕ) → o ≡ orderOf h → {r : Element} → r ≡ elementAt o h end from → r ≡ elementIn h end from
+in-order o h end from e i = i ∙ rw e

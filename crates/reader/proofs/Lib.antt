@@ -1,0 +1,5 @@
+mod Numbers
+mod Elements
+mod Checks
+mod Walking
+mod Whole

@@ -1,0 +1,67 @@
+-- The fixed part, way by way: what the code has tested gives the definition's answer.
+use mathlib.Core.Path.{_≡_, _∙_}
+use mathlib.Core.Bool.{true, false, not}
+use mathlib.Core.List.{List}
+use Prim.Native.Nat.{ℕ, _+_, _≤_, _<_}
+use lib.Dec.{eqb}
+use lib.ListN.{getD}
+use borrow.Author.Needs.{needs}
+use borrow.Author.Tests.{eq-eqb, ne-eqb, lt-ltb, le-ltb}
+use Rattle.wire.specs.Words.{wordAt, roundUp8}
+use Rattle.wire.specs.declared.Order.{Order}
+use Rattle.wire.specs.declared.Order.the-variants.{Little, Big}
+use Rattle.header.specs.declared.Fixed.{Fixed}
+use Rattle.header.specs.declared.Fixed.the-variants.{Broken, Sizes}
+use Rattle.header.specs.Fixed.{orderOf, isOrder, headLength, messageLength, sizesOf, fixedPart}
+
+module _ (s : List ℕ) where
+  pub big : getD s 0 0 ≡ 66 → Big ≡ orderOf s
+  unfolding orderOf
+  big e = rw (eq-eqb (getD s 0 0) 66 e)
+
+  pub little : (getD s 0 0 ≡ 66 → ⊥) → Little ≡ orderOf s
+  unfolding orderOf
+  little e = rw (ne-eqb (getD s 0 0) 66 e)
+
+-- the serial n, the array's length a, the same rounded up q, and the body's length b
+module _ (s : List ℕ) (o : Order) (e : o ≡ orderOf s) (n : ℕ) (f : n ≡ wordAt o s 8) where
+  pub no-serial : n ≡ 0 → Broken 4 ≡ sizesOf s
+  unfolding sizesOf
+  no-serial z = rw (← e, ← f, eq-eqb n 0 z)
+
+  module _ (z : n ≡ 0 → ⊥) (a : ℕ) (g : a ≡ wordAt o s 12) where
+    pub long-array : 2032 < a → Broken 5 ≡ sizesOf s
+    unfolding sizesOf
+    long-array h = rw (← e, ← f, ← g, ne-eqb n 0 z, lt-ltb 2032 a h)
+
+    module _ (h : a ≤ 2032) (q : ℕ) (r : q ≡ roundUp8 a) (b : ℕ) (k : b ≡ wordAt o s 4) where
+      pub long-message : 134217728 < 16 + q + b → Broken 6 ≡ sizesOf s
+      unfolding sizesOf messageLength headLength
+      long-message l =
+          rw (← e, ← f, ← g, ← k, ← r, ne-eqb n 0 z, le-ltb 2032 a h, lt-ltb 134217728 (16 + q + b) l)
+
+      pub both-sizes : 16 + q + b ≤ 134217728 → Sizes (16 + q) (16 + q + b) ≡ sizesOf s
+      unfolding sizesOf messageLength headLength
+      both-sizes l =
+          rw (← e, ← f, ← g, ← k, ← r, ne-eqb n 0 z, le-ltb 2032 a h, le-ltb 134217728 (16 + q + b) l)
+
+module _ (s : List ℕ) where
+  pub no-order : not (isOrder (getD s 0 0)) ≡ true → Broken 1 ≡ fixedPart s
+  unfolding fixedPart
+  no-order t = rw t
+
+  module _ (t : not (isOrder (getD s 0 0)) ≡ false) where
+    pub no-version : not (eqb (getD s 3 0) 1) ≡ true → Broken 2 ≡ fixedPart s
+    unfolding fixedPart
+    no-version u = rw (t, u)
+
+    module _ (u : not (eqb (getD s 3 0) 1) ≡ false) where
+      pub no-kind : getD s 1 0 ≡ 0 → Broken 3 ≡ fixedPart s
+      unfolding fixedPart
+      no-kind e = rw (t, u, eq-eqb (getD s 1 0) 0 e)
+
+      pub then-sizes : (getD s 1 0 ≡ 0 → ⊥) → {r : Fixed} → r ≡ sizesOf s → r ≡ fixedPart s
+      unfolding fixedPart
+      then-sizes e f = f ∙ rw (t, u, ne-eqb (getD s 1 0) 0 e)
+
+pub ruleset numbers = (big, little, no-serial, long-array, long-message, both-sizes, no-order, no-version, no-kind, then-sizes, needs)

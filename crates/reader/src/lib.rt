@@ -1,0 +1,283 @@
+// Reads the head of a D-Bus message: its fixed part, the array of header fields, their values, and the fields that a type requires.
+mod fields;
+mod values;
+
+use header::Element;
+use header::Fixed;
+use header::Header;
+use header::Place;
+use header::Reading;
+use wire::Order;
+ghost use mathlib.Core.Path.{_≡_};
+ghost use Prim.Native.Nat.{_+_, _-_, _≤_, _<_};
+ghost use lib.ListN.{length};
+ghost use Rattle.header.specs.Fixed.{orderOf, sizesOf, fixedPart};
+ghost use Rattle.header.specs.Codes.{letterOf};
+ghost use Rattle.header.specs.Fields.{noFields, textIn, valueAt, framed, elementAt, walk};
+ghost use Rattle.header.specs.Header.{headerOf, judgedHead, readHead, readHeader};
+ghost use Rattle.header.specs.Contracts.{SizedHead};
+ghost use Rattle.reader.specs.Contracts.{Inside, Reads, foundIn};
+
+// Where the value of each code stands, if the array is good.
+pub struct Found {
+    pub good: bool,
+    pub places: [Place; 10],
+}
+
+// The letter of each code's type: none for 0.
+const LETTERS: [u8; 10] = [0, b'o', b's', b's', b's', b'u', b's', b's', b'g', b'u'];
+
+fn order_of(bytes: &[u8]) -> Order
+    requires { ⌜ 16 ≤ length (now bytes) ⌝ }
+    ensures { λ r. ⌜ r ≡ orderOf (now (bytes .entry)) ⌝ }
+{
+    if bytes[0] == b'B' {
+        Order::Big
+    } else {
+        Order::Little
+    }
+}
+
+// 4 to 6, and the lengths.
+fn sizes(bytes: &[u8]) -> Fixed
+    requires { ⌜ 16 ≤ length (now bytes) ⌝ }
+    ensures { λ r. ⌜ r ≡ sizesOf (now (bytes .entry)) ⌝ }
+{
+    let order = order_of(bytes);
+    if wire::u32_at(order, bytes, 8) == 0 {
+        return Fixed::Broken(4);
+    }
+    let array = wire::u32_at(order, bytes, 12) as usize;
+    if 2032 < array {
+        return Fixed::Broken(5);
+    }
+    let head = 16 + wire::round_up_8(array);
+    let message = head + wire::u32_at(order, bytes, 4) as usize;
+    if 134217728 < message {
+        return Fixed::Broken(6);
+    }
+    Fixed::Sizes(head, message)
+}
+
+// The fixed part of a head: 1 to 6 in their order, or the lengths.
+pub fn fixed_part(bytes: &[u8]) -> Fixed
+    requires { ⌜ 16 ≤ length (now bytes) ⌝ }
+    ensures { λ r. ⌜ r ≡ fixedPart (now (bytes .entry)) ⌝ }
+{
+    let first = bytes[0];
+    let kind = bytes[1];
+    let version = bytes[3];
+    if !((first == b'l') | (first == b'B')) {
+        return Fixed::Broken(1);
+    }
+    if !(version == 1) {
+        return Fixed::Broken(2);
+    }
+    if kind == 0 {
+        return Fixed::Broken(3);
+    }
+    sizes(bytes)
+}
+
+// The letter of a code's type, 0 where no field has the code.
+fn letter_of(code: usize) -> u8
+    ensures { λ r. ⌜ r ≡ letterOf code ⌝ }
+{
+    if 9 < code {
+        return 0;
+    }
+    LETTERS[code]
+}
+
+// A text of `len` bytes from `at` on and the zero behind it, if they lie in the array.
+fn text_in(head: &[u8], end: usize, code: usize, at: usize, len: usize) -> Element
+    requires { ⌜ (end ≤ length (now head)) × (at < 4294967296) × (len < 4294967296) ⌝ }
+    ensures { λ r. ⌜ r ≡ textIn (now (head .entry)) end code at len ⌝ }
+{
+    let stop = at + len;
+    if end <= stop {
+        return Element::Bad;
+    }
+    if head[stop] == 0 {
+        return Element::At {
+            code,
+            at,
+            len,
+            stop: stop + 1,
+        };
+    }
+    Element::Bad
+}
+
+// The value at `at`, by its letter.
+fn value_at(order: Order, head: &[u8], end: usize, code: usize, letter: u8, at: usize) -> Element
+    requires { ⌜ (end ≤ length (now head)) × (at ≤ end) × (length (now head) ≤ 2048) ⌝ }
+    ensures { λ r. ⌜ r ≡ valueAt order (now (head .entry)) end code letter at ⌝ }
+{
+    if letter == b'g' {
+        if end <= at {
+            return Element::Bad;
+        }
+        return text_in(head, end, code, at + 1, wire::wide(head[at]) as usize);
+    }
+    if end < at + 4 {
+        return Element::Bad;
+    }
+    if letter == b'u' {
+        return Element::At {
+            code,
+            at,
+            len: 4,
+            stop: at + 4,
+        };
+    }
+    text_in(
+        head,
+        end,
+        code,
+        at + 4,
+        wire::u32_at(order, head, at) as usize,
+    )
+}
+
+// The four bytes in front of a value are its code, 1, the code's letter and zero.
+fn is_framed(head: &[u8], at: usize) -> bool
+    requires { ⌜ at + 4 ≤ length (now head) ⌝ }
+    ensures { λ r. ⌜ r ≡ framed (now (head .entry)) at ⌝ }
+{
+    let letter = letter_of(wire::wide(head[at]) as usize);
+    !(letter == 0) & (head[at + 1] == 1) & (head[at + 2] == letter) & (head[at + 3] == 0)
+}
+
+// The element behind the padding that starts at `from`.
+fn element_at(order: Order, head: &[u8], end: usize, from: usize) -> Element
+    requires { ⌜ Inside (now head) end from ⌝ }
+    ensures { λ r. ⌜ r ≡ elementAt order (now (head .entry)) end from ⌝ }
+{
+    let at = wire::round_up_8(from);
+    if end < at + 4 {
+        return Element::Bad;
+    }
+    if !(wire::is_zero(head, from, at) & is_framed(head, at)) {
+        return Element::Bad;
+    }
+    let code = wire::wide(head[at]) as usize;
+    value_at(order, head, end, code, letter_of(code), at + 4)
+}
+
+// All elements, in one pass.
+fn walk_all(head: &[u8], end: usize) -> Found
+    requires { ⌜ Inside (now head) end 16 ⌝ }
+    ensures { λ r. ⌜ foundIn r ≡ walk (end - 16 + 1) (orderOf (now (head .entry))) (now (head .entry)) end 16 noFields ⌝ }
+{
+    let none = Place { at: 0, len: 0 };
+    let mut places = [none; 10];
+    let mut from = 16;
+    while from != end {
+        match fields::field_at(head, end, from) {
+            Element::Bad => {
+                return Found {
+                    good: false,
+                    places,
+                };
+            }
+            Element::At {
+                code,
+                at,
+                len,
+                stop,
+            } => {
+                let seen = places[code];
+                if seen.at != 0 {
+                    return Found {
+                        good: false,
+                        places,
+                    };
+                }
+                places[code] = Place { at, len };
+                from = stop;
+            }
+        }
+    }
+    Found { good: true, places }
+}
+
+fn header_of(order: Order, head: &[u8], places: [Place; 10]) -> Header
+    requires { ⌜ Reads (now head) order places ⌝ }
+    ensures { λ r. ⌜ r ≡ headerOf (now (head .entry)) places ⌝ }
+{
+    let serial = wire::u32_at(order, head, 8);
+    let body = wire::u32_at(order, head, 4);
+    let reply = places[5];
+    let at = reply.at;
+    let end = at + reply.len;
+    let reply_serial = values::number_in(order, &head[at..end]);
+    let path = places[1];
+    let interface = places[2];
+    let member = places[3];
+    let error_name = places[4];
+    let destination = places[6];
+    Header {
+        kind: head[1],
+        flags: head[2],
+        serial,
+        body,
+        head: head.len(),
+        reply_serial,
+        path,
+        interface,
+        member,
+        error_name,
+        destination,
+    }
+}
+
+// 8, then 9.
+fn judge(order: Order, head: &[u8], places: [Place; 10]) -> Reading
+    requires { ⌜ Reads (now head) order places ⌝ }
+    ensures { λ r. ⌜ r ≡ judgedHead (now (head .entry)) places ⌝ }
+{
+    if !values::are_good(order, head, places) {
+        return Reading::Broken(8);
+    }
+    if !values::has_required(head[1], places) {
+        return Reading::Broken(9);
+    }
+    Reading::Whole(header_of(order, head, places))
+}
+
+// The whole head, and nothing behind it: 7, then 8, then 9.
+fn read_head(head: &[u8]) -> Reading
+    requires { ⌜ SizedHead (now head) ⌝ }
+    ensures { λ r. ⌜ r ≡ readHead (now (head .entry)) ⌝ }
+{
+    let order = order_of(head);
+    let end = 16 + wire::u32_at(order, head, 12) as usize;
+    if !wire::is_zero(head, end, head.len()) {
+        return Reading::Broken(7);
+    }
+    let found = walk_all(head, end);
+    if !found.good {
+        return Reading::Broken(7);
+    }
+    let places = found.places;
+    judge(order, head, places)
+}
+
+// The head in front of any bytes.
+pub fn read(bytes: &[u8]) -> Reading
+    ensures { λ r. ⌜ r ≡ readHeader (now (bytes .entry)) ⌝ }
+{
+    if bytes.len() < 16 {
+        return Reading::Short;
+    }
+    match fixed_part(bytes) {
+        Fixed::Broken(n) => Reading::Broken(n),
+        Fixed::Sizes(head, _) => {
+            if bytes.len() < head {
+                return Reading::Short;
+            }
+            read_head(&bytes[0..head])
+        }
+    }
+}
