@@ -1,19 +1,19 @@
 -- A slot is the bytes of the peer that is read off it exactly where its tables have their shape.
-use mathlib.Core.Path.{_≡_, refl, sym, ap, _∙_}
+use mathlib.Core.Path.{_≡_, refl, sym, ap, ap₂, _∙_}
 use mathlib.Core.Bool.{Bool, true, false, _&&_}
-use mathlib.Core.List.{List, _++_}
+use mathlib.Core.List.{List, _++_, append-assoc}
 use Prim.Native.Nat.{ℕ, _+_, _-_, _*_, _≤_, _<_, min}
 use native.Mathlib.Omega.{arith}
 use native.Mathlib.Decide.{decLe}
 use native.Mathlib.Nat.{add-zero, mul-le-mul-left}
 use lib.Dec.{leb}
-use lib.ListN.{length, take, drop, getD, length-drop}
-use lib.Seq.{drop-drop, length-take-le, take-take}
+use lib.ListN.{length, take, drop, getD, replicate, length-drop}
+use lib.Seq.{drop-drop, length-take-le, take-add, take-take}
 use borrow.Author.Tests.{le-leb, lt-leb, ne-eqb}
 use Rattle.wire.specs.Bytes.{allZero, same, front}
 use Rattle.wire.specs.Words.{wordAt, wordBytes}
 use Rattle.wire.specs.declared.Order.the-variants.{Little}
-use Rattle.wire.proofs.Texts.{same-refl}
+use Rattle.wire.proofs.Texts.{same-refl, zero-append}
 use Rattle.wire.proofs.Words.{word-length, bytes-again}
 use Rattle.tables.specs.Tables.{tableBytes, tableOf, plainCells}
 use Rattle.tables.proofs.Words.{word-part, word-front, bytes-take, bytes-drop, word-cut}
@@ -22,12 +22,12 @@ use Rattle.tables.proofs.Same.{same-zeros, same-split, table-same, plain-always
 use Rattle.policy.specs.Names.{cellOf, nameOf}
 use Rattle.stream.specs.Tail.{Tail}
 use Rattle.rules.specs.State.{Slot, free, peer}
-use Rattle.memory.specs.Layout.{memoryLength, slotLength, slotStart, gidsAt, gidWidth, gidRoom, gidsLength, pendingAt, callWidth, callRoom, pendingLength, namesAt, firstName, nameWidth, nameRoom, namesLength, takenAt, headAt, firstByte, headRoom, streamLength}
-use Rattle.memory.specs.Encoding.{pendingBytes, headBytes, peerBytes, slotBytes, wordOf, pendingOf, slotOf}
+use Rattle.memory.specs.Layout.{memoryLength, slotLength, slotStart, gidsAt, gidWidth, gidRoom, gidsLength, pendingAt, callWidth, callRoom, pendingLength, namesAt, firstName, nameWidth, nameRoom, namesLength, takenAt, headAt, firstByte, headRoom, keptLength, restLength, uidAt, restAt}
+use Rattle.memory.specs.Encoding.{pendingBytes, headBytes, restBytes, peerBytes, slotBytes, wordOf, pendingOf, slotOf}
 use Rattle.memory.specs.Places.{peerFrom}
 use Rattle.memory.proofs.Reading.{slot-take, peer-from}
 use Rattle.memory.proofs.Heads.{single, single-length, head-table, head-of, single-plain}
-use Rattle.memory.proofs.Frame.{pending-length, cell-length}
+use Rattle.memory.proofs.Frame.{pending-length, cell-length, head-length}
 use Rattle.audit.specs.Tests.{tableTest, cellsTest, shapeTest}
 use Rattle.audit.proofs.Shape.{drop-part}
 
@@ -67,31 +67,58 @@ module _ (m : List ℕ) (f : (i : ℕ) → getD m i 0 < 256) where
         ∙ rw d
 
     -- where any cell is plain, the zeros alone are left to test
-    table-plain : ((b : List ℕ) → length b ≡ w → ((i : ℕ) → getD b i 0 < 256) → enc (dec b) ≡ b) → (c : ℕ) → k < 4294967296 → c + (4 + w * k) ≤ length m
-        → same (tableBytes w k enc (tableOf w k dec (drop c m))) (take (4 + w * k) (drop c m)) ≡ tableTest m c w k
+    table-plain : ((b : List ℕ) → length b ≡ w → ((i : ℕ) → getD b i 0 < 256) → enc (dec b) ≡ b) → (c to : ℕ) → to ≡ c + (4 + w * k) → k < 4294967296 → to ≤ length m
+        → same (tableBytes w k enc (tableOf w k dec (drop c m))) (take (4 + w * k) (drop c m)) ≡ tableTest m c w k to
     unfolding tableTest
-    table-plain always c s h = table-cells c s h ∙ go (decLe (wordAt Little m c) k)
+    table-plain always c to e s h = table-cells c s (omega arith) ∙ go (decLe (wordAt Little m c) k)
       where
         go : Dec (wordAt Little m c ≤ k)
             → leb (wordAt Little m c) k && plainCells enc dec w (wordAt Little m c) (take (w * k) (drop (c + 4) m))
-            ≡ leb (wordAt Little m c) k && allZero (take (w * k - w * wordAt Little m c) (drop (c + 4 + w * wordAt Little m c) m))
+            ≡ leb (wordAt Little m c) k && allZero (take (to - (c + 4 + w * wordAt Little m c)) (drop (c + 4 + w * wordAt Little m c) m))
         go (yes b) =
             let n = wordAt Little m c in
             let o : w * n ≤ w * k = mul-le-mul-left w b in
             let l : length (take (w * k) (drop (c + 4) m)) ≡ w * k = length-take-le (w * k) (drop (c + 4) m) (omega (arith, length-drop (c + 4) m)) in
+            let d : to - (c + 4 + w * n) ≡ w * k - w * n = omega arith in
             rw (
               le-leb n k b,
+              d,
               plain-always w enc sized dec always n (take (w * k) (drop (c + 4) m)) (omega arith) (bytes-take (w * k) (drop (c + 4) m) (bytes-drop (c + 4) m f)),
               drop-part (w * n) (w * k) (w * k - w * n) (drop (c + 4) m) (omega arith),
               drop-drop (w * n) (c + 4) m,
             )
         go (no b) = rw (lt-leb (wordAt Little m c) k (omega arith))
 
-pending-again : (b : List ℕ) → length b ≡ 8 → ((i : ℕ) → getD b i 0 < 256) → pendingBytes (pendingOf b) ≡ b
+pending-again : (b : List ℕ) → length b ≡ callWidth → ((i : ℕ) → getD b i 0 < 256) → pendingBytes (pendingOf b) ≡ b
 pending-again b l f =
     let q : length (drop 4 b) ≡ 4 = length-drop 4 b ∙ omega arith in
     let y : wordBytes (wordAt Little b 4) ≡ drop 4 b = rw (← word-front b 4) (bytes-again (drop 4 b) q (bytes-drop 4 b f)) in
     ap (λ (z : List ℕ). wordBytes (wordAt Little b 0) ++ z) y ∙ sym (word-cut b (omega arith) f)
+
+zeros-same : (n : ℕ) (d : List ℕ) → n ≤ length d → same (replicate n 0) (take n d) ≡ allZero (take n d)
+zeros-same n d h = rw (length-take-le n d h) at (same-zeros (take n d))
+
+-- zeros up to b, and on from there
+zeros-join : (m : List ℕ) (a b c : ℕ) → a ≤ b → b ≤ c
+    → allZero (take (b - a) (drop a m)) && allZero (take (c - b) (drop b m)) ≡ allZero (take (c - a) (drop a m))
+zeros-join m a b c h k =
+    let e : c - a ≡ (b - a) + (c - b) = omega arith in
+    let f : a + (b - a) ≡ b = omega arith in
+    rw (e, take-add (b - a) (c - b) (drop a m), drop-drop (b - a) a m, f) (sym (zero-append (take (b - a) (drop a m)) (take (c - b) (drop b m))))
+
+-- zeros behind a table up to t, and on from there
+zeros-on : (m : List ℕ) (c w k t u : ℕ) → c + (4 + w * k) ≤ t → t ≤ u → tableTest m c w k t && allZero (take (u - t) (drop t m)) ≡ tableTest m c w k u
+unfolding tableTest
+zeros-on m c w k t u h o = go (decLe (wordAt Little m c) k)
+  where
+    go : Dec (wordAt Little m c ≤ k)
+        → leb (wordAt Little m c) k && allZero (take (t - (c + 4 + w * wordAt Little m c)) (drop (c + 4 + w * wordAt Little m c) m)) && allZero (take (u - t) (drop t m))
+        ≡ leb (wordAt Little m c) k && allZero (take (u - (c + 4 + w * wordAt Little m c)) (drop (c + 4 + w * wordAt Little m c) m))
+    go (yes b) =
+        let n = wordAt Little m c in
+        let x : w * n ≤ w * k = mul-le-mul-left w b in
+        rw (le-leb n k b) (zeros-join m (c + 4 + w * n) t u (omega arith) o)
+    go (no b) = rw (lt-leb (wordAt Little m c) k (omega arith))
 
 -- ---- a whole slot
 
@@ -101,41 +128,62 @@ module _ (m : List ℕ) (f : (i : ℕ) → getD m i 0 < 256) (a : ℕ) (h : a + 
       let e : a + headAt + 4 ≡ a + firstByte = omega arith in
       sym (head-of (drop (a + headAt) m) (omega (arith, length-drop (a + headAt) m))) ∙ rw (word-front m (a + headAt), drop-drop 4 (a + headAt) m, e)
 
-  head-plain : same (headBytes (take (min (wordAt Little m (a + headAt)) headRoom) (drop (a + firstByte) m))) (take 2052 (drop (a + headAt) m)) ≡ tableTest m (a + headAt) 1 headRoom
+  head-plain : same (headBytes (take (min (wordAt Little m (a + headAt)) headRoom) (drop (a + firstByte) m))) (take keptLength (drop (a + headAt) m))
+      ≡ tableTest m (a + headAt) 1 headRoom (a + restAt)
   head-plain =
-      ap (λ (z : List ℕ). same z (take 2052 (drop (a + headAt) m))) (ap headBytes (sym head-is) ∙ head-table (tableOf 1 headRoom front (drop (a + headAt) m)))
-      ∙ table-plain m f 1 headRoom single single-length front single-plain (a + headAt) (omega arith) (omega arith)
+      ap (λ (z : List ℕ). same z (take keptLength (drop (a + headAt) m))) (ap headBytes (sym head-is) ∙ head-table (tableOf 1 headRoom front (drop (a + headAt) m)))
+      ∙ table-plain m f 1 headRoom single single-length front single-plain (a + headAt) (a + restAt) (omega arith) (omega arith) (omega arith)
+
+  rest-plain : same restBytes (take restLength (drop (a + restAt) m)) ≡ allZero (take (a + slotLength - (a + restAt)) (drop (a + restAt) m))
+  unfolding restBytes
+  rest-plain =
+      let e : a + slotLength - (a + restAt) ≡ restLength = omega arith in
+      rw e (zeros-same restLength (drop (a + restAt) m) (omega (arith, length-drop (a + restAt) m)))
+
+  -- the head and what stands behind it
+  end-plain : same (headBytes (take (min (wordAt Little m (a + headAt)) headRoom) (drop (a + firstByte) m)) ++ restBytes) (take (slotLength - headAt) (drop (a + headAt) m))
+      ≡ tableTest m (a + headAt) 1 headRoom (a + slotLength)
+  end-plain =
+      let t = headBytes (take (min (wordAt Little m (a + headAt)) headRoom) (drop (a + firstByte) m)) in
+      let e : a + headAt + keptLength ≡ a + restAt = omega arith in
+      same-part t restBytes m (a + headAt) keptLength (slotLength - headAt) (head-length _) (omega arith)
+      ∙ ap₂ _&&_ head-plain (ap (λ (b : ℕ). same restBytes (take restLength (drop b m))) e ∙ rest-plain)
+      ∙ zeros-on m (a + headAt) 1 headRoom (a + restAt) (a + slotLength) (omega arith) (omega arith)
 
   pub peer-plain : same (peerBytes (peerFrom m a)) (take slotLength (drop a m))
-      ≡ tableTest m (a + gidsAt) gidWidth gidRoom
-      && (tableTest m (a + pendingAt) callWidth callRoom
-      && ((leb (wordAt Little m (a + namesAt)) 4 && plainCells cellOf nameOf 256 (wordAt Little m (a + namesAt)) (take (nameWidth * nameRoom) (drop (a + firstName) m)))
-      && tableTest m (a + headAt) 1 headRoom))
+      ≡ tableTest m (a + gidsAt) gidWidth gidRoom (a + pendingAt)
+      && (tableTest m (a + pendingAt) callWidth callRoom (a + namesAt)
+      && ((leb (wordAt Little m (a + namesAt)) nameRoom && plainCells cellOf nameOf nameWidth (wordAt Little m (a + namesAt)) (take (nameWidth * nameRoom) (drop (a + firstName) m)))
+      && tableTest m (a + headAt) 1 headRoom (a + slotLength)))
   unfolding peerBytes
   peer-plain =
       let g = tableBytes gidWidth gidRoom wordBytes (tableOf gidWidth gidRoom wordOf (drop (a + gidsAt) m)) in
       let p = tableBytes callWidth callRoom pendingBytes (tableOf callWidth callRoom pendingOf (drop (a + pendingAt) m)) in
       let n = tableBytes nameWidth nameRoom cellOf (tableOf nameWidth nameRoom nameOf (drop (a + namesAt) m)) in
+      let k = wordBytes (wordAt Little m (a + takenAt)) in
       let t = headBytes (take (min (wordAt Little m (a + headAt)) headRoom) (drop (a + firstByte) m)) in
-      let u : a + 4 + 4 ≡ a + gidsAt = omega arith in
+      let s = (k ++ t) ++ restBytes in
+      let u : a + uidAt + 4 ≡ a + gidsAt = omega arith in
       let v : a + gidsAt + gidsLength ≡ a + pendingAt = omega arith in
       let w : a + pendingAt + pendingLength ≡ a + namesAt = omega arith in
       let x : a + namesAt + namesLength ≡ a + takenAt = omega arith in
       let y : a + takenAt + 4 ≡ a + headAt = omega arith in
       let z : a + namesAt + 4 ≡ a + firstName = omega arith in
-      word-same m f (wordBytes (wordAt Little m (a + 4)) ++ (g ++ (p ++ (n ++ (wordBytes (wordAt Little m (a + takenAt)) ++ t))))) a slotLength (omega arith) (omega arith)
-      ∙ word-same m f (g ++ (p ++ (n ++ (wordBytes (wordAt Little m (a + takenAt)) ++ t)))) (a + 4) 3288 (omega arith) (omega arith)
+      word-same m f (wordBytes (wordAt Little m (a + uidAt)) ++ (g ++ (p ++ (n ++ s)))) a slotLength (omega arith) (omega arith)
+      ∙ word-same m f (g ++ (p ++ (n ++ s))) (a + uidAt) (slotLength - uidAt) (omega arith) (omega arith)
       ∙ rw u
-      (same-part g (p ++ (n ++ (wordBytes (wordAt Little m (a + takenAt)) ++ t))) m (a + gidsAt) gidsLength (slotLength - gidsAt) (table-length gidWidth gidRoom wordBytes (tableOf gidWidth gidRoom wordOf (drop (a + gidsAt) m))) (omega arith)
-      ∙ rw (v, table-plain m f gidWidth gidRoom wordBytes word-length wordOf bytes-again (a + gidsAt) (omega arith) (omega arith))
-      (ap (λ (b : Bool). tableTest m (a + gidsAt) gidWidth gidRoom && b)
-      (same-part p (n ++ (wordBytes (wordAt Little m (a + takenAt)) ++ t)) m (a + pendingAt) pendingLength (slotLength - pendingAt) (table-length callWidth callRoom pendingBytes (tableOf callWidth callRoom pendingOf (drop (a + pendingAt) m))) (omega arith)
-      ∙ rw (w, table-plain m f callWidth callRoom pendingBytes pending-length pendingOf pending-again (a + pendingAt) (omega arith) (omega arith))
-      (ap (λ (b : Bool). tableTest m (a + pendingAt) callWidth callRoom && b)
-      (same-part n (wordBytes (wordAt Little m (a + takenAt)) ++ t) m (a + namesAt) namesLength (slotLength - namesAt) (table-length nameWidth nameRoom cellOf (tableOf nameWidth nameRoom nameOf (drop (a + namesAt) m))) (omega arith)
+      (same-part g (p ++ (n ++ s)) m (a + gidsAt) gidsLength (slotLength - gidsAt) (table-length gidWidth gidRoom wordBytes (tableOf gidWidth gidRoom wordOf (drop (a + gidsAt) m))) (omega arith)
+      ∙ rw (v, table-plain m f gidWidth gidRoom wordBytes word-length wordOf bytes-again (a + gidsAt) (a + pendingAt) (omega arith) (omega arith) (omega arith))
+      (ap (λ (b : Bool). tableTest m (a + gidsAt) gidWidth gidRoom (a + pendingAt) && b)
+      (same-part p (n ++ s) m (a + pendingAt) pendingLength (slotLength - pendingAt) (table-length callWidth callRoom pendingBytes (tableOf callWidth callRoom pendingOf (drop (a + pendingAt) m))) (omega arith)
+      ∙ rw (w, table-plain m f callWidth callRoom pendingBytes pending-length pendingOf pending-again (a + pendingAt) (a + namesAt) (omega arith) (omega arith) (omega arith))
+      (ap (λ (b : Bool). tableTest m (a + pendingAt) callWidth callRoom (a + namesAt) && b)
+      (same-part n s m (a + namesAt) namesLength (slotLength - namesAt) (table-length nameWidth nameRoom cellOf (tableOf nameWidth nameRoom nameOf (drop (a + namesAt) m))) (omega arith)
       ∙ rw (x, table-cells m f nameWidth nameRoom cellOf cell-length nameOf (a + namesAt) (omega arith) (omega arith), z)
-      (ap (λ (b : Bool). (leb (wordAt Little m (a + namesAt)) 4 && plainCells cellOf nameOf 256 (wordAt Little m (a + namesAt)) (take (nameWidth * nameRoom) (drop (a + firstName) m))) && b)
-      (word-same m f t (a + takenAt) streamLength (omega arith) (omega arith) ∙ rw y head-plain)))))))
+      (ap (λ (b : Bool). (leb (wordAt Little m (a + namesAt)) nameRoom && plainCells cellOf nameOf nameWidth (wordAt Little m (a + namesAt)) (take (nameWidth * nameRoom) (drop (a + firstName) m))) && b)
+      (ap (λ (l : List ℕ). same l (take (slotLength - takenAt) (drop (a + takenAt) m))) (append-assoc k t restBytes)
+      ∙ word-same m f (t ++ restBytes) (a + takenAt) (slotLength - takenAt) (omega arith) (omega arith)
+      ∙ rw y end-plain)))))))
 
 and-assoc : (a b c d : Bool) → a && (b && (c && d)) ≡ a && b && c && d
 and-assoc true true c d = refl
@@ -152,9 +200,9 @@ slot-plain m f l i h e =
     = slot-take (drop a m) ∙ rw (word-front m a, ne-eqb (wordAt Little m a) 0 e) (ap peer (peer-from m a)) in
     ap (λ (x : Slot Tail). same (slotBytes x) (take slotLength (drop a m))) q
     ∙ peer-plain m f a (omega arith)
-    ∙ and-assoc (tableTest m (a + gidsAt) gidWidth gidRoom) (tableTest m (a + pendingAt) callWidth callRoom)
-    (leb (wordAt Little m (a + namesAt)) 4 && plainCells cellOf nameOf 256 (wordAt Little m (a + namesAt)) (take (nameWidth * nameRoom) (drop (a + firstName) m)))
-    (tableTest m (a + headAt) 1 headRoom)
+    ∙ and-assoc (tableTest m (a + gidsAt) gidWidth gidRoom (a + pendingAt)) (tableTest m (a + pendingAt) callWidth callRoom (a + namesAt))
+    (leb (wordAt Little m (a + namesAt)) nameRoom && plainCells cellOf nameOf nameWidth (wordAt Little m (a + namesAt)) (take (nameWidth * nameRoom) (drop (a + firstName) m)))
+    (tableTest m (a + headAt) 1 headRoom (a + slotLength))
 
 -- a free slot is all zero
 pub free-plain : (m : List ℕ) → length m ≡ memoryLength → (i : ℕ) → i < 16 → wordAt Little m (slotStart i) ≡ 0
@@ -163,5 +211,4 @@ unfolding slotOf slotBytes
 free-plain m l i h e =
     let a = slotStart i in
     let q : slotOf (take slotLength (drop a m)) ≡ free = slot-take (drop a m) ∙ rw (word-front m a, e) in
-    let k : length (take slotLength (drop a m)) ≡ slotLength = length-take-le slotLength (drop a m) (omega (arith, length-drop a m)) in
-    ap (λ (x : Slot Tail). same (slotBytes x) (take slotLength (drop a m))) q ∙ rw k at (same-zeros (take slotLength (drop a m)))
+    ap (λ (x : Slot Tail). same (slotBytes x) (take slotLength (drop a m))) q ∙ zeros-same slotLength (drop a m) (omega (arith, length-drop a m))

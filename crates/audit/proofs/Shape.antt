@@ -19,7 +19,7 @@ use Rattle.wire.proofs.Parts.{drop-take}
 use Rattle.tables.specs.Tables.{plainCells}
 use Rattle.tables.proofs.Same.{same-pad, plain-next, plain-end}
 use Rattle.policy.specs.Names.{cellOf, nameOf}
-use Rattle.memory.specs.Layout.{memoryLength, slotStart, namesAt, firstName, nameWidth, nameRoom, takenAt, headRoom}
+use Rattle.memory.specs.Layout.{memoryLength, slotStart, namesAt, firstName, nameWidth, nameRoom, takenAt, headRoom, nameLimit}
 use Rattle.memory.proofs.Frame.{cell-length}
 use Rattle.slots.proofs.Cells.{cell-front}
 use Rattle.audit.specs.Tests.{plainCell, tableTest, cellsTest}
@@ -36,16 +36,14 @@ pub ruleset scaling = (scale-low, scale-fits, needs)
 
 -- ---- a table
 
-module _ (m : List ℕ) (at w k n : ℕ) (e : n ≡ wordAt Little m at) where
-  pub table-many : k < n → false ≡ tableTest m at w k
+module _ (m : List ℕ) (at w k to n : ℕ) (e : n ≡ wordAt Little m at) where
+  pub table-many : k < n → false ≡ tableTest m at w k to
   unfolding tableTest
   table-many h = rw (← e, lt-leb n k h)
 
-  pub table-zero : n ≤ k → (s t : ℕ) (r : Bool) → s ≡ w * n → t ≡ w * k → r ≡ allZero (take (at + 4 + t - (at + 4 + s)) (drop (at + 4 + s) m)) → r ≡ tableTest m at w k
+  pub table-zero : n ≤ k → (s : ℕ) (r : Bool) → s ≡ w * n → r ≡ allZero (take (to - (at + 4 + s)) (drop (at + 4 + s) m)) → r ≡ tableTest m at w k to
   unfolding tableTest
-  table-zero h s t r p q z =
-      let d : at + 4 + t - (at + 4 + s) ≡ t - s = omega arith in
-      z ∙ rw (← e, le-leb n k h, d, p, q)
+  table-zero h s r p z = z ∙ rw (← e, le-leb n k h, p)
 
 pub ruleset tables = (table-many, table-zero, needs)
 
@@ -54,32 +52,32 @@ pub ruleset tables = (table-many, table-zero, needs)
 pub drop-part : (n k c : ℕ) (l : List ℕ) → c + n ≡ k → drop n (take k l) ≡ take c (drop n l)
 drop-part n k c l e = let f : k ≡ n + c = omega arith in rw f (drop-take n c l)
 
-module _ (m : List ℕ) (a b : ℕ) (e : b ≡ getD m a 0) (s : b < 256) (l : a + 256 ≤ length m) where
-  front-is : front (take 256 (drop a m)) ≡ b
+module _ (m : List ℕ) (a b : ℕ) (e : b ≡ getD m a 0) (s : b < 256) (l : a + nameWidth ≤ length m) where
+  front-is : front (take nameWidth (drop a m)) ≡ b
   front-is = cell-front m a ∙ sym e
 
-  rest : drop 1 (take 256 (drop a m)) ≡ take 255 (drop (a + 1) m)
-  rest = drop-part 1 256 255 (drop a m) (omega arith) ∙ rw (drop-drop 1 a m)
+  rest : drop 1 (take nameWidth (drop a m)) ≡ take nameLimit (drop (a + 1) m)
+  rest = drop-part 1 nameWidth nameLimit (drop a m) (omega arith) ∙ rw (drop-drop 1 a m)
 
-  rest-length : length (take 255 (drop (a + 1) m)) ≡ 255
-  rest-length = length-take-le 255 (drop (a + 1) m) (omega (arith, length-drop (a + 1) m))
+  rest-length : length (take nameLimit (drop (a + 1) m)) ≡ nameLimit
+  rest-length = length-take-le nameLimit (drop (a + 1) m) (omega (arith, length-drop (a + 1) m))
 
-  name-length : length (take b (take 255 (drop (a + 1) m))) ≡ b
-  name-length = length-take-le b (take 255 (drop (a + 1) m)) (omega (arith, rest-length))
+  name-length : length (take b (take nameLimit (drop (a + 1) m))) ≡ b
+  name-length = length-take-le b (take nameLimit (drop (a + 1) m)) (omega (arith, rest-length))
 
-  cell-split : (c : List ℕ) → 1 ≤ length c → same (cellOf (nameOf c)) c ≡ eqb (length (nameOf c)) (front c) && same (pad 255 (nameOf c)) (drop 1 c)
+  cell-split : (c : List ℕ) → 1 ≤ length c → same (cellOf (nameOf c)) c ≡ eqb (length (nameOf c)) (front c) && same (pad nameLimit (nameOf c)) (drop 1 c)
   unfolding cellOf same
   cell-split [] h = absurd (omega arith)
   cell-split (x ∷ c) h = refl
 
-  pub cell-plain : same (cellOf (nameOf (take 256 (drop a m)))) (take 256 (drop a m)) ≡ allZero (take (a + 256 - (a + 1 + b)) (drop (a + 1 + b) m))
+  pub cell-plain : same (cellOf (nameOf (take nameWidth (drop a m)))) (take nameWidth (drop a m)) ≡ allZero (take (a + nameWidth - (a + 1 + b)) (drop (a + 1 + b) m))
   cell-plain =
-      let k : a + 256 - (a + 1 + b) ≡ 255 - b = omega arith in
-      cell-split (take 256 (drop a m)) (rw (length-take 256 (drop a m)) (omega (arith, length-drop a m)))
-      ∙ rw (front-is, rest, name-length, eq-eqb b b refl, same-pad b 255 (take 255 (drop (a + 1) m)) rest-length, k, drop-part b 255 (255 - b) (drop (a + 1) m) (omega arith), drop-drop b (a + 1) m)
+      let k : a + nameWidth - (a + 1 + b) ≡ nameLimit - b = omega arith in
+      cell-split (take nameWidth (drop a m)) (rw (length-take nameWidth (drop a m)) (omega (arith, length-drop a m)))
+      ∙ rw (front-is, rest, name-length, eq-eqb b b refl, same-pad b nameLimit (take nameLimit (drop (a + 1) m)) rest-length, k, drop-part b nameLimit (nameLimit - b) (drop (a + 1) m) (omega arith), drop-drop b (a + 1) m)
 
-pub cell-is : (m : List ℕ) (i j b : ℕ) (r : Bool) → length m ≡ memoryLength → i < 16 → j < 4 → b ≡ getD m (slotStart i + firstName + nameWidth * j) 0 → b < 256
-    → r ≡ allZero (take (slotStart i + firstName + nameWidth * j + 256 - (slotStart i + firstName + nameWidth * j + 1 + b)) (drop (slotStart i + firstName + nameWidth * j + 1 + b) m))
+pub cell-is : (m : List ℕ) (i j b : ℕ) (r : Bool) → length m ≡ memoryLength → i < 16 → j < nameRoom → b ≡ getD m (slotStart i + firstName + nameWidth * j) 0 → b < 256
+    → r ≡ allZero (take (slotStart i + firstName + nameWidth * j + nameWidth - (slotStart i + firstName + nameWidth * j + 1 + b)) (drop (slotStart i + firstName + nameWidth * j + 1 + b) m))
     → r ≡ plainCell m i j
 unfolding plainCell
 cell-is m i j b r l h k e s z = z ∙ sym (cell-plain m (slotStart i + firstName + nameWidth * j) b e s (omega arith))
@@ -92,34 +90,34 @@ abbrev region : List ℕ → ℕ → List ℕ
 region m i = take (nameWidth * nameRoom) (drop (slotStart i + firstName) m)
 
 pub record Celling (m : List ℕ) (i n j : ℕ) : Type 0 where
-  pub few : n ≤ 4
+  pub few : n ≤ nameRoom
   pub inside : j ≤ n
   pub counted : n ≡ wordAt Little m (slotStart i + namesAt)
-  pub left : cellsTest m i ≡ plainCells cellOf nameOf 256 (n - j) (drop (nameWidth * j) (region m i))
+  pub left : cellsTest m i ≡ plainCells cellOf nameOf nameWidth (n - j) (drop (nameWidth * j) (region m i))
 
-pub celling-many : (m : List ℕ) (i n : ℕ) → n ≡ wordAt Little m (slotStart i + namesAt) → 4 < n → false ≡ cellsTest m i
+pub celling-many : (m : List ℕ) (i n : ℕ) → n ≡ wordAt Little m (slotStart i + namesAt) → nameRoom < n → false ≡ cellsTest m i
 unfolding cellsTest
-celling-many m i n e h = rw (← e, lt-leb n 4 h)
+celling-many m i n e h = rw (← e, lt-leb n nameRoom h)
 
-pub celling-begins : {m : List ℕ} {i n : ℕ} → n ≡ wordAt Little m (slotStart i + namesAt) → n ≤ 4 → Celling m i n 0
+pub celling-begins : {m : List ℕ} {i n : ℕ} → n ≡ wordAt Little m (slotStart i + namesAt) → n ≤ nameRoom → Celling m i n 0
 unfolding cellsTest
 celling-begins {m} {i} {n} e h =
     let k : n - 0 ≡ n = omega arith in
-    record { few = h; inside = omega arith; counted = e; left = rw (← e, le-leb n 4 h, k) }
+    record { few = h; inside = omega arith; counted = e; left = rw (← e, le-leb n nameRoom h, k) }
 
 module _ {m : List ℕ} {i n j : ℕ} (l : Celling m i n j) where
   module _ (h : j < n) {r : Bool} (e : r ≡ plainCell m i j) where
-    cell-at : take 256 (drop (nameWidth * j) (region m i)) ≡ take 256 (drop (slotStart i + firstName + nameWidth * j) m)
+    cell-at : take nameWidth (drop (nameWidth * j) (region m i)) ≡ take nameWidth (drop (slotStart i + firstName + nameWidth * j) m)
     cell-at =
-        let f : n ≤ 4 = l .few in
+        let f : n ≤ nameRoom = l .few in
         rw (drop-part (nameWidth * j) (nameWidth * nameRoom) ((nameWidth * nameRoom) - nameWidth * j) (drop (slotStart i + firstName) m) (omega arith), drop-drop (nameWidth * j) (slotStart i + firstName) m)
-        (take-take 256 ((nameWidth * nameRoom) - nameWidth * j) (drop (slotStart i + firstName + nameWidth * j) m) (omega arith))
+        (take-take nameWidth ((nameWidth * nameRoom) - nameWidth * j) (drop (slotStart i + firstName + nameWidth * j) m) (omega arith))
 
-    step : plainCells cellOf nameOf 256 (n - j) (drop (nameWidth * j) (region m i)) ≡ plainCell m i j && plainCells cellOf nameOf 256 (n - (j + 1)) (drop (256 * (j + 1)) (region m i))
+    step : plainCells cellOf nameOf nameWidth (n - j) (drop (nameWidth * j) (region m i)) ≡ plainCell m i j && plainCells cellOf nameOf nameWidth (n - (j + 1)) (drop (nameWidth * (j + 1)) (region m i))
     unfolding plainCell
     step =
-        let k : nameWidth * j + 256 ≡ 256 * (j + 1) = omega arith in
-        plain-next 256 cellOf cell-length nameOf n j (region m i) h ∙ rw (cell-at, k)
+        let k : nameWidth * j + nameWidth ≡ nameWidth * (j + 1) = omega arith in
+        plain-next nameWidth cellOf cell-length nameOf n j (region m i) h ∙ rw (cell-at, k)
 
     pub celling-more : not r ≡ false → Celling m i n (j + 1)
     celling-more t =
@@ -132,12 +130,12 @@ module _ {m : List ℕ} {i n j : ℕ} (l : Celling m i n j) where
       → r ≡ allZero (take (slotStart i + takenAt - (slotStart i + firstName + nameWidth * j)) (drop (slotStart i + firstName + nameWidth * j) m))
       → r ≡ cellsTest m i
   celling-ends h r z =
-      let f : n ≤ 4 = l .few in
+      let f : n ≤ nameRoom = l .few in
       let g : j ≤ n = l .inside in
       let k : slotStart i + takenAt - (slotStart i + firstName + nameWidth * j) ≡ (nameWidth * nameRoom) - nameWidth * j = omega arith in
       z
       ∙ sym (l .left
-      ∙ plain-end 256 cellOf cell-length nameOf n j (region m i) h
+      ∙ plain-end nameWidth cellOf cell-length nameOf n j (region m i) h
       ∙ rw (drop-part (nameWidth * j) (nameWidth * nameRoom) ((nameWidth * nameRoom) - nameWidth * j) (drop (slotStart i + firstName) m) (omega arith), drop-drop (nameWidth * j) (slotStart i + firstName) m, k))
 
 pub ruleset celling = (celling-many, celling-begins, celling-more, celling-stops, celling-ends, needs)

@@ -19,7 +19,7 @@ use Rattle.tables.specs.Tables.{parts}
 use Rattle.tables.proofs.Cells.{parts-length}
 use Rattle.stream.specs.Tail.{goodTail}
 use Rattle.rules.specs.State.{free, peer, isPeer}
-use Rattle.memory.specs.Layout.{memoryLength, slotLength, slotStart, gidsAt, gidWidth, gidRoom, pendingAt, callWidth, callRoom, takenAt, headAt, firstByte, headRoom}
+use Rattle.memory.specs.Layout.{memoryLength, slotLength, slotStart, gidsAt, gidWidth, gidRoom, pendingAt, callWidth, callRoom, takenAt, headAt, firstByte, headRoom, nameRoom, namesAt, slotsAt}
 use Rattle.memory.specs.Encoding.{slotOf, slotBytes, stateOf}
 use Rattle.memory.specs.Good.{goodNames, goodPending, goodPeer, goodSlot, goodSlots, plainSlots, good}
 use Rattle.memory.specs.Places.{numberAt, FoundSlot}
@@ -31,9 +31,10 @@ use Rattle.audit.proofs.Plain.{slot-plain, free-plain}
 
 -- ---- its shape
 
-pub shape-is : (m : List ℕ) (i : ℕ) (a b c d : Bool) → a ≡ tableTest m (slotStart i + gidsAt) gidWidth gidRoom → b ≡ tableTest m (slotStart i + pendingAt) callWidth callRoom
+pub shape-is : (m : List ℕ) (i : ℕ) (a b c d : Bool) → a ≡ tableTest m (slotStart i + gidsAt) gidWidth gidRoom (slotStart i + pendingAt)
+    → b ≡ tableTest m (slotStart i + pendingAt) callWidth callRoom (slotStart i + namesAt)
     → c ≡ cellsTest m i
-    → d ≡ tableTest m (slotStart i + headAt) 1 headRoom
+    → d ≡ tableTest m (slotStart i + headAt) 1 headRoom (slotStart i + slotLength)
     → a && b && c && d ≡ shapeTest m i
 unfolding shapeTest
 shape-is m i a b c d p q r s = rw (p, q, r, s)
@@ -81,9 +82,9 @@ module _ (m : List ℕ) (i n last : ℕ) (e : n ≡ numberAt m i) where
           le-leb n last b,
           found-any (isPeer n) m (i + 1) f g,
           le-ltb f 16 c,
-          le-leb (length (peerAt m i .gids)) 16 (omega (arith, gids-many m (slotStart i))),
-          le-leb (length (peerAt m i .pending)) 16 (omega (arith, pending-many m (slotStart i))),
-          le-leb (length (peerAt m i .names)) 4 (omega (arith, names-many m (slotStart i))),
+          le-leb (length (peerAt m i .gids)) gidRoom (omega (arith, gids-many m (slotStart i))),
+          le-leb (length (peerAt m i .pending)) callRoom (omega (arith, pending-many m (slotStart i))),
+          le-leb (length (peerAt m i .names)) nameRoom (omega (arith, names-many m (slotStart i))),
           x,
           y,
           z,
@@ -129,7 +130,7 @@ pub ruleset slot-tests = (slot-unused, slot-shapeless, slot-good, one-or-more, n
 
 -- what the slots from i on come to
 unfoldable pub leftGood : List ℕ → ℕ → ℕ → Bool
-leftGood m last i = goodSlots (stateOf m .slots) last (drop i (stateOf m .slots)) && plainSlots (drop i (parts slotLength 16 (drop 4 m)))
+leftGood m last i = goodSlots (stateOf m .slots) last (drop i (stateOf m .slots)) && plainSlots (drop i (parts slotLength 16 (drop slotsAt m)))
 
 mix : (a b c d : Bool) → (a && b) && (c && d) ≡ (a && c) && (b && d)
 mix true true c d = refl
@@ -140,11 +141,11 @@ mix false b c d = refl
 left-step : (m : List ℕ) (last i : ℕ) → i < 16 → leftGood m last i ≡ slotTest m i last && leftGood m last (i + 1)
 unfolding leftGood goodSlots plainSlots slotTest
 left-step m last i h =
-    let p = parts slotLength 16 (drop 4 m) in
+    let p = parts slotLength 16 (drop slotsAt m) in
     let b = take slotLength (drop (slotStart i) m) in
     let s : drop i (stateOf m .slots) ≡ slotOf b ∷ drop (i + 1) (stateOf m .slots)
     = drop-cons (stateOf m .slots) i free (rw (sixteen m) h) ∙ rw (slot-at m i h, add-one) in
-    let q : drop i p ≡ b ∷ drop (i + 1) p = drop-cons p i [] (rw (parts-length slotLength 16 (drop 4 m)) h) ∙ rw (slot-part m i h, add-one) in
+    let q : drop i p ≡ b ∷ drop (i + 1) p = drop-cons p i [] (rw (parts-length slotLength 16 (drop slotsAt m)) h) ∙ rw (slot-part m i h, add-one) in
     rw (s, q)
     (mix (goodSlot (stateOf m .slots) last (slotOf b) (drop (i + 1) (stateOf m .slots))) (goodSlots (stateOf m .slots) last (drop (i + 1) (stateOf m .slots)))
     (same (slotBytes (slotOf b)) b) (plainSlots (drop (i + 1) p)))
@@ -176,7 +177,7 @@ module _ {m : List ℕ} {last i : ℕ} (a : Auditing m last i) where
       sym (a .left
       ∙ rw (
         drop-of-length-le (stateOf m .slots) {i = i} (rw (sixteen m) h),
-        drop-of-length-le (parts slotLength 16 (drop 4 m)) {i = i} (rw (parts-length slotLength 16 (drop 4 m)) h),
+        drop-of-length-le (parts slotLength 16 (drop slotsAt m)) {i = i} (rw (parts-length slotLength 16 (drop slotsAt m)) h),
       ))
 
 pub ruleset auditing = (wrong-length, auditing-begins, auditing-more, auditing-stops, auditing-ends, needs)

@@ -40,30 +40,30 @@ callTest m i j =
 
 -- ---- shape: zeros behind what a slot holds (rule 10.5)
 
--- a table at a place has at most k things of w bytes, and zeros behind them
-unfoldable pub tableTest : List ℕ → ℕ → ℕ → ℕ → Bool
-tableTest m at w k =
+-- a table at a place has at most k things of w bytes, and zeros behind them up to a place
+unfoldable pub tableTest : List ℕ → ℕ → ℕ → ℕ → ℕ → Bool
+tableTest m at w k to =
     leb (wordAt Little m at) k
-    && allZero (take (w * k - w * wordAt Little m at) (drop (at + 4 + w * wordAt Little m at) m))
+    && allZero (take (to - (at + 4 + w * wordAt Little m at)) (drop (at + 4 + w * wordAt Little m at) m))
 
 -- behind name j of slot i its cell is zero
 unfoldable pub plainCell : List ℕ → ℕ → ℕ → Bool
 plainCell m i j =
-    let c = take 256 (drop (slotStart i + firstName + nameWidth * j) m) in
+    let c = take nameWidth (drop (slotStart i + firstName + nameWidth * j) m) in
     same (cellOf (nameOf c)) c
 
 -- the names of slot i are at most 4, with zeros behind each and behind the last
 unfoldable pub cellsTest : List ℕ → ℕ → Bool
 cellsTest m i =
-    leb (wordAt Little m (slotStart i + namesAt)) 4
-    && plainCells cellOf nameOf 256 (wordAt Little m (slotStart i + namesAt)) (take (nameWidth * nameRoom) (drop (slotStart i + firstName) m))
+    leb (wordAt Little m (slotStart i + namesAt)) nameRoom
+    && plainCells cellOf nameOf nameWidth (wordAt Little m (slotStart i + namesAt)) (take (nameWidth * nameRoom) (drop (slotStart i + firstName) m))
 
 unfoldable pub shapeTest : List ℕ → ℕ → Bool
 shapeTest m i =
-    tableTest m (slotStart i + gidsAt) gidWidth gidRoom
-    && tableTest m (slotStart i + pendingAt) callWidth callRoom
+    tableTest m (slotStart i + gidsAt) gidWidth gidRoom (slotStart i + pendingAt)
+    && tableTest m (slotStart i + pendingAt) callWidth callRoom (slotStart i + namesAt)
     && cellsTest m i
-    && tableTest m (slotStart i + headAt) 1 headRoom
+    && tableTest m (slotStart i + headAt) 1 headRoom (slotStart i + slotLength)
 
 -- ---- a slot
 

@@ -1,11 +1,18 @@
 // Is a lent memory good? Each slot is tested by itself, beside the slots after it.
+use memory::CALL_ROOM;
+use memory::CALL_WIDTH;
 use memory::FIRST_BYTE;
 use memory::FIRST_CALLEE;
 use memory::FIRST_NAME;
 use memory::FIRST_SERIAL;
+use memory::GID_ROOM;
+use memory::GID_WIDTH;
 use memory::GIDS_AT;
 use memory::HEAD_AT;
+use memory::HEAD_ROOM;
 use memory::MEMORY_LENGTH;
+use memory::NAME_ROOM;
+use memory::NAME_WIDTH;
 use memory::NAMES_AT;
 use memory::PENDING_AT;
 use memory::SLOT_LENGTH;
@@ -16,7 +23,7 @@ use wire::Order;
 ghost use mathlib.Core.Path.{_≡_};
 ghost use Prim.Native.Nat.{_+_, _*_, _≤_, _<_};
 ghost use lib.ListN.{length, drop, getD};
-ghost use Rattle.memory.specs.Layout.{memoryLength, slotStart, firstName, nameWidth, headRoom};
+ghost use Rattle.memory.specs.Layout.{memoryLength, slotStart, callRoom, firstName, nameWidth, nameRoom, headRoom};
 ghost use Rattle.memory.specs.Encoding.{stateOf};
 ghost use Rattle.memory.specs.Good.{goodNames, goodPending, goodPeer, good};
 ghost use Rattle.memory.specs.Places.{numberAt};
@@ -26,10 +33,10 @@ ghost use Rattle.audit.specs.Tests.{nameTest, callTest, plainCell, table
 
 // Name j of slot i is ownable, and stands nowhere else from there on.
 fn is_name_good(memory: &[u8], i: usize, j: usize) -> bool
-    requires { ⌜ (length (now memory) ≡ memoryLength) × (i < 16) × (j < 4) ⌝ }
+    requires { ⌜ (length (now memory) ≡ memoryLength) × (i < 16) × (j < nameRoom) ⌝ }
     ensures { λ r. ⌜ (r ≡ nameTest (now (memory .entry)) i j) × (getD (now (memory .entry)) (slotStart i + firstName + nameWidth * j) 0 < 256) ⌝ }
 {
-    let at = SLOTS_AT + SLOT_LENGTH * i + FIRST_NAME + 256 * j;
+    let at = SLOTS_AT + SLOT_LENGTH * i + FIRST_NAME + NAME_WIDTH * j;
     let from = at + 1;
     let to = from + wire::wide(memory[at]) as usize;
     let name = &memory[from..to];
@@ -60,11 +67,11 @@ fn are_names_good(memory: &[u8], i: usize) -> bool
 
 // Pending call j of slot i has a connected callee and a serial, and stands once from there on.
 fn is_call_good(memory: &[u8], i: usize, j: usize) -> bool
-    requires { ⌜ (length (now memory) ≡ memoryLength) × (i < 16) × (j < length (peerAt (now memory) i .pending)) × (length (peerAt (now memory) i .pending) ≤ 16) ⌝ }
+    requires { ⌜ (length (now memory) ≡ memoryLength) × (i < 16) × (j < length (peerAt (now memory) i .pending)) × (length (peerAt (now memory) i .pending) ≤ callRoom) ⌝ }
     ensures { λ r. ⌜ r ≡ callTest (now (memory .entry)) i j ⌝ }
 {
-    let callee = slots::word_at(memory, i, FIRST_CALLEE + 8 * j);
-    let serial = slots::word_at(memory, i, FIRST_SERIAL + 8 * j);
+    let callee = slots::word_at(memory, i, FIRST_CALLEE + CALL_WIDTH * j);
+    let serial = slots::word_at(memory, i, FIRST_SERIAL + CALL_WIDTH * j);
     if 16 <= slots::find(memory, callee, 0) {
         return false;
     }
@@ -98,28 +105,27 @@ fn scaled(w: usize, n: usize, k: usize) -> usize
     w * n
 }
 
-// The table at a place has at most k things of w bytes, and zeros behind them.
-fn is_table(memory: &[u8], at: usize, w: usize, k: usize) -> bool
-    requires { ⌜ (length (now memory) ≡ memoryLength) × (w * k ≤ headRoom) × (at + 4 + w * k ≤ memoryLength) ⌝ }
-    ensures { λ r. ⌜ r ≡ tableTest (now (memory .entry)) at w k ⌝ }
+// The table at a place has at most k things of w bytes, and zeros behind them up to `to`.
+fn is_table(memory: &[u8], at: usize, w: usize, k: usize, to: usize) -> bool
+    requires { ⌜ (length (now memory) ≡ memoryLength) × (w * k ≤ headRoom) × (at + 4 + w * k ≤ to) × (to ≤ memoryLength) ⌝ }
+    ensures { λ r. ⌜ r ≡ tableTest (now (memory .entry)) at w k to ⌝ }
 {
     let n = wire::u32_at(Order::Little, memory, at) as usize;
     if k < n {
         return false;
     }
     let from = at + 4 + scaled(w, n, k);
-    let to = at + 4 + scaled(w, k, k);
     wire::is_zero(memory, from, to)
 }
 
 // Behind name j of slot i its cell is zero.
 fn is_cell_plain(memory: &[u8], i: usize, j: usize) -> bool
-    requires { ⌜ (length (now memory) ≡ memoryLength) × (i < 16) × (j < 4) ⌝ }
+    requires { ⌜ (length (now memory) ≡ memoryLength) × (i < 16) × (j < nameRoom) ⌝ }
     ensures { λ r. ⌜ r ≡ plainCell (now (memory .entry)) i j ⌝ }
 {
-    let at = SLOTS_AT + SLOT_LENGTH * i + FIRST_NAME + 256 * j;
+    let at = SLOTS_AT + SLOT_LENGTH * i + FIRST_NAME + NAME_WIDTH * j;
     let from = at + 1 + wire::wide(memory[at]) as usize;
-    wire::is_zero(memory, from, at + 256)
+    wire::is_zero(memory, from, at + NAME_WIDTH)
 }
 
 // The names of slot i are at most 4, with zeros behind each and behind the last.
@@ -128,7 +134,7 @@ fn are_cells_plain(memory: &[u8], i: usize) -> bool
     ensures { λ r. ⌜ r ≡ cellsTest (now (memory .entry)) i ⌝ }
 {
     let n = slots::word_at(memory, i, NAMES_AT) as usize;
-    if 4 < n {
+    if NAME_ROOM < n {
         return false;
     }
     let mut j = 0;
@@ -140,7 +146,7 @@ fn are_cells_plain(memory: &[u8], i: usize) -> bool
     }
     wire::is_zero(
         memory,
-        SLOTS_AT + SLOT_LENGTH * i + FIRST_NAME + 256 * j,
+        SLOTS_AT + SLOT_LENGTH * i + FIRST_NAME + NAME_WIDTH * j,
         SLOTS_AT + SLOT_LENGTH * i + TAKEN_AT,
     )
 }
@@ -151,10 +157,16 @@ fn is_shaped(memory: &[u8], i: usize) -> bool
     ensures { λ r. ⌜ r ≡ shapeTest (now (memory .entry)) i ⌝ }
 {
     let at = SLOTS_AT + SLOT_LENGTH * i;
-    is_table(memory, at + GIDS_AT, 4, 16)
-        & is_table(memory, at + PENDING_AT, 8, 16)
+    is_table(memory, at + GIDS_AT, GID_WIDTH, GID_ROOM, at + PENDING_AT)
+        & is_table(
+            memory,
+            at + PENDING_AT,
+            CALL_WIDTH,
+            CALL_ROOM,
+            at + NAMES_AT,
+        )
         & are_cells_plain(memory, i)
-        & is_table(memory, at + HEAD_AT, 1, 2048)
+        & is_table(memory, at + HEAD_AT, 1, HEAD_ROOM, at + SLOT_LENGTH)
 }
 
 // The stream of slot i is good.
@@ -163,10 +175,10 @@ fn is_stream_good(memory: &[u8], i: usize) -> bool
     ensures { λ r. ⌜ r ≡ goodTail (peerAt (now (memory .entry)) i .stream) ⌝ }
 {
     let taken = slots::word_at(memory, i, TAKEN_AT) as usize;
-    let stored = wire::least(slots::word_at(memory, i, HEAD_AT) as usize, 2048);
+    let stored = wire::least(slots::word_at(memory, i, HEAD_AT) as usize, HEAD_ROOM);
     let s = Stream { taken, stored };
     let from = SLOTS_AT + SLOT_LENGTH * i + FIRST_BYTE;
-    let to = from + 2048;
+    let to = from + HEAD_ROOM;
     s.is_good(&memory[from..to])
 }
 

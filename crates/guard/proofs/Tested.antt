@@ -16,6 +16,7 @@ use Rattle.image.proofs.Holds.{image-holds}
 use Rattle.rules.specs.Calls.{noConnect, noPiece}
 use Rattle.rules.specs.declared.Connected.{Connected}
 use Rattle.rules.specs.declared.Taken.{Taken}
+use Rattle.memory.specs.Layout.{memoryLength}
 use Rattle.memory.specs.Good.{good}
 use Rattle.memory.specs.Sound.{Held}
 use Rattle.memory.specs.Calls.{MemoryStep, unchanged, startOn, Did}
@@ -82,13 +83,13 @@ module _ (image : List ℕ) (a : ℕ) (e : a ≡ imageAnswer image) where
 
 -- ---- start
 
-pub start-refused : (m : List ℕ) → (length m ≡ 52676 → ⊥) → Did (startOn m) 51 m
+pub start-refused : (m : List ℕ) → (length m ≡ memoryLength → ⊥) → Did (startOn m) 51 m
 unfolding startOn
-start-refused m e = rw (ne-eqb (length m) 52676 e) (record { result = refl; memory = refl })
+start-refused m e = rw (ne-eqb (length m) memoryLength e) (record { result = refl; memory = refl })
 
-pub start-done : (m z : List ℕ) → length m ≡ 52676 → z ≡ replicate (length m) 0 → Did (startOn m) 0 z
+pub start-done : (m z : List ℕ) → length m ≡ memoryLength → z ≡ replicate (length m) 0 → Did (startOn m) 0 z
 unfolding startOn
-start-done m z e q = rw (eq-eqb (length m) 52676 e) (record { result = refl; memory = q ∙ rw (e, empty-bytes) })
+start-done m z e q = rw (eq-eqb (length m) memoryLength e) (record { result = refl; memory = q ∙ rw (e, empty-bytes) })
 
 pub ruleset starting = (start-refused, start-done, needs)
 

@@ -20,7 +20,7 @@ use Rattle.judge.specs.Steps.{Began, CallRemoved}
 
 -- ---- one more
 
-pub call-began : (m m₁ m₂ m₃ : List ℕ) (i n callee serial : ℕ) → Seated m i → n ≡ length (peerAt m i .pending) → n < 16 → ((j : ℕ) → Fits w8 (getD m j 0))
+pub call-began : (m m₁ m₂ m₃ : List ℕ) (i n callee serial : ℕ) → Seated m i → n ≡ length (peerAt m i .pending) → n < callRoom → ((j : ℕ) → Fits w8 (getD m j 0))
     → m₁ ≡ take (slotStart i + firstCallee + callWidth * n) m ++ (wordBytes callee ++ drop (slotStart i + firstCallee + callWidth * n + 4) m)
     → m₂ ≡ take (slotStart i + firstCallee + callWidth * n + 4) m₁ ++ (wordBytes serial ++ drop (slotStart i + firstCallee + callWidth * n + 4 + 4) m₁)
     → m₃ ≡ take (slotStart i + pendingAt) m₂ ++ (wordBytes (n + 1) ++ drop (slotStart i + pendingAt + 4) m₂)
@@ -29,7 +29,7 @@ call-began m m₁ m₂ m₃ i n callee serial p q l b e₁ e₂ e₃ =
     let c : ℕ = slotStart i + firstCallee + callWidth * n in
     let s : length m ≡ memoryLength = p .sized in
     let o : i < 16 = p .below in
-    let e : m₂ ≡ take c m ++ ((wordBytes callee ++ wordBytes serial) ++ drop (c + 8) m)
+    let e : m₂ ≡ take c m ++ ((wordBytes callee ++ wordBytes serial) ++ drop (c + callWidth) m)
     = e₂
     ∙ ap (λ (z : List ℕ). take (c + 4) z ++ (wordBytes serial ++ drop (c + 4 + 4) z)) e₁
     ∙ put-joined m (wordBytes callee) (wordBytes serial) c 4 4 (omega arith) (word-length callee) in
@@ -43,14 +43,14 @@ pub ruleset beginning = (call-began, needs)
 -- ---- one less
 
 -- call k stands in the cells
-pub call-cell : (m : List ℕ) (i n k : ℕ) → Seated m i → n ≤ 16 → k < n
-    → Cell (take (slotStart i + pendingAt + pendingLength - (slotStart i + pendingAt)) (drop (slotStart i + pendingAt) m)) (4 + callWidth * k) 8 (4 + callWidth * n)
+pub call-cell : (m : List ℕ) (i n k : ℕ) → Seated m i → n ≤ callRoom → k < n
+    → Cell (take (slotStart i + pendingAt + pendingLength - (slotStart i + pendingAt)) (drop (slotStart i + pendingAt) m)) (4 + callWidth * k) callWidth (4 + callWidth * n)
 call-cell m i n k p f l = part-cell callWidth callRoom k n m (slotStart i + pendingAt) (omega (arith, p .sized, p .below)) f l
 
-pub call-ended : (m t : List ℕ) (i n k : ℕ) → Seated m i → n ≡ length (peerAt m i .pending) → n ≤ 16 → k < n → ((j : ℕ) → Fits w8 (getD m j 0))
+pub call-ended : (m t : List ℕ) (i n k : ℕ) → Seated m i → n ≡ length (peerAt m i .pending) → n ≤ callRoom → k < n → ((j : ℕ) → Fits w8 (getD m j 0))
     → t
     ≡ wordBytes (n - 1)
-    ++ cutOut 8 (callWidth * n) (callWidth * k) (drop 4 (take (slotStart i + pendingAt + pendingLength - (slotStart i + pendingAt)) (drop (slotStart i + pendingAt) m)))
+    ++ cutOut callWidth (callWidth * n) (callWidth * k) (drop 4 (take (slotStart i + pendingAt + pendingLength - (slotStart i + pendingAt)) (drop (slotStart i + pendingAt) m)))
     → CallRemoved m i k
     (take (slotStart i + pendingAt) m ++ (t ++ drop (slotStart i + pendingAt + pendingLength - (slotStart i + pendingAt)) (drop (slotStart i + pendingAt) m)))
 call-ended m t i n k p e f l b et =

@@ -22,7 +22,7 @@ use Rattle.policy.proofs.Cells.{bus-names}
 use Rattle.rules.specs.Judge.{refusal}
 use Rattle.rules.specs.declared.Judgement.{Judgement}
 use Rattle.rules.specs.declared.Receiver.the-variants as to
-use Rattle.memory.specs.Layout.{memoryLength, slotStart, firstName, nameWidth}
+use Rattle.memory.specs.Layout.{memoryLength, slotStart, firstName, nameWidth, uidAt}
 use Rattle.memory.specs.Places.{numberAt}
 use Rattle.memory.proofs.Reading.{slot-free, slot-peer}
 use Rattle.memory.proofs.Held.{held-counted}
@@ -38,7 +38,7 @@ ask-is image direction uid gids count names x r e = e ∙ rw (sub-zero count)
 pub ruleset asking = (ask-is, needs)
 
 pub asks-peer : (image : List ℕ) (direction : ℕ) (m : List ℕ) (i : ℕ) (names head : List ℕ) (x : Header) {u : ℕ} {g : Gids}
-    → u ≡ wordAt Little m (slotStart i + 4) → GidsOf m i g
+    → u ≡ wordAt Little m (slotStart i + uidAt) → GidsOf m i g
     → {r : Bool} → r ≡ mayTransact image direction (record { 0 = u }) (take (g .count) (g .list)) (namesIn names) (messageOf head x)
     → Asks image direction m i names head x r
 asks-peer image direction m i names head x e g q = record { is = q ∙ rw (e, g .are) }
@@ -60,7 +60,7 @@ says-is image direction m s o head x p b {n} e t a =
     record { is = a .is ∙ rw (t, cut-at (slotStart o + firstName) (nameWidth * n) m, q) }
 
 -- the cells' length, whichever factor comes first
-pub cells-end : (a n : ℕ) → a + n * 256 ≡ a + nameWidth * n
+pub cells-end : (a n : ℕ) → a + n * nameWidth ≡ a + nameWidth * n
 cells-end a n = omega arith
 
 pub ruleset saying = (says-is, cells-end, needs)

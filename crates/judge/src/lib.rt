@@ -5,6 +5,8 @@ mod pending;
 use address::Destination;
 use header::Header;
 use memory::FIRST_NAME;
+use memory::GID_ROOM;
+use memory::NAME_WIDTH;
 use memory::SLOT_LENGTH;
 use memory::SLOTS_AT;
 use memory::UID_AT;
@@ -20,6 +22,7 @@ ghost use Rattle.policy.specs.Decisions.{mayTransact};
 ghost use Rattle.policy.specs.Matching.{messageOf};
 ghost use Rattle.policy.specs.Names.{namesIn};
 ghost use Rattle.rules.specs.Judge.{bit};
+ghost use Rattle.memory.specs.Layout.{gidRoom};
 ghost use Rattle.slots.specs.Slots.{At, Seated};
 ghost use Rattle.judge.specs.Judging.{JudgedMessage, Judges};
 ghost use Rattle.judge.specs.Steps.{Stands, Asks, Says, ToBus, Reaches, ToAll, Waits, Delivers, PolicyAnswer, ToPeer, RepliesTo, Replies, Directs};
@@ -40,13 +43,13 @@ fn ask(
     image: &[u8],
     direction: u8,
     uid: Uid,
-    gids: [u32; 16],
+    gids: [u32; GID_ROOM],
     count: usize,
     names: &[u8],
     head: &[u8],
     header: Header,
 ) -> bool
-    requires { ⌜ (Asked (now image) (now head) header) × (count ≤ 16) ⌝ }
+    requires { ⌜ (Asked (now image) (now head) header) × (count ≤ gidRoom) ⌝ }
     ensures { λ r. ⌜ r ≡ mayTransact (now (image .entry)) direction uid (take count gids) (namesIn (now (names .entry))) (messageOf (now (head .entry)) header) ⌝ }
 {
     decide::may_transact(image, direction, uid, &gids[0..count], names, head, header)
@@ -87,7 +90,7 @@ fn may(
 {
     let names = slots::count_names(memory, other);
     let from = SLOTS_AT + SLOT_LENGTH * other + FIRST_NAME;
-    let to = from + 256 * names;
+    let to = from + NAME_WIDTH * names;
     ask_peer(
         image,
         direction,

@@ -6,11 +6,11 @@ use lib.Dec.{eqb}
 use Rattle.wire.specs.Lists.{agrees}
 use Rattle.wire.specs.Words.{wordAt, wordBytes}
 use Rattle.image.specs.Good.{goodHeader, goodImage, outcomeOf, imageAnswer}
-use Rattle.memory.specs.Encoding.{peerBytes, peerOf}
+use Rattle.memory.specs.Encoding.{restBytes, peerBytes, peerOf}
 use Rattle.memory.specs.Good.{good}
 use Rattle.memory.specs.Calls.{startOn, connectOn, ownOn, releaseOn, pieceOn, disconnectOn}
 use Rattle.memory.specs.Bench.{memoryTable}
 
 pub table-agrees : agrees (λ (given : ℕ). given) eqb memoryTable ≡ true
-unfolding wordAt wordBytes goodHeader goodImage outcomeOf imageAnswer peerBytes peerOf good startOn connectOn ownOn releaseOn pieceOn disconnectOn
+unfolding wordAt wordBytes goodHeader goodImage outcomeOf imageAnswer restBytes peerBytes peerOf good startOn connectOn ownOn releaseOn pieceOn disconnectOn
 table-agrees = refl

@@ -24,17 +24,17 @@ use Rattle.memory.proofs.Removal.{Leaving, leaving-begins, leaving-out,
 
 -- what is read off bytes is given back by its own bytes
 parts-back : (n : ℕ) (d : List ℕ) → ((i : ℕ) → getD d i 0 < 256)
-    → map pendingOf (map pendingBytes (map pendingOf (parts 8 n d))) ≡ map pendingOf (parts 8 n d)
+    → map pendingOf (map pendingBytes (map pendingOf (parts callWidth n d))) ≡ map pendingOf (parts callWidth n d)
 unfolding parts
 parts-back zero d b = refl
 parts-back (suc n) d b =
-    let f : (i : ℕ) → getD (take 8 d) i 0 < 256 = bytes-take 8 d b in
-    ap₂ _∷_ (pending-back (pendingOf (take 8 d)) (word-fits (take 8 d) 0 f) (word-fits (take 8 d) 4 f)) (parts-back n (drop 8 d) (bytes-drop 8 d b))
+    let f : (i : ℕ) → getD (take callWidth d) i 0 < 256 = bytes-take callWidth d b in
+    ap₂ _∷_ (pending-back (pendingOf (take callWidth d)) (word-fits (take callWidth d) 0 f) (word-fits (take callWidth d) 4 f)) (parts-back n (drop callWidth d) (bytes-drop callWidth d b))
 
 table-back : (t : List ℕ) → ((i : ℕ) → getD t i 0 < 256)
     → map pendingOf (map pendingBytes (tableOf callWidth callRoom pendingOf t)) ≡ tableOf callWidth callRoom pendingOf t
 unfolding tableOf
-table-back t b = parts-back (min (wordAt Little t 0) 16) (drop 4 t) (bytes-drop 4 t b)
+table-back t b = parts-back (min (wordAt Little t 0) callRoom) (drop 4 t) (bytes-drop 4 t b)
 
 -- t is the table of `calls`, n of them; those before j stay, and those from j on are still to be looked at
 pub record Ending (c : ℕ) (ws₀ : List Pending) (t : List ℕ) (n j : ℕ) : Type 0 where
@@ -43,7 +43,7 @@ pub record Ending (c : ℕ) (ws₀ : List Pending) (t : List ℕ) (n j : ℕ) : 
   pub is : t ≡ tableBytes callWidth callRoom pendingBytes calls
   pub sized : length t ≡ pendingLength
   pub count : n ≡ length calls
-  pub few : n ≤ 16
+  pub few : n ≤ callRoom
   pub below : j ≤ n
   pub left : Leaving c ws₀ calls j
 
@@ -51,7 +51,7 @@ pub ending-begins : (c : ℕ) (t : List ℕ) (n : ℕ) → length t ≡ pendingL
     → t ≡ tableBytes callWidth callRoom pendingBytes (tableOf callWidth callRoom pendingOf t) → n ≡ wordAt Little t 0 → Ending c (tableOf callWidth callRoom pendingOf t) t n 0
 ending-begins c t n l b e en =
     let ws = tableOf callWidth callRoom pendingOf t in
-    let k : length ws ≡ min (wordAt Little t 0) 16 = table-many callWidth callRoom pendingOf t in
+    let k : length ws ≡ min (wordAt Little t 0) callRoom = table-many callWidth callRoom pendingOf t in
     let q : wordAt Little t 0 ≡ length ws
     = ap (λ (z : List ℕ). wordAt Little z 0) (e ∙ sym (append-nil (tableBytes callWidth callRoom pendingBytes ws))) ∙ table-count callWidth callRoom pendingBytes ws [] (omega arith) in
     record {
@@ -66,17 +66,17 @@ ending-begins c t n l b e en =
     }
 
 module _ {c : ℕ} {ws₀ : List Pending} {t : List ℕ} {n j : ℕ} (g : Ending c ws₀ t n j) (h : j < n) where
-  pub ending-cell : Cell t (4 + callWidth * j) 8 (4 + callWidth * n)
+  pub ending-cell : Cell t (4 + callWidth * j) callWidth (4 + callWidth * n)
   ending-cell =
       let l : length t ≡ pendingLength = g .sized in
-      let f : n ≤ 16 = g .few in
+      let f : n ≤ callRoom = g .few in
       record { inside = omega arith; room = omega arith }
 
   read : tableOf callWidth callRoom pendingOf t ≡ g .calls
   read =
       let ws = g .calls in
       let m : n ≡ length ws = g .count in
-      let f : n ≤ 16 = g .few in
+      let f : n ≤ callRoom = g .few in
       ap (tableOf callWidth callRoom pendingOf) (g .is ∙ sym (append-nil (tableBytes callWidth callRoom pendingBytes ws)))
       ∙ table-again callWidth callRoom pendingBytes pending-length pendingOf ws [] (omega arith) (omega arith) (g .back)
 
@@ -84,17 +84,17 @@ module _ {c : ℕ} {ws₀ : List Pending} {t : List ℕ} {n j : ℕ} (g : Ending
   callee-at =
       let m : n ≡ length (g .calls) = g .count in
       let l : j < length (tableOf callWidth callRoom pendingOf t) = rw read (omega arith) in
-      let q : getD (g .calls) j (pendingOf []) ≡ pendingOf (take 8 (drop (4 + callWidth * j) t)) = rw read at (table-at callWidth callRoom pendingOf t j l) in
+      let q : getD (g .calls) j (pendingOf []) ≡ pendingOf (take callWidth (drop (4 + callWidth * j) t)) = rw read at (table-at callWidth callRoom pendingOf t j l) in
       ap (λ (w : Pending). w .callee) q
-      ∙ word-part t (4 + callWidth * j) 8 0 (omega arith)
+      ∙ word-part t (4 + callWidth * j) callWidth 0 (omega arith)
       ∙ ap (wordAt Little t) (omega arith)
 
   module _ (k : ℕ) (e : k ≡ wordAt Little t (4 + callWidth * j)) where
-    pub ending-out : k ≡ c → (t₁ : List ℕ) → t₁ ≡ wordBytes (n - 1) ++ removed 8 n j (drop 4 t) → Ending c ws₀ t₁ (n - 1) j
+    pub ending-out : k ≡ c → (t₁ : List ℕ) → t₁ ≡ wordBytes (n - 1) ++ removed callWidth n j (drop 4 t) → Ending c ws₀ t₁ (n - 1) j
     ending-out q t₁ e₁ =
         let ws = g .calls in
         let m : n ≡ length ws = g .count in
-        let f : n ≤ 16 = g .few in
+        let f : n ≤ callRoom = g .few in
         let l : length (without j ws) + 1 ≡ length ws = without-length j ws (omega arith) in
         let is : t₁ ≡ tableBytes callWidth callRoom pendingBytes (without j ws) = e₁ ∙ sym (table-remove callWidth callRoom pendingBytes pending-length ws j t n (g .is) m f h) in
         record {

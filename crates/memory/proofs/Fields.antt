@@ -1,5 +1,5 @@
 -- The fields of a peer in its slot's bytes: each is put at its place, and the rest stays.
-use mathlib.Core.List.{List, [], _++_, map, append-assoc, append-nil}
+use mathlib.Core.List.{List, _++_, map, append-assoc}
 use mathlib.Core.Path.{_≡_, sym, ap, _∙_}
 use Prim.Native.Nat.{ℕ, _+_, _*_, _≤_, _<_}
 use native.Mathlib.Omega.{arith}
@@ -15,8 +15,8 @@ use Rattle.tables.proofs.Table.{table-length, table-count, table-again}
 use Rattle.policy.specs.Names.{cellOf}
 use Rattle.stream.specs.Tail.{Tail}
 use Rattle.rules.specs.State.{Pending, Peer, free, peer, State, putSlot, withNames, withPending, withStream}
-use Rattle.memory.specs.Layout.{slotLength, slotStart, gidWidth, gidRoom, pendingAt, callWidth, callRoom, namesAt, nameWidth, nameRoom, takenAt, streamLength}
-use Rattle.memory.specs.Encoding.{pendingBytes, streamBytes, peerBytes, slotBytes, memoryOf}
+use Rattle.memory.specs.Layout.{slotLength, slotStart, gidsAt, gidWidth, gidRoom, pendingAt, callWidth, callRoom, namesAt, nameWidth, nameRoom, takenAt, streamLength, restAt}
+use Rattle.memory.specs.Encoding.{pendingBytes, streamBytes, restBytes, peerBytes, slotBytes, memoryOf}
 use Rattle.memory.proofs.Frame.{head-length, put-memory, memory-at}
 
 -- ---- the table of xs in the bytes s, at b: `pre` before it, `post` after it
@@ -59,20 +59,28 @@ beforeNames p = beforePending p ++ tableBytes callWidth callRoom pendingBytes (p
 unfoldable pub beforeStream : Peer Tail → List ℕ
 beforeStream p = beforeNames p ++ tableBytes nameWidth nameRoom cellOf (p .names)
 
+-- ---- and behind it
+
+abbrev behindNames : Peer Tail → List ℕ
+behindNames p = streamBytes (p .stream) ++ restBytes
+
+abbrev behindPending : Peer Tail → List ℕ
+behindPending p = tableBytes nameWidth nameRoom cellOf (p .names) ++ behindNames p
+
+abbrev behindGids : Peer Tail → List ℕ
+behindGids p = tableBytes callWidth callRoom pendingBytes (p .pending) ++ behindPending p
+
 pub stream-length : (t : Tail) → length (streamBytes t) ≡ streamLength
 stream-length t = simp (length-append, word-length, head-length)
 
 -- ---- the tables of a peer in its bytes, and the stream behind them
 
-pub gids-in : (p : Peer Tail)
-    → Within gidWidth gidRoom wordBytes (p .gids) (beforeGids p)
-    (tableBytes callWidth callRoom pendingBytes (p .pending) ++ (tableBytes nameWidth nameRoom cellOf (p .names) ++ streamBytes (p .stream))) 8 (slotBytes (peer p))
+pub gids-in : (p : Peer Tail) → Within gidWidth gidRoom wordBytes (p .gids) (beforeGids p) (behindGids p) gidsAt (slotBytes (peer p))
 unfolding slotBytes peerBytes beforeGids
 gids-in p =
     record { start = simp (length-append, word-length); is = sym (append-assoc (wordBytes (p .number)) (wordBytes (p .uid)) _) }
 
-pub pending-in : (p : Peer Tail)
-    → Within callWidth callRoom pendingBytes (p .pending) (beforePending p) (tableBytes nameWidth nameRoom cellOf (p .names) ++ streamBytes (p .stream)) pendingAt (slotBytes (peer p))
+pub pending-in : (p : Peer Tail) → Within callWidth callRoom pendingBytes (p .pending) (beforePending p) (behindPending p) pendingAt (slotBytes (peer p))
 unfolding beforePending
 pending-in p =
     record {
@@ -80,7 +88,7 @@ pending-in p =
       is = gids-in p .is ∙ sym (append-assoc (beforeGids p) (tableBytes gidWidth gidRoom wordBytes (p .gids)) _);
     }
 
-pub names-in : (p : Peer Tail) → Within nameWidth nameRoom cellOf (p .names) (beforeNames p) (streamBytes (p .stream)) namesAt (slotBytes (peer p))
+pub names-in : (p : Peer Tail) → Within nameWidth nameRoom cellOf (p .names) (beforeNames p) (behindNames p) namesAt (slotBytes (peer p))
 unfolding beforeNames
 names-in p =
     record {
@@ -92,12 +100,9 @@ pub before-stream : (p : Peer Tail) → length (beforeStream p) ≡ takenAt
 unfolding beforeStream
 before-stream p = simp (length-append, names-in p .start, table-length)
 
-pub split-stream : (p : Peer Tail) → slotBytes (peer p) ≡ beforeStream p ++ (streamBytes (p .stream) ++ [])
+pub split-stream : (p : Peer Tail) → slotBytes (peer p) ≡ beforeStream p ++ behindNames p
 unfolding beforeStream
-split-stream p =
-    names-in p .is
-    ∙ sym (append-assoc (beforeNames p) (tableBytes nameWidth nameRoom cellOf (p .names)) (streamBytes (p .stream)))
-    ∙ ap (λ (z : List ℕ). (beforeNames p ++ tableBytes nameWidth nameRoom cellOf (p .names)) ++ z) (sym (append-nil (streamBytes (p .stream))))
+split-stream p = names-in p .is ∙ sym (append-assoc (beforeNames p) (tableBytes nameWidth nameRoom cellOf (p .names)) (behindNames p))
 
 -- ---- a field put
 
@@ -112,11 +117,11 @@ unfolding beforeNames beforePending beforeGids
 put-names p ns = table-put (names-in p) (names-in (withNames p ns))
 
 pub put-stream : (p : Peer Tail) (t : Tail) → slotBytes (peer (withStream p t))
-    ≡ take takenAt (slotBytes (peer p)) ++ streamBytes t
+    ≡ take takenAt (slotBytes (peer p)) ++ (streamBytes t ++ drop restAt (slotBytes (peer p)))
 unfolding beforeStream beforeNames beforePending beforeGids
 put-stream p t =
-    rw (split-stream (withStream p t), split-stream p, take-at (beforeStream p) (streamBytes (p .stream) ++ []) takenAt (before-stream p))
-    (ap (λ (z : List ℕ). beforeStream p ++ z) (append-nil (streamBytes t)))
+    split-stream (withStream p t)
+    ∙ rw (split-stream p) (part-put (beforeStream p) (streamBytes (p .stream)) (streamBytes t) restBytes takenAt streamLength (before-stream p) (stream-length (p .stream)))
 
 -- ---- a field put in memory: `new` are the c bytes at b of slot i that differ
 
@@ -130,6 +135,8 @@ put-field s i p q new b c h e l f =
 
 -- ---- the stream read off the bytes of a peer
 
-pub stream-bytes : (p : Peer Tail) → drop takenAt (slotBytes (peer p)) ≡ streamBytes (p .stream)
-stream-bytes p =
-    rw (split-stream p, append-nil (streamBytes (p .stream))) (drop-at (beforeStream p) (streamBytes (p .stream)) takenAt (before-stream p))
+pub stream-from : (p : Peer Tail) → drop takenAt (slotBytes (peer p)) ≡ behindNames p
+stream-from p = rw (split-stream p) (drop-at (beforeStream p) (behindNames p) takenAt (before-stream p))
+
+pub stream-bytes : (p : Peer Tail) → take streamLength (drop takenAt (slotBytes (peer p))) ≡ streamBytes (p .stream)
+stream-bytes p = rw (stream-from p) (take-at (streamBytes (p .stream)) restBytes streamLength (stream-length (p .stream)))

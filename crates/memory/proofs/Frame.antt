@@ -1,4 +1,4 @@
--- Slots in bytes: each is 3,292 long, so that a slot is put by its bytes alone, and the others stay.
+-- Slots in bytes: each is as long whatever it holds, so that a slot is put by its bytes alone, and the others stay.
 use mathlib.Core.List.{List, _++_, append-assoc}
 use mathlib.Core.Path.{_≡_, refl, ap₂, _∙_}
 use Prim.Native.Nat.{ℕ, _+_, _*_, _<_, _-_}
@@ -17,26 +17,30 @@ use Rattle.policy.specs.Names.{cellOf}
 use Rattle.stream.specs.Tail.{Tail}
 use Rattle.rules.specs.State.{Pending, Peer, Slot, free, peer, State, putSlot}
 use Rattle.rules.specs.Calls.{empty}
-use Rattle.memory.specs.Layout.{memoryLength, slotLength, slotStart, headRoom}
-use Rattle.memory.specs.Encoding.{pendingBytes, headBytes, peerBytes, slotBytes, memoryOf}
+use Rattle.memory.specs.Layout.{memoryLength, slotsAt, slotLength, slotStart, callWidth, nameWidth, headRoom, keptLength, restLength, nameLimit}
+use Rattle.memory.specs.Encoding.{pendingBytes, headBytes, restBytes, peerBytes, slotBytes, memoryOf}
 
 -- ---- widths
 
-pub pending-length : (w : Pending) → length (pendingBytes w) ≡ 8
+pub pending-length : (w : Pending) → length (pendingBytes w) ≡ callWidth
 pending-length w =
     length-append (wordBytes (w .callee)) (wordBytes (w .serial)) ∙ omega (arith, word-length (w .callee), word-length (w .serial))
 
-pub cell-length : (name : List ℕ) → length (cellOf name) ≡ 256
+pub cell-length : (name : List ℕ) → length (cellOf name) ≡ nameWidth
 unfolding cellOf
-cell-length name = omega (arith, pad-length 255 name)
+cell-length name = omega (arith, pad-length nameLimit name)
 
-pub head-length : (h : List ℕ) → length (headBytes h) ≡ 2052
+pub head-length : (h : List ℕ) → length (headBytes h) ≡ keptLength
 unfolding headBytes
 head-length h = length-append (wordBytes (length h)) (pad headRoom h) ∙ omega (arith, word-length (length h), pad-length headRoom h)
 
+pub rest-length : length restBytes ≡ restLength
+unfolding restBytes
+rest-length = length-replicate {A = ℕ} restLength 0
+
 pub peer-length : (p : Peer Tail) → length (peerBytes p) ≡ slotLength
 unfolding peerBytes
-peer-length p = simp (length-append, word-length, table-length, head-length)
+peer-length p = simp (length-append, word-length, table-length, head-length, rest-length)
 
 pub slot-length : (x : Slot Tail) → length (slotBytes x) ≡ slotLength
 unfolding slotBytes
@@ -52,34 +56,34 @@ memory-length s e =
 -- ---- frames
 
 -- the slots begin after the last number
-pub memory-slots : (s : State Tail) → drop 4 (memoryOf s) ≡ cells slotBytes (s .slots)
+pub memory-slots : (s : State Tail) → drop slotsAt (memoryOf s) ≡ cells slotBytes (s .slots)
 unfolding memoryOf
-memory-slots s = drop-at (wordBytes (s .last)) (cells slotBytes (s .slots)) 4 (word-length (s .last))
+memory-slots s = drop-at (wordBytes (s .last)) (cells slotBytes (s .slots)) slotsAt (word-length (s .last))
 
 -- slot i put by its bytes
 pub put-memory : (s : State Tail) (i : ℕ) (x : Slot Tail) → i < length (s .slots)
     → memoryOf (putSlot s i x) ≡ take (slotStart i) (memoryOf s) ++ (slotBytes x ++ drop (slotStart i + slotLength) (memoryOf s))
 unfolding memoryOf
 put-memory s i x h =
-    let e : slotStart i + slotLength ≡ 4 + (slotLength * i + slotLength) = omega arith in
+    let e : slotStart i + slotLength ≡ slotsAt + (slotLength * i + slotLength) = omega arith in
     rw (
       e,
-      take-past (wordBytes (s .last)) (cells slotBytes (s .slots)) 4 (slotLength * i) (word-length (s .last)),
-      drop-past (wordBytes (s .last)) (cells slotBytes (s .slots)) 4 (slotLength * i + slotLength) (word-length (s .last)),
+      take-past (wordBytes (s .last)) (cells slotBytes (s .slots)) slotsAt (slotLength * i) (word-length (s .last)),
+      drop-past (wordBytes (s .last)) (cells slotBytes (s .slots)) slotsAt (slotLength * i + slotLength) (word-length (s .last)),
       cells-put slotLength slotBytes slot-length (s .slots) i x h,
       append-assoc (wordBytes (s .last)),
     )
 
 -- the last number put by its bytes
-pub put-last : (s : State Tail) (n : ℕ) → memoryOf (record { last = n; slots = s .slots }) ≡ wordBytes n ++ drop 4 (memoryOf s)
+pub put-last : (s : State Tail) (n : ℕ) → memoryOf (record { last = n; slots = s .slots }) ≡ wordBytes n ++ drop slotsAt (memoryOf s)
 unfolding memoryOf
-put-last s n = rw (drop-at (wordBytes (s .last)) (cells slotBytes (s .slots)) 4 (word-length (s .last)))
+put-last s n = rw (drop-at (wordBytes (s .last)) (cells slotBytes (s .slots)) slotsAt (word-length (s .last)))
 
 -- slot i stands at its place
 pub memory-at : (s : State Tail) (i : ℕ) → i < length (s .slots)
     → take slotLength (drop (slotStart i) (memoryOf s)) ≡ slotBytes (getD (s .slots) i free)
 memory-at s i h =
-    rw (← drop-drop (slotLength * i) 4 (memoryOf s), memory-slots s) (cells-at slotLength slotBytes slot-length (s .slots) i free h)
+    rw (← drop-drop (slotLength * i) slotsAt (memoryOf s), memory-slots s) (cells-at slotLength slotBytes slot-length (s .slots) i free h)
 
 -- ---- the empty guard
 
@@ -93,4 +97,4 @@ free-bytes = refl
 
 pub empty-bytes : memoryOf empty ≡ replicate memoryLength 0
 unfolding memoryOf
-empty-bytes = ap₂ _++_ word-zero (cells-zeros slotLength slotBytes free free-bytes 16) ∙ replicate-append-replicate {A = ℕ} 4 (slotLength * 16) 0
+empty-bytes = ap₂ _++_ word-zero (cells-zeros slotLength slotBytes free free-bytes 16) ∙ replicate-append-replicate {A = ℕ} slotsAt (slotLength * 16) 0

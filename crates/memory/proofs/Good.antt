@@ -16,7 +16,7 @@ use Rattle.tables.specs.Tables.{cells, parts, tableOf}
 use Rattle.tables.proofs.Words.{bytes-take, bytes-drop, word-fits, word-cut}
 use Rattle.stream.specs.Tail.{Tail}
 use Rattle.rules.specs.State.{Pending, Slot, free, peer, putSlot}
-use Rattle.memory.specs.Layout.{memoryLength, slotLength, slotStart, gidWidth, gidRoom, pendingAt, callWidth, callRoom}
+use Rattle.memory.specs.Layout.{memoryLength, slotLength, slotStart, gidWidth, gidRoom, pendingAt, callWidth, callRoom, uidAt, gidsAt, slotsAt}
 use Rattle.memory.specs.Encoding.{slotBytes, memoryOf, wordOf, pendingOf, peerOf, slotOf, stateOf}
 use Rattle.memory.specs.Good.{goodSlots, plainSlots, good}
 use Rattle.memory.specs.Sound.{headOctets, word32, narrow, Sound, Held}
@@ -29,23 +29,23 @@ use Rattle.memory.proofs.Reading.{sixteen}
 pub good-sized : (m : List ℕ) → good m ≡ true → length m ≡ memoryLength
 unfolding good
 good-sized m e =
-    let g = goodSlots (stateOf m .slots) (stateOf m .last) (stateOf m .slots) && plainSlots (parts slotLength 16 (drop 4 m)) in
+    let g = goodSlots (stateOf m .slots) (stateOf m .last) (stateOf m .slots) && plainSlots (parts slotLength 16 (drop slotsAt m)) in
     eqb-true (length m) memoryLength (both-first (eqb (length m) memoryLength) g e)
 
 good-rest : (m : List ℕ) → good m ≡ true
-    → goodSlots (stateOf m .slots) (stateOf m .last) (stateOf m .slots) && plainSlots (parts slotLength 16 (drop 4 m)) ≡ true
+    → goodSlots (stateOf m .slots) (stateOf m .last) (stateOf m .slots) && plainSlots (parts slotLength 16 (drop slotsAt m)) ≡ true
 unfolding good
 good-rest m e =
-    let g = goodSlots (stateOf m .slots) (stateOf m .last) (stateOf m .slots) && plainSlots (parts slotLength 16 (drop 4 m)) in
+    let g = goodSlots (stateOf m .slots) (stateOf m .last) (stateOf m .slots) && plainSlots (parts slotLength 16 (drop slotsAt m)) in
     both-second (eqb (length m) memoryLength) g e
 
 pub good-slots : (m : List ℕ) → good m ≡ true → goodSlots (stateOf m .slots) (stateOf m .last) (stateOf m .slots) ≡ true
 good-slots m e =
-    both-first (goodSlots (stateOf m .slots) (stateOf m .last) (stateOf m .slots)) (plainSlots (parts slotLength 16 (drop 4 m))) (good-rest m e)
+    both-first (goodSlots (stateOf m .slots) (stateOf m .last) (stateOf m .slots)) (plainSlots (parts slotLength 16 (drop slotsAt m))) (good-rest m e)
 
-pub good-plain : (m : List ℕ) → good m ≡ true → plainSlots (parts slotLength 16 (drop 4 m)) ≡ true
+pub good-plain : (m : List ℕ) → good m ≡ true → plainSlots (parts slotLength 16 (drop slotsAt m)) ≡ true
 good-plain m e =
-    both-second (goodSlots (stateOf m .slots) (stateOf m .last) (stateOf m .slots)) (plainSlots (parts slotLength 16 (drop 4 m))) (good-rest m e)
+    both-second (goodSlots (stateOf m .slots) (stateOf m .last) (stateOf m .slots)) (plainSlots (parts slotLength 16 (drop slotsAt m))) (good-rest m e)
 
 pub held-of : (m : List ℕ) → good m ≡ true → Held m
 held-of m e = record { sized = good-sized m e; held = e }
@@ -67,7 +67,7 @@ pub good-is : (m : List ℕ) → ((i : ℕ) → getD m i 0 < 256) → good m ≡
 unfolding memoryOf stateOf
 good-is m b e =
     let l : length m ≡ memoryLength = good-sized m e in
-    ap (λ (z : List ℕ). wordBytes (wordAt Little m 0) ++ z) (plain-slots 16 (drop 4 m) (length-drop 4 m ∙ omega arith) (good-plain m e))
+    ap (λ (z : List ℕ). wordBytes (wordAt Little m 0) ++ z) (plain-slots 16 (drop slotsAt m) (length-drop slotsAt m ∙ omega arith) (good-plain m e))
     ∙ sym (word-cut m (omega arith) b)
 
 -- ---- the numbers read off bytes are of 32 bits
@@ -95,8 +95,8 @@ slot-narrow b f = go (eqb (wordAt Little b 0) 0)
     go : (z : Bool) → narrow (cond z free (peer (peerOf b))) ≡ true
     go true = refl
     go false =
-        let u = word-narrow 4 b f in
-        let v = every-table word32 wordOf gidWidth gidRoom (word-narrow 0) (drop 8 b) (bytes-drop 8 b f) in
+        let u = word-narrow uidAt b f in
+        let v = every-table word32 wordOf gidWidth gidRoom (word-narrow 0) (drop gidsAt b) (bytes-drop gidsAt b f) in
         let x = every-table (λ (w : Pending). word32 (w .serial)) pendingOf callWidth callRoom (word-narrow 4) (drop pendingAt b) (bytes-drop pendingAt b f) in
         rw (u, v, x)
 
@@ -107,8 +107,8 @@ good-sound m b e =
       sixteen = sixteen m;
       fits = word-fits m 0 b;
       slots = good-slots m e;
-      narrows = every-parts narrow slotOf slotLength slot-narrow 16 (drop 4 m) (bytes-drop 4 m b);
-      octets = every-parts headOctets slotOf slotLength slot-octets 16 (drop 4 m) (bytes-drop 4 m b);
+      narrows = every-parts narrow slotOf slotLength slot-narrow 16 (drop slotsAt m) (bytes-drop slotsAt m b);
+      octets = every-parts headOctets slotOf slotLength slot-octets 16 (drop slotsAt m) (bytes-drop slotsAt m b);
     }
 
 -- ---- a slot and the last number put in good memory
@@ -120,5 +120,5 @@ module _ (m : List ℕ) (b : (i : ℕ) → getD m i 0 < 256) (g : good m ≡ tru
 
   pub seated : (n i : ℕ) (x : Slot Tail) → i < 16
       → memoryOf (record { last = n; slots = set (stateOf m .slots) i x })
-      ≡ wordBytes n ++ drop 4 (take (slotStart i) m ++ (slotBytes x ++ drop (slotStart i + slotLength) m))
-  seated n i x h = put-last (putSlot (stateOf m) i x) n ∙ ap (λ (y : List ℕ). wordBytes n ++ drop 4 y) (framed i x h)
+      ≡ wordBytes n ++ drop slotsAt (take (slotStart i) m ++ (slotBytes x ++ drop (slotStart i + slotLength) m))
+  seated n i x h = put-last (putSlot (stateOf m) i x) n ∙ ap (λ (y : List ℕ). wordBytes n ++ drop slotsAt y) (framed i x h)

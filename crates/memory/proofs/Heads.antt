@@ -8,7 +8,7 @@ use Rattle.wire.specs.Bytes.{front}
 use Rattle.wire.specs.Words.{wordAt}
 use Rattle.wire.specs.declared.Order.the-variants.{Little}
 use Rattle.tables.specs.Tables.{cells, parts, tableBytes, tableOf}
-use Rattle.memory.specs.Layout.{headRoom}
+use Rattle.memory.specs.Layout.{headRoom, keptLength}
 use Rattle.memory.specs.Encoding.{headBytes}
 
 abbrev pub single : ℕ → List ℕ
@@ -33,7 +33,7 @@ fronts (suc n) [] h = absurd (omega arith)
 fronts (suc n) (x ∷ d) h = ap (λ (z : List ℕ). x ∷ z) (fronts n d (omega arith))
 
 -- what the bytes of a head say
-pub head-of : (d : List ℕ) → 2052 ≤ length d → take (min (wordAt Little d 0) headRoom) (drop 4 d) ≡ tableOf 1 headRoom front d
+pub head-of : (d : List ℕ) → keptLength ≤ length d → take (min (wordAt Little d 0) headRoom) (drop 4 d) ≡ tableOf 1 headRoom front d
 unfolding tableOf
 head-of d h = sym (fronts (min (wordAt Little d 0) headRoom) (drop 4 d) (omega (arith, length-drop 4 d)))
 

@@ -13,7 +13,7 @@ use Rattle.tables.specs.Tables.{parts}
 use Rattle.tables.proofs.Words.{word-part}
 use Rattle.tables.proofs.Cells.{parts-length}
 use Rattle.rules.specs.State.{free, peer}
-use Rattle.memory.specs.Layout.{slotLength, slotStart, gidsAt, pendingAt, namesAt, headAt, firstByte, headRoom}
+use Rattle.memory.specs.Layout.{slotLength, slotStart, gidsAt, pendingAt, namesAt, headAt, firstByte, headRoom, slotsAt, gidRoom, callRoom, nameRoom}
 use Rattle.memory.specs.Encoding.{slotBytes, slotOf, stateOf}
 use Rattle.memory.specs.Good.{plainSlots}
 use Rattle.memory.specs.Sound.{Held}
@@ -31,8 +31,8 @@ plain-at (b ∷ l) (suc i) e h = plain-at l i (both-second (same (slotBytes (slo
 
 pub held-part : (m : List ℕ) (i : ℕ) → Held m → i < 16 → take slotLength (drop (slotStart i) m) ≡ slotBytes (getD (stateOf m .slots) i free)
 held-part m i g h =
-    let p = parts slotLength 16 (drop 4 m) in
-    let l : i < length p = rw (parts-length slotLength 16 (drop 4 m)) h in
+    let p = parts slotLength 16 (drop slotsAt m) in
+    let l : i < length p = rw (parts-length slotLength 16 (drop slotsAt m)) h in
     let e : slotBytes (slotOf (getD p i [])) ≡ getD p i [] = plain-at p i (good-plain m (g .held)) l in
     sym (rw (slot-part m i h) at e) ∙ ap slotBytes (sym (slot-at m i h))
 
@@ -50,9 +50,9 @@ pub record Counted (m : List ℕ) (a : ℕ) : Type 0 where
   pub calls : length (peerFrom m a .pending) ≡ wordAt Little m (a + pendingAt)
   pub names : length (peerFrom m a .names) ≡ wordAt Little m (a + namesAt)
   pub head : length (peerFrom m a .stream .head) ≡ wordAt Little m (a + headAt)
-  pub fewGids : wordAt Little m (a + gidsAt) ≤ 16
-  pub fewCalls : wordAt Little m (a + pendingAt) ≤ 16
-  pub fewNames : wordAt Little m (a + namesAt) ≤ 4
+  pub fewGids : wordAt Little m (a + gidsAt) ≤ gidRoom
+  pub fewCalls : wordAt Little m (a + pendingAt) ≤ callRoom
+  pub fewNames : wordAt Little m (a + namesAt) ≤ nameRoom
   pub small : wordAt Little m (a + headAt) ≤ headRoom
 
 pub held-counted : (m : List ℕ) (i : ℕ) → Held m → i < 16 → (numberAt m i ≡ 0 → ⊥) → Counted m (slotStart i)
@@ -61,11 +61,11 @@ held-counted m i g h e =
     let p = peerFrom m a in
     let count : (k : ℕ) → k + 4 ≤ slotLength → wordAt Little m (a + k) ≡ wordAt Little (slotBytes (peer p)) k
     = λ k l. sym (word-part m a slotLength k l) ∙ ap (λ (z : List ℕ). wordAt Little z k) (held-peer m i g h e) in
-    let lg : length (p .gids) ≡ min (wordAt Little m (a + gidsAt)) 16 = gids-many m a in
-    let lc : length (p .pending) ≡ min (wordAt Little m (a + pendingAt)) 16 = pending-many m a in
-    let ln : length (p .names) ≡ min (wordAt Little m (a + namesAt)) 4 = names-many m a in
+    let lg : length (p .gids) ≡ min (wordAt Little m (a + gidsAt)) gidRoom = gids-many m a in
+    let lc : length (p .pending) ≡ min (wordAt Little m (a + pendingAt)) callRoom = pending-many m a in
+    let ln : length (p .names) ≡ min (wordAt Little m (a + namesAt)) nameRoom = names-many m a in
     let lh : length (p .stream .head) ≤ headRoom = omega (arith, length-take (min (wordAt Little m (a + headAt)) headRoom) (drop (a + firstByte) m)) in
-    let eg : wordAt Little m (a + gidsAt) ≡ length (p .gids) = count 8 (omega arith) ∙ table-counted (gids-in p) (omega arith) in
+    let eg : wordAt Little m (a + gidsAt) ≡ length (p .gids) = count gidsAt (omega arith) ∙ table-counted (gids-in p) (omega arith) in
     let ec : wordAt Little m (a + pendingAt) ≡ length (p .pending) = count pendingAt (omega arith) ∙ table-counted (pending-in p) (omega arith) in
     let en : wordAt Little m (a + namesAt) ≡ length (p .names) = count namesAt (omega arith) ∙ table-counted (names-in p) (omega arith) in
     let eh : wordAt Little m (a + headAt) ≡ length (p .stream .head) = count headAt (omega arith) ∙ head-count p lh in

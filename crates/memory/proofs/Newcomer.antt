@@ -1,6 +1,6 @@
 -- The bytes of a peer that has just connected: its number, its uid and its gids, and zeros.
 use mathlib.Core.List.{List, [], _++_, append-assoc}
-use mathlib.Core.Path.{_≡_, ap, ap₂, _∙_}
+use mathlib.Core.Path.{_≡_, refl, ap, ap₂, _∙_}
 use Prim.Native.Nat.{ℕ, _+_, _-_, _*_, _≤_}
 use native.Mathlib.Omega.{arith}
 use lib.ListN.{length, replicate, replicate-append-replicate}
@@ -14,8 +14,8 @@ use Rattle.policy.specs.Names.{cellOf}
 use Rattle.stream.specs.Tail.{tails}
 use Rattle.rules.specs.State.{peer}
 use Rattle.rules.specs.Calls.{newcomer}
-use Rattle.memory.specs.Layout.{slotLength, firstGid, gidWidth, gidRoom, pendingAt, callWidth, callRoom, pendingLength, namesAt, nameWidth, nameRoom, namesLength, headRoom, streamLength}
-use Rattle.memory.specs.Encoding.{pendingBytes, headBytes, peerBytes, slotBytes}
+use Rattle.memory.specs.Layout.{slotLength, firstGid, gidWidth, gidRoom, pendingAt, callWidth, callRoom, pendingLength, namesAt, nameWidth, nameRoom, namesLength, takenAt, headRoom, keptLength, streamLength, restLength}
+use Rattle.memory.specs.Encoding.{pendingBytes, headBytes, restBytes, peerBytes, slotBytes}
 use Rattle.memory.proofs.Frame.{word-zero}
 use Rattle.memory.proofs.Heads.{single, head-table}
 
@@ -29,28 +29,30 @@ zeros a b p q e f = ap₂ _++_ e f ∙ replicate-append-replicate {A = ℕ} a b 
 
 pub newcomer-bytes : (n uid : ℕ) (gids : List ℕ)
     → slotBytes (peer (newcomer tails n uid gids)) ≡ wordBytes n ++ (wordBytes uid ++ (tableBytes gidWidth gidRoom wordBytes gids ++ replicate (slotLength - pendingAt) 0))
-unfolding slotBytes peerBytes
+unfolding slotBytes peerBytes restBytes
 newcomer-bytes n uid gids =
     let P = tableBytes callWidth callRoom pendingBytes [] in
     let N = tableBytes nameWidth nameRoom cellOf [] in
     let H = headBytes [] in
-    let h : H ≡ replicate 2052 0 = head-table [] ∙ table-none 1 headRoom single in
-    let t = zeros 4 2052 (wordBytes 0) H word-zero h in
-    let u = zeros namesLength streamLength N (wordBytes 0 ++ H) (table-none nameWidth nameRoom cellOf) t in
-    let v = zeros pendingLength (slotLength - namesAt) P (N ++ (wordBytes 0 ++ H)) (table-none callWidth callRoom pendingBytes) u in
+    let S = wordBytes 0 ++ H in
+    let h : H ≡ replicate keptLength 0 = head-table [] ∙ table-none 1 headRoom single in
+    let s = zeros 4 keptLength (wordBytes 0) H word-zero h in
+    let t = zeros streamLength restLength S restBytes s refl in
+    let u = zeros namesLength (slotLength - takenAt) N (S ++ restBytes) (table-none nameWidth nameRoom cellOf) t in
+    let v = zeros pendingLength (slotLength - namesAt) P (N ++ (S ++ restBytes)) (table-none callWidth callRoom pendingBytes) u in
     ap (λ (z : List ℕ). wordBytes n ++ (wordBytes uid ++ (tableBytes gidWidth gidRoom wordBytes gids ++ z))) v
 
 -- the gids' cells, and zeros
-pub newcomer-spread : (n uid : ℕ) (gids : List ℕ) → length gids ≤ 16
+pub newcomer-spread : (n uid : ℕ) (gids : List ℕ) → length gids ≤ gidRoom
     → slotBytes (peer (newcomer tails n uid gids))
-    ≡ wordBytes n ++ (wordBytes uid ++ (wordBytes (length gids) ++ (cells wordBytes gids ++ replicate ((slotLength - firstGid) - 4 * length gids) 0)))
+    ≡ wordBytes n ++ (wordBytes uid ++ (wordBytes (length gids) ++ (cells wordBytes gids ++ replicate ((slotLength - firstGid) - gidWidth * length gids) 0)))
 unfolding tableBytes
 newcomer-spread n uid gids h =
     let c = cells wordBytes gids in
-    let x = 64 - 4 * length gids in
-    let e : x + (slotLength - pendingAt) ≡ (slotLength - firstGid) - 4 * length gids = omega arith in
-    let s : (wordBytes (length gids) ++ pad 64 c) ++ replicate (slotLength - pendingAt) 0 ≡ wordBytes (length gids) ++ (c ++ replicate ((slotLength - firstGid) - 4 * length gids) 0)
-    = append-assoc (wordBytes (length gids)) (pad 64 c) (replicate (slotLength - pendingAt) 0)
+    let x = gidWidth * gidRoom - gidWidth * length gids in
+    let e : x + (slotLength - pendingAt) ≡ (slotLength - firstGid) - gidWidth * length gids = omega arith in
+    let s : (wordBytes (length gids) ++ pad (gidWidth * gidRoom) c) ++ replicate (slotLength - pendingAt) 0 ≡ wordBytes (length gids) ++ (c ++ replicate ((slotLength - firstGid) - gidWidth * length gids) 0)
+    = append-assoc (wordBytes (length gids)) (pad (gidWidth * gidRoom) c) (replicate (slotLength - pendingAt) 0)
     ∙ ap (λ (z : List ℕ). wordBytes (length gids) ++ z)
     (ap (λ (z : List ℕ). z ++ replicate (slotLength - pendingAt) 0) (table-spread gidWidth gidRoom wordBytes word-length gids h)
     ∙ append-assoc c (replicate x 0) (replicate (slotLength - pendingAt) 0)

@@ -12,7 +12,7 @@ use Rattle.wire.specs.declared.Order.the-variants.{Little}
 use Rattle.wire.proofs.Texts.{both-first, both-second, both-true}
 use Rattle.rules.specs.State.{free, peer}
 use Rattle.rules.proofs.Any.{first-good, rest-distinct}
-use Rattle.memory.specs.Layout.{headAt, headRoom}
+use Rattle.memory.specs.Layout.{headAt, headRoom, firstByte}
 use Rattle.memory.specs.Encoding.{slotTail, peerOf, slotOf}
 use Rattle.memory.specs.Sound.{octet, headOctets}
 
@@ -63,4 +63,4 @@ slot-octets b h = go (eqb (wordAt Little b 0) 0)
   where
     go : (z : Bool) → headOctets (cond z free (peer (peerOf b))) ≡ true
     go true = refl
-    go false = every-take octet (min (wordAt Little b headAt) headRoom) (drop (headAt + 4) b) (every-drop octet (headAt + 4) b (every-below 256 b h))
+    go false = every-take octet (min (wordAt Little b headAt) headRoom) (drop firstByte b) (every-drop octet firstByte b (every-below 256 b h))

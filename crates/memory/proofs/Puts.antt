@@ -1,10 +1,10 @@
 -- A peer of good memory changed: the bytes that a state with other names, pending calls or stream has, by the old bytes; and the writes that make
 -- them.
-use mathlib.Core.List.{List, [], _∷_, _++_, append-nil}
+use mathlib.Core.List.{List, [], _∷_, _++_}
 use mathlib.Core.Path.{_≡_, sym, ap, _∙_}
 use Prim.Native.Nat.{ℕ, _+_, _-_, _*_, _≤_, _<_}
 use native.Mathlib.Omega.{arith}
-use lib.ListN.{length, getD, take, drop, drop-of-length-le}
+use lib.ListN.{length, getD, take, drop}
 use lib.Seq.{drop-drop, take-take}
 use Rattle.wire.specs.Words.{wordBytes}
 use Rattle.tables.specs.Tables.{tableBytes}
@@ -16,7 +16,7 @@ use Rattle.rules.specs.State.{Pending, Peer, peer, putSlot, withNames, withPend
 use Rattle.memory.specs.Layout.{slotLength, slotStart, pendingAt, firstCallee, callWidth, callRoom, pendingLength, namesAt, firstName, nameWidth, nameRoom, namesLength, takenAt, streamLength}
 use Rattle.memory.specs.Encoding.{pendingBytes, streamBytes, slotBytes, memoryOf, stateOf}
 use Rattle.memory.specs.Sound.{Held}
-use Rattle.memory.proofs.Frame.{pending-length, cell-length, slot-length}
+use Rattle.memory.proofs.Frame.{pending-length, cell-length}
 use Rattle.memory.proofs.Fields.{put-field, put-names, put-pending, put-stream, table-part, names-in, pending-in}
 use Rattle.memory.specs.Places.{numberAt, peerFrom}
 use Rattle.memory.proofs.Reading.{sixteen, slot-peer}
@@ -24,7 +24,7 @@ use Rattle.memory.proofs.Good.{good-is}
 use Rattle.memory.proofs.Held.{held-peer}
 
 -- a part of a part
-part-of : (m : List ℕ) (a b c : ℕ) → b + c ≤ slotLength → take c (drop b (take slotLength (drop a m))) ≡ take c (drop (a + b) m)
+pub part-of : (m : List ℕ) (a b c : ℕ) → b + c ≤ slotLength → take c (drop b (take slotLength (drop a m))) ≡ take c (drop (a + b) m)
 part-of m a b c h =
     let x = slotLength - b in
     let e : slotLength ≡ b + x = omega arith in
@@ -73,18 +73,15 @@ module _ (m : List ℕ) (bytes : (j : ℕ) → getD m j 0 < 256) (g : Held m) (i
       ≡ take (slotStart i + takenAt) m ++ (streamBytes t ++ drop (slotStart i + takenAt + streamLength) m)
   stream-put t =
       let p = peerFrom m (slotStart i) in
-      let s = slotBytes (peer p) in
-      let x = streamBytes t in
-      let e : x ≡ x ++ drop slotLength s = sym (ap (λ (z : List ℕ). x ++ z) (drop-of-length-le s {i = slotLength} (omega (arith, slot-length (peer p)))) ∙ append-nil x) in
-      field-put (withStream p t) x takenAt streamLength (omega arith) (put-stream p t ∙ ap (λ (z : List ℕ). take takenAt s ++ z) e)
+      field-put (withStream p t) (streamBytes t) takenAt streamLength (omega arith) (put-stream p t)
 
   -- ---- the writes that make them; n is the count that the code read, c where the cell stands
 
   room : (k : ℕ) → k ≤ slotLength → slotStart i + k ≤ length m
   room k l = omega (arith, g .sized)
 
-  pub name-appended : (name m₁ m₂ : List ℕ) (n c : ℕ) → n ≡ length (peerFrom m (slotStart i) .names) → n < 4 → c ≡ slotStart i + firstName + nameWidth * n
-      → m₁ ≡ take c m ++ (cellOf name ++ drop (c + 256) m)
+  pub name-appended : (name m₁ m₂ : List ℕ) (n c : ℕ) → n ≡ length (peerFrom m (slotStart i) .names) → n < nameRoom → c ≡ slotStart i + firstName + nameWidth * n
+      → m₁ ≡ take c m ++ (cellOf name ++ drop (c + nameWidth) m)
       → m₂ ≡ take (slotStart i + namesAt) m₁ ++ (wordBytes (n + 1) ++ drop (slotStart i + namesAt + 4) m₁)
       → m₂ ≡ memoryOf (putSlot (stateOf m) i (peer (withNames (peerFrom m (slotStart i)) (peerFrom m (slotStart i) .names ++ (name ∷ [])))))
   name-appended name m₁ m₂ n c e l ec e₁ e₂ =
@@ -95,8 +92,8 @@ module _ (m : List ℕ) (bytes : (j : ℕ) → getD m j 0 < 256) (g : Held m) (i
       e l f e₁ e₂
       ∙ sym (names-put (ns ++ (name ∷ [])))
 
-  pub call-appended : (w : Pending) (m₁ m₂ : List ℕ) (n c : ℕ) → n ≡ length (peerFrom m (slotStart i) .pending) → n < 16 → c ≡ slotStart i + firstCallee + callWidth * n
-      → m₁ ≡ take c m ++ (pendingBytes w ++ drop (c + 8) m)
+  pub call-appended : (w : Pending) (m₁ m₂ : List ℕ) (n c : ℕ) → n ≡ length (peerFrom m (slotStart i) .pending) → n < callRoom → c ≡ slotStart i + firstCallee + callWidth * n
+      → m₁ ≡ take c m ++ (pendingBytes w ++ drop (c + callWidth) m)
       → m₂ ≡ take (slotStart i + pendingAt) m₁ ++ (wordBytes (n + 1) ++ drop (slotStart i + pendingAt + 4) m₁)
       → m₂ ≡ memoryOf (putSlot (stateOf m) i (peer (withPending (peerFrom m (slotStart i)) (peerFrom m (slotStart i) .pending ++ (w ∷ [])))))
   call-appended w m₁ m₂ n c e l ec e₁ e₂ =

@@ -18,7 +18,7 @@ use Rattle.tables.proofs.Table.{table-take, table-many, table-next}
 use Rattle.policy.specs.Names.{nameOf}
 use Rattle.stream.specs.Tail.{Tail}
 use Rattle.rules.specs.State.{Peer, free, peer}
-use Rattle.memory.specs.Layout.{slotLength, slotStart, gidsAt, firstGid, gidWidth, gidRoom, pendingAt, firstCallee, firstSerial, callWidth, callRoom, namesAt, firstName, nameWidth, nameRoom, takenAt, headAt, firstByte, headRoom}
+use Rattle.memory.specs.Layout.{slotLength, slotStart, gidsAt, firstGid, gidWidth, gidRoom, pendingAt, firstCallee, firstSerial, callWidth, callRoom, namesAt, firstName, nameWidth, nameRoom, takenAt, headAt, firstByte, headRoom, slotsAt, uidAt}
 use Rattle.memory.specs.Encoding.{wordOf, pendingOf, slotTail, peerOf, slotOf, stateOf}
 use Rattle.memory.specs.Places.{peerFrom, numberAt}
 
@@ -26,14 +26,14 @@ use Rattle.memory.specs.Places.{peerFrom, numberAt}
 
 pub sixteen : (m : List ℕ) → length (stateOf m .slots) ≡ 16
 unfolding stateOf
-sixteen m = length-map (parts slotLength 16 (drop 4 m)) slotOf ∙ parts-length slotLength 16 (drop 4 m)
+sixteen m = length-map (parts slotLength 16 (drop slotsAt m)) slotOf ∙ parts-length slotLength 16 (drop slotsAt m)
 
 pub last-at : (m : List ℕ) → stateOf m .last ≡ wordAt Little m 0
 unfolding stateOf
 last-at m = refl
 
-pub slot-part : (m : List ℕ) (i : ℕ) → i < 16 → getD (parts slotLength 16 (drop 4 m)) i [] ≡ take slotLength (drop (slotStart i) m)
-slot-part m i h = parts-at slotLength 16 (drop 4 m) i h ∙ ap (take slotLength) (drop-drop (slotLength * i) 4 m)
+pub slot-part : (m : List ℕ) (i : ℕ) → i < 16 → getD (parts slotLength 16 (drop slotsAt m)) i [] ≡ take slotLength (drop (slotStart i) m)
+slot-part m i h = parts-at slotLength 16 (drop slotsAt m) i h ∙ ap (take slotLength) (drop-drop (slotLength * i) slotsAt m)
 
 no-bytes : slotOf [] ≡ free
 unfolding slotOf wordAt
@@ -42,7 +42,7 @@ no-bytes = refl
 pub slot-at : (m : List ℕ) (i : ℕ) → i < 16 → getD (stateOf m .slots) i free ≡ slotOf (take slotLength (drop (slotStart i) m))
 unfolding stateOf
 slot-at m i h =
-    rw (← no-bytes) (List·getD-map slotOf (parts slotLength 16 (drop 4 m)) i [] ∙ ap slotOf (slot-part m i h))
+    rw (← no-bytes) (List·getD-map slotOf (parts slotLength 16 (drop slotsAt m)) i [] ∙ ap slotOf (slot-part m i h))
 
 -- ---- a slot is read no further than it reaches
 
@@ -60,11 +60,11 @@ unfolding peerOf
 peer-take d =
     rw (
       word-take d slotLength 0 (omega arith),
-      word-take d slotLength 4 (omega arith),
-      drop-take 8 (slotLength - gidsAt) d,
+      word-take d slotLength uidAt (omega arith),
+      drop-take gidsAt (slotLength - gidsAt) d,
       drop-take pendingAt (slotLength - pendingAt) d,
       drop-take namesAt (slotLength - namesAt) d,
-      table-take gidWidth gidRoom wordOf (drop 8 d) (slotLength - gidsAt) (omega arith),
+      table-take gidWidth gidRoom wordOf (drop gidsAt d) (slotLength - gidsAt) (omega arith),
       table-take callWidth callRoom pendingOf (drop pendingAt d) (slotLength - pendingAt) (omega arith),
       table-take nameWidth nameRoom nameOf (drop namesAt d) (slotLength - namesAt) (omega arith),
       tail-take d,
@@ -90,10 +90,10 @@ unfolding peerOf slotTail
 peer-from m a =
     rw (
       word-front m a,
-      word-drop Little m a 4,
+      word-drop Little m a uidAt,
       word-drop Little m a takenAt,
       word-drop Little m a headAt,
-      drop-drop 8 a m,
+      drop-drop gidsAt a m,
       drop-drop pendingAt a m,
       drop-drop namesAt a m,
       drop-drop firstByte a m,
@@ -119,11 +119,11 @@ slot-peer m i h e =
 -- ---- the things in a slot's tables, from j on
 
 pub gid-next : (m : List ℕ) (a j : ℕ) → j < length (peerFrom m a .gids)
-    → drop j (peerFrom m a .gids) ≡ wordAt Little m (a + firstGid + 4 * j) ∷ drop (j + 1) (peerFrom m a .gids)
+    → drop j (peerFrom m a .gids) ≡ wordAt Little m (a + firstGid + gidWidth * j) ∷ drop (j + 1) (peerFrom m a .gids)
 gid-next m a j h =
-    let e : a + gidsAt + (4 + 4 * j) ≡ a + firstGid + 4 * j = omega arith in
+    let e : a + gidsAt + (4 + gidWidth * j) ≡ a + firstGid + gidWidth * j = omega arith in
     table-next gidWidth gidRoom wordOf (drop (a + gidsAt) m) j h
-    ∙ rw (drop-drop (4 + 4 * j) (a + gidsAt) m, word-take (drop (a + gidsAt + (4 + 4 * j)) m) 4 0 (omega arith), word-front m (a + gidsAt + (4 + 4 * j)), e)
+    ∙ rw (drop-drop (4 + gidWidth * j) (a + gidsAt) m, word-take (drop (a + gidsAt + (4 + gidWidth * j)) m) gidWidth 0 (omega arith), word-front m (a + gidsAt + (4 + gidWidth * j)), e)
 
 pub pending-next : (m : List ℕ) (a j : ℕ) → j < length (peerFrom m a .pending)
     → drop j (peerFrom m a .pending)
@@ -136,26 +136,26 @@ pending-next m a j h =
     ∙ rw (
       drop-drop (4 + callWidth * j) (a + pendingAt) m,
       e,
-      word-take d 8 0 (omega arith),
-      word-take d 8 4 (omega arith),
+      word-take d callWidth 0 (omega arith),
+      word-take d callWidth 4 (omega arith),
       word-front m (a + firstCallee + callWidth * j),
       word-drop Little m (a + firstCallee + callWidth * j) 4,
       f,
     )
 
 pub name-next : (m : List ℕ) (a j : ℕ) → j < length (peerFrom m a .names)
-    → drop j (peerFrom m a .names) ≡ nameOf (take 256 (drop (a + firstName + nameWidth * j) m)) ∷ drop (j + 1) (peerFrom m a .names)
+    → drop j (peerFrom m a .names) ≡ nameOf (take nameWidth (drop (a + firstName + nameWidth * j) m)) ∷ drop (j + 1) (peerFrom m a .names)
 name-next m a j h =
     let e : a + namesAt + (4 + nameWidth * j) ≡ a + firstName + nameWidth * j = omega arith in
     table-next nameWidth nameRoom nameOf (drop (a + namesAt) m) j h ∙ rw (drop-drop (4 + nameWidth * j) (a + namesAt) m, e)
 
 -- ---- how many they are
 
-pub gids-many : (m : List ℕ) (a : ℕ) → length (peerFrom m a .gids) ≡ min (wordAt Little m (a + gidsAt)) 16
-gids-many m a = table-many gidWidth gidRoom wordOf (drop (a + gidsAt) m) ∙ ap (λ (n : ℕ). min n 16) (word-front m (a + gidsAt))
+pub gids-many : (m : List ℕ) (a : ℕ) → length (peerFrom m a .gids) ≡ min (wordAt Little m (a + gidsAt)) gidRoom
+gids-many m a = table-many gidWidth gidRoom wordOf (drop (a + gidsAt) m) ∙ ap (λ (n : ℕ). min n gidRoom) (word-front m (a + gidsAt))
 
-pub pending-many : (m : List ℕ) (a : ℕ) → length (peerFrom m a .pending) ≡ min (wordAt Little m (a + pendingAt)) 16
-pending-many m a = table-many callWidth callRoom pendingOf (drop (a + pendingAt) m) ∙ ap (λ (n : ℕ). min n 16) (word-front m (a + pendingAt))
+pub pending-many : (m : List ℕ) (a : ℕ) → length (peerFrom m a .pending) ≡ min (wordAt Little m (a + pendingAt)) callRoom
+pending-many m a = table-many callWidth callRoom pendingOf (drop (a + pendingAt) m) ∙ ap (λ (n : ℕ). min n callRoom) (word-front m (a + pendingAt))
 
-pub names-many : (m : List ℕ) (a : ℕ) → length (peerFrom m a .names) ≡ min (wordAt Little m (a + namesAt)) 4
-names-many m a = table-many nameWidth nameRoom nameOf (drop (a + namesAt) m) ∙ ap (λ (n : ℕ). min n 4) (word-front m (a + namesAt))
+pub names-many : (m : List ℕ) (a : ℕ) → length (peerFrom m a .names) ≡ min (wordAt Little m (a + namesAt)) nameRoom
+names-many m a = table-many nameWidth nameRoom nameOf (drop (a + namesAt) m) ∙ ap (λ (n : ℕ). min n nameRoom) (word-front m (a + namesAt))

@@ -1,5 +1,5 @@
 -- A slot that fits its bytes is read back from them.
-use mathlib.Core.List.{List, map}
+use mathlib.Core.List.{List, _++_, map, append-assoc}
 use mathlib.Core.Path.{_≡_, refl, sym, ap, _∙_}
 use Prim.Native.Nat.{ℕ, _≤_, _<_, min}
 use native.Mathlib.Omega.{arith}
@@ -16,20 +16,20 @@ use Rattle.tables.proofs.Words.{word-front}
 use Rattle.policy.specs.Names.{cellOf, nameOf}
 use Rattle.stream.specs.Tail.{Tail}
 use Rattle.rules.specs.State.{Peer, free, peer}
-use Rattle.memory.specs.Layout.{slotLength, takenAt, headAt, firstByte, headRoom}
-use Rattle.memory.specs.Encoding.{pendingBytes, headBytes, peerBytes, slotBytes, wordOf, pendingOf, slotTail, peerOf, slotOf}
+use Rattle.memory.specs.Layout.{slotLength, uidAt, gidRoom, callRoom, nameRoom, takenAt, headAt, firstByte, headRoom}
+use Rattle.memory.specs.Encoding.{pendingBytes, headBytes, restBytes, peerBytes, slotBytes, wordOf, pendingOf, slotTail, peerOf, slotOf}
 use Rattle.memory.proofs.Frame.{pending-length, cell-length, free-bytes}
-use Rattle.memory.proofs.Fields.{gids-in, pending-in, names-in, table-back, stream-bytes}
+use Rattle.memory.proofs.Fields.{gids-in, pending-in, names-in, table-back, stream-from}
 
 -- what the bytes of a slot can hold
 pub record Fits (p : Peer Tail) : Type 0 where
   pub number : p .number < 4294967296
   pub uid : p .uid < 4294967296
-  pub gids : length (p .gids) ≤ 16
+  pub gids : length (p .gids) ≤ gidRoom
   pub gidsBack : map wordOf (map wordBytes (p .gids)) ≡ p .gids
-  pub calls : length (p .pending) ≤ 16
+  pub calls : length (p .pending) ≤ callRoom
   pub callsBack : map pendingOf (map pendingBytes (p .pending)) ≡ p .pending
-  pub names : length (p .names) ≤ 4
+  pub names : length (p .names) ≤ nameRoom
   pub namesBack : map nameOf (map cellOf (p .names)) ≡ p .names
   pub taken : p .stream .taken < 4294967296
   pub head : length (p .stream .head) ≤ headRoom
@@ -40,40 +40,44 @@ pub number-back : (p : Peer Tail) → p .number < 4294967296 → wordAt Little (
 unfolding slotBytes peerBytes
 number-back p h = word-again (p .number) _ h
 
-pub uid-back : (p : Peer Tail) → p .uid < 4294967296 → wordAt Little (slotBytes (peer p)) 4 ≡ p .uid
+pub uid-back : (p : Peer Tail) → p .uid < 4294967296 → wordAt Little (slotBytes (peer p)) uidAt ≡ p .uid
 unfolding slotBytes peerBytes
 uid-back p h =
-    sym (word-front (peerBytes p) 4)
-    ∙ ap (λ (z : List ℕ). wordAt Little z 0) (drop-at (wordBytes (p .number)) _ 4 (word-length (p .number)))
+    sym (word-front (peerBytes p) uidAt)
+    ∙ ap (λ (z : List ℕ). wordAt Little z 0) (drop-at (wordBytes (p .number)) _ uidAt (word-length (p .number)))
     ∙ word-again (p .uid) _ h
 
--- the head behind the bytes d, of which the first 1236 are something else
+-- the stream in its words
+stream-words : (p : Peer Tail) → drop takenAt (slotBytes (peer p)) ≡ wordBytes (p .stream .taken) ++ (headBytes (p .stream .head) ++ restBytes)
+stream-words p = stream-from p ∙ append-assoc (wordBytes (p .stream .taken)) (headBytes (p .stream .head)) restBytes
+
 pub taken-back : (p : Peer Tail) → p .stream .taken < 4294967296 → wordAt Little (slotBytes (peer p)) takenAt ≡ p .stream .taken
 taken-back p h =
     sym (word-front (slotBytes (peer p)) takenAt)
-    ∙ ap (λ (z : List ℕ). wordAt Little z 0) (stream-bytes p)
-    ∙ word-again (p .stream .taken) (headBytes (p .stream .head)) h
+    ∙ ap (λ (z : List ℕ). wordAt Little z 0) (stream-words p)
+    ∙ word-again (p .stream .taken) (headBytes (p .stream .head) ++ restBytes) h
 
-head-bytes : (p : Peer Tail) → drop headAt (slotBytes (peer p)) ≡ headBytes (p .stream .head)
+head-bytes : (p : Peer Tail) → drop headAt (slotBytes (peer p)) ≡ wordBytes (length (p .stream .head)) ++ (pad headRoom (p .stream .head) ++ restBytes)
+unfolding headBytes
 head-bytes p =
+    let h = p .stream .head in
     sym (drop-drop 4 takenAt (slotBytes (peer p)))
-    ∙ ap (drop 4) (stream-bytes p)
-    ∙ drop-at (wordBytes (p .stream .taken)) (headBytes (p .stream .head)) 4 (word-length (p .stream .taken))
+    ∙ ap (drop 4) (stream-words p)
+    ∙ drop-at (wordBytes (p .stream .taken)) (headBytes h ++ restBytes) 4 (word-length (p .stream .taken))
+    ∙ append-assoc (wordBytes (length h)) (pad headRoom h) restBytes
 
 pub head-count : (p : Peer Tail) → length (p .stream .head) ≤ headRoom → wordAt Little (slotBytes (peer p)) headAt ≡ length (p .stream .head)
-unfolding headBytes
 head-count p h =
     sym (word-front (slotBytes (peer p)) headAt)
     ∙ ap (λ (z : List ℕ). wordAt Little z 0) (head-bytes p)
-    ∙ word-again (length (p .stream .head)) (pad headRoom (p .stream .head)) (omega arith)
+    ∙ word-again (length (p .stream .head)) (pad headRoom (p .stream .head) ++ restBytes) (omega arith)
 
-pub head-padded : (p : Peer Tail) → drop firstByte (slotBytes (peer p)) ≡ pad headRoom (p .stream .head)
-unfolding headBytes
+pub head-padded : (p : Peer Tail) → drop firstByte (slotBytes (peer p)) ≡ pad headRoom (p .stream .head) ++ restBytes
 head-padded p =
     let h = p .stream .head in
     sym (drop-drop 4 headAt (slotBytes (peer p)))
     ∙ ap (drop 4) (head-bytes p)
-    ∙ drop-at (wordBytes (length h)) (pad headRoom h) 4 (word-length (length h))
+    ∙ drop-at (wordBytes (length h)) (pad headRoom h ++ restBytes) 4 (word-length (length h))
 
 pub tail-back : (p : Peer Tail) → p .stream .taken < 4294967296 → length (p .stream .head) ≤ headRoom → slotTail (slotBytes (peer p)) ≡ p .stream
 unfolding slotTail
@@ -81,7 +85,7 @@ tail-back p l h =
     let a = taken-back p l in
     let m : min (length (p .stream .head)) headRoom ≡ length (p .stream .head) = min-eq-left h in
     let b : take (min (wordAt Little (slotBytes (peer p)) headAt) headRoom) (drop firstByte (slotBytes (peer p))) ≡ p .stream .head
-    = rw (head-count p h, m, head-padded p, pad-fits headRoom (p .stream .head) h) (take-at (p .stream .head) _ (length (p .stream .head)) refl) in
+    = rw (head-count p h, m, head-padded p, pad-fits headRoom (p .stream .head) h, append-assoc (p .stream .head)) (take-at (p .stream .head) _ (length (p .stream .head)) refl) in
     λ j. record { taken = a j; head = b j }
 
 -- ---- the whole

@@ -17,7 +17,7 @@ use Rattle.tables.proofs.Cells.{cells-parts}
 use Rattle.stream.proofs.Good.{tail-fits}
 use Rattle.stream.specs.Tail.{Tail}
 use Rattle.rules.specs.State.{Peer, Slot, free, peer, State}
-use Rattle.memory.specs.Layout.{memoryLength, slotLength}
+use Rattle.memory.specs.Layout.{memoryLength, slotLength, slotsAt}
 use Rattle.memory.specs.Encoding.{slotBytes, memoryOf, slotOf, stateOf}
 use Rattle.memory.specs.Good.{goodSlot, goodSlots, plainSlots, good}
 use Rattle.memory.specs.Sound.{word32, narrow, Sound}
@@ -86,7 +86,7 @@ pub state-again : (s : State Tail) → Sound s → stateOf (memoryOf s) ≡ s
 unfolding stateOf
 state-again s g =
     let a : wordAt Little (memoryOf s) 0 ≡ s .last = last-back s (g .fits) in
-    let b : map slotOf (parts slotLength 16 (drop 4 (memoryOf s))) ≡ s .slots
+    let b : map slotOf (parts slotLength 16 (drop slotsAt (memoryOf s))) ≡ s .slots
     = rw (memory-slots s, slot-parts (s .slots) (g .sixteen)) (slots-again (s .slots) (s .last) (g .slots) (g .fits) (s .slots) (g .slots) (g .narrows)) in
     λ j. record { last = a j; slots = b j }
 

@@ -14,7 +14,7 @@ use Rattle.tables.proofs.Cells.{parts-put, map-set}
 use Rattle.tables.proofs.Sweep.{sweep, swept, sweep-begins, sweep-step, sweep-ends}
 use Rattle.stream.specs.Tail.{Tail}
 use Rattle.rules.specs.State.{Slot, free, State, putSlot}
-use Rattle.memory.specs.Layout.{memoryLength, slotLength, slotStart}
+use Rattle.memory.specs.Layout.{memoryLength, slotLength, slotStart, slotsAt}
 use Rattle.memory.specs.Encoding.{slotBytes, memoryOf, slotOf, stateOf}
 use Rattle.memory.specs.Places.{putAt, changed, mapped}
 use Rattle.memory.proofs.Frame.{slot-length}
@@ -22,16 +22,16 @@ use Rattle.memory.proofs.Slots.{free-back}
 
 -- ---- a slot's bytes put are read back
 
-word-first : (m : List ℕ) → 4 ≤ length m → ((i : ℕ) → getD m i 0 < 256) → wordBytes (wordAt Little m 0) ≡ take 4 m
+word-first : (m : List ℕ) → slotsAt ≤ length m → ((i : ℕ) → getD m i 0 < 256) → wordBytes (wordAt Little m 0) ≡ take slotsAt m
 word-first m h b =
-    sym (ap (take 4) (word-cut m h b) ∙ take-at (wordBytes (wordAt Little m 0)) (drop 4 m) 4 (word-length (wordAt Little m 0)))
+    sym (ap (take slotsAt) (word-cut m h b) ∙ take-at (wordBytes (wordAt Little m 0)) (drop slotsAt m) slotsAt (word-length (wordAt Little m 0)))
 
 -- the first four bytes, and the slots with part i put
-put-split : (m y : List ℕ) (i : ℕ) → putAt m i y ≡ take 4 m ++ (take (slotLength * i) (drop 4 m) ++ (y ++ drop (slotLength * i + slotLength) (drop 4 m)))
+put-split : (m y : List ℕ) (i : ℕ) → putAt m i y ≡ take slotsAt m ++ (take (slotLength * i) (drop slotsAt m) ++ (y ++ drop (slotLength * i + slotLength) (drop slotsAt m)))
 put-split m y i =
-    let e : slotStart i + slotLength ≡ 4 + (slotLength * i + slotLength) = omega arith in
-    rw (e, take-add 4 (slotLength * i) m, drop-drop (slotLength * i + slotLength) 4 m)
-    (append-assoc (take 4 m) (take (slotLength * i) (drop 4 m)) (y ++ drop (4 + (slotLength * i + slotLength)) m))
+    let e : slotStart i + slotLength ≡ slotsAt + (slotLength * i + slotLength) = omega arith in
+    rw (e, take-add slotsAt (slotLength * i) m, drop-drop (slotLength * i + slotLength) slotsAt m)
+    (append-assoc (take slotsAt m) (take (slotLength * i) (drop slotsAt m)) (y ++ drop (slotsAt + (slotLength * i + slotLength)) m))
 
 pub put-length : (m y : List ℕ) (i : ℕ) → i < 16 → length m ≡ memoryLength → length y ≡ slotLength → length (putAt m i y) ≡ memoryLength
 put-length m y i h l k =
@@ -40,22 +40,22 @@ put-length m y i h l k =
     let c = length-append y (drop (slotStart i + slotLength) m) in
     length-append (take (slotStart i) m) (y ++ drop (slotStart i + slotLength) m) ∙ omega arith
 
-pub put-last-same : (m y : List ℕ) (i : ℕ) → 4 ≤ length m → wordAt Little (putAt m i y) 0 ≡ wordAt Little m 0
+pub put-last-same : (m y : List ℕ) (i : ℕ) → slotsAt ≤ length m → wordAt Little (putAt m i y) 0 ≡ wordAt Little m 0
 put-last-same m y i h =
-    let z = take (slotLength * i) (drop 4 m) ++ (y ++ drop (slotLength * i + slotLength) (drop 4 m)) in
-    sym (word-take (putAt m i y) 4 0 (omega arith))
-    ∙ ap (λ (b : List ℕ). wordAt Little b 0) (ap (take 4) (put-split m y i) ∙ take-at (take 4 m) z 4 (length-take-le 4 m h))
-    ∙ word-take m 4 0 (omega arith)
+    let z = take (slotLength * i) (drop slotsAt m) ++ (y ++ drop (slotLength * i + slotLength) (drop slotsAt m)) in
+    sym (word-take (putAt m i y) slotsAt 0 (omega arith))
+    ∙ ap (λ (b : List ℕ). wordAt Little b 0) (ap (take slotsAt) (put-split m y i) ∙ take-at (take slotsAt m) z slotsAt (length-take-le slotsAt m h))
+    ∙ word-take m slotsAt 0 (omega arith)
 
 pub put-again : (m y : List ℕ) (i : ℕ) → i < 16 → length m ≡ memoryLength → length y ≡ slotLength → stateOf (putAt m i y) ≡ putSlot (stateOf m) i (slotOf y)
 unfolding stateOf
 put-again m y i h l k =
-    let d = drop 4 m in
+    let d = drop slotsAt m in
     let z = take (slotLength * i) d ++ (y ++ drop (slotLength * i + slotLength) d) in
     let a : wordAt Little (putAt m i y) 0 ≡ wordAt Little m 0 = put-last-same m y i (omega arith) in
-    let b : drop 4 (putAt m i y) ≡ z = ap (drop 4) (put-split m y i) ∙ drop-at (take 4 m) z 4 (length-take-le 4 m (omega arith)) in
-    let c : map slotOf (parts slotLength 16 (drop 4 (putAt m i y))) ≡ set (map slotOf (parts slotLength 16 d)) i (slotOf y)
-    = rw (b, parts-put slotLength 16 d y i h k (omega (arith, length-drop 4 m))) (map-set slotOf (parts slotLength 16 d) i y) in
+    let b : drop slotsAt (putAt m i y) ≡ z = ap (drop slotsAt) (put-split m y i) ∙ drop-at (take slotsAt m) z slotsAt (length-take-le slotsAt m (omega arith)) in
+    let c : map slotOf (parts slotLength 16 (drop slotsAt (putAt m i y))) ≡ set (map slotOf (parts slotLength 16 d)) i (slotOf y)
+    = rw (b, parts-put slotLength 16 d y i h k (omega (arith, length-drop slotsAt m))) (map-set slotOf (parts slotLength 16 d) i y) in
     λ j. record { last = a j; slots = c j }
 
 -- ---- each slot changed in turn
@@ -72,40 +72,40 @@ cells-sweep f (suc n) d l =
 pub record Sweeping (f : Slot Tail → Slot Tail) (m₀ m : List ℕ) (i : ℕ) : Type 0 where
   pub below : i ≤ 16
   pub sized : length m ≡ memoryLength
-  pub left : memoryOf (mapped f (stateOf m₀)) ≡ take 4 m ++ swept (changed f) slotLength 16 i (drop 4 m)
+  pub left : memoryOf (mapped f (stateOf m₀)) ≡ take slotsAt m ++ swept (changed f) slotLength 16 i (drop slotsAt m)
 
 pub sweeping-begins : (f : Slot Tail → Slot Tail) (m : List ℕ) → ((i : ℕ) → getD m i 0 < 256) → length m ≡ memoryLength → Sweeping f m m 0
 unfolding memoryOf stateOf
 sweeping-begins f m b l =
-    let d = drop 4 m in
+    let d = drop slotsAt m in
     record {
       below = omega arith;
       sized = l;
       left =
-          ap₂ _++_ (word-first m (omega arith) b) (cells-sweep f 16 d (length-drop 4 m ∙ omega arith) ∙ sweep-begins (changed f) slotLength 16 d);
+          ap₂ _++_ (word-first m (omega arith) b) (cells-sweep f 16 d (length-drop slotsAt m ∙ omega arith) ∙ sweep-begins (changed f) slotLength 16 d);
     }
 
 pub sweeping-again : (f : Slot Tail → Slot Tail) (m₀ m u y : List ℕ) (i : ℕ) → Sweeping f m₀ m i → i < 16 → u ≡ putAt m i y
     → y ≡ changed f (take slotLength (drop (slotStart i) m)) → Sweeping f m₀ u (i + 1)
 sweeping-again f m₀ m u y i g h p e =
-    let d = drop 4 m in
+    let d = drop slotsAt m in
     let l : length m ≡ memoryLength = g .sized in
-    let k : length d ≡ (slotLength * 16) = length-drop 4 m ∙ omega arith in
-    let t : length (take 4 m) ≡ 4 = length-take-le 4 m (omega arith) in
+    let k : length d ≡ (slotLength * 16) = length-drop slotsAt m ∙ omega arith in
+    let t : length (take slotsAt m) ≡ slotsAt = length-take-le slotsAt m (omega arith) in
     let z = take (slotLength * i) d ++ (y ++ drop (slotLength * i + slotLength) d) in
-    let q : u ≡ take 4 m ++ z = p ∙ put-split m y i in
+    let q : u ≡ take slotsAt m ++ z = p ∙ put-split m y i in
     let ly : length y ≡ slotLength = ap length e ∙ slot-length (f (slotOf (take slotLength (drop (slotStart i) m)))) in
-    let ey : y ≡ changed f (take slotLength (drop (slotLength * i) d)) = rw (drop-drop (slotLength * i) 4 m) e in
+    let ey : y ≡ changed f (take slotLength (drop (slotLength * i) d)) = rw (drop-drop (slotLength * i) slotsAt m) e in
     let s = sweep-step (changed f) slotLength 16 (swept (changed f) slotLength 16 i d) d y i h (omega arith) ly refl ey in
     record {
       below = omega arith;
       sized = ap length p ∙ put-length m y i h l ly;
-      left = g .left ∙ rw (q, take-at (take 4 m) z 4 t, drop-at (take 4 m) z 4 t) (ap (λ (x : List ℕ). take 4 m ++ x) s);
+      left = g .left ∙ rw (q, take-at (take slotsAt m) z slotsAt t, drop-at (take slotsAt m) z slotsAt t) (ap (λ (x : List ℕ). take slotsAt m ++ x) s);
     }
 
 pub sweeping-ends : (f : Slot Tail → Slot Tail) (m₀ m : List ℕ) (i : ℕ) → Sweeping f m₀ m i → 16 ≤ i → m ≡ memoryOf (mapped f (stateOf m₀))
 sweeping-ends f m₀ m i g h =
-    sym (g .left ∙ ap (λ (z : List ℕ). take 4 m ++ z) (sweep-ends (changed f) slotLength 16 (drop 4 m) i h) ∙ take-append-drop 4 m)
+    sym (g .left ∙ ap (λ (z : List ℕ). take slotsAt m ++ z) (sweep-ends (changed f) slotLength 16 (drop slotsAt m) i h) ∙ take-append-drop slotsAt m)
 
 -- a slot freed, and then each changed
 pub swept-freed : (f : Slot Tail → Slot Tail) (m m₁ m₂ y : List ℕ) (i : ℕ) → i < 16 → length m ≡ memoryLength → y ≡ slotBytes free → m₁ ≡ putAt m i y

@@ -11,7 +11,7 @@ use Rattle.tables.specs.Tables.{cells, parts, tableBytes, tableOf}
 use Rattle.policy.specs.Names.{cellOf, nameOf}
 use Rattle.stream.specs.Tail.{Tail}
 use Rattle.rules.specs.State.{Pending, Peer, Slot, free, peer, State}
-use Rattle.memory.specs.Layout.{slotLength, gidsAt, gidWidth, gidRoom, pendingAt, callWidth, callRoom, namesAt, nameWidth, nameRoom, takenAt, headAt, headRoom}
+use Rattle.memory.specs.Layout.{slotLength, slotsAt, uidAt, gidsAt, gidWidth, gidRoom, pendingAt, callWidth, callRoom, namesAt, nameWidth, nameRoom, takenAt, headAt, firstByte, headRoom, restLength}
 
 -- ---- what a state is in bytes (rule 10.2)
 
@@ -25,13 +25,17 @@ headBytes h = wordBytes (length h) ++ pad headRoom h
 abbrev pub streamBytes : Tail → List ℕ
 streamBytes t = wordBytes (t .taken) ++ headBytes (t .head)
 
+-- what stands behind the stream (rule 10.5)
+unfoldable pub restBytes : List ℕ
+restBytes = replicate restLength 0
+
 unfoldable pub peerBytes : Peer Tail → List ℕ
 peerBytes p =
     wordBytes (p .number)
     ++ (wordBytes (p .uid)
     ++ (tableBytes gidWidth gidRoom wordBytes (p .gids)
     ++ (tableBytes callWidth callRoom pendingBytes (p .pending)
-    ++ (tableBytes nameWidth nameRoom cellOf (p .names) ++ streamBytes (p .stream)))))
+    ++ (tableBytes nameWidth nameRoom cellOf (p .names) ++ (streamBytes (p .stream) ++ restBytes)))))
 
 -- a free slot is zeros (rule 10.5)
 unfoldable pub slotBytes : Slot Tail → List ℕ
@@ -51,13 +55,13 @@ pendingOf b = record { callee = wordAt Little b 0; serial = wordAt Little b 4 }
 
 unfoldable pub slotTail : List ℕ → Tail
 slotTail b =
-    record { taken = wordAt Little b takenAt; head = take (min (wordAt Little b headAt) headRoom) (drop (headAt + 4) b) }
+    record { taken = wordAt Little b takenAt; head = take (min (wordAt Little b headAt) headRoom) (drop firstByte b) }
 
 unfoldable pub peerOf : List ℕ → Peer Tail
 peerOf b =
     record {
       number = wordAt Little b 0;
-      uid = wordAt Little b 4;
+      uid = wordAt Little b uidAt;
       gids = tableOf gidWidth gidRoom wordOf (drop gidsAt b);
       pending = tableOf callWidth callRoom pendingOf (drop pendingAt b);
       names = tableOf nameWidth nameRoom nameOf (drop namesAt b);
@@ -69,4 +73,4 @@ unfoldable pub slotOf : List ℕ → Slot Tail
 slotOf b = cond (eqb (wordAt Little b 0) 0) free (peer (peerOf b))
 
 unfoldable pub stateOf : List ℕ → State Tail
-stateOf m = record { last = wordAt Little m 0; slots = map slotOf (parts slotLength 16 (drop 4 m)) }
+stateOf m = record { last = wordAt Little m 0; slots = map slotOf (parts slotLength 16 (drop slotsAt m)) }

@@ -13,7 +13,7 @@ use Rattle.rules.specs.State.{Pending, Peer, Slot, free, peer, isPeer}
 use Rattle.rules.specs.Addresses.{ownable}
 use Rattle.rules.specs.Pending.{sameCall}
 use Rattle.rules.specs.Calls.{isOwner}
-use Rattle.memory.specs.Layout.{slotLength, memoryLength}
+use Rattle.memory.specs.Layout.{slotLength, memoryLength, slotsAt}
 use Rattle.memory.specs.Encoding.{slotBytes, slotOf, stateOf}
 
 -- none of the slots passes
@@ -60,4 +60,4 @@ plainSlots (b ∷ r) = same (slotBytes (slotOf b)) b && plainSlots r
 unfoldable pub good : List ℕ → Bool
 good m =
     eqb (length m) memoryLength
-    && (goodSlots (stateOf m .slots) (stateOf m .last) (stateOf m .slots) && plainSlots (parts slotLength 16 (drop 4 m)))
+    && (goodSlots (stateOf m .slots) (stateOf m .last) (stateOf m .slots) && plainSlots (parts slotLength 16 (drop slotsAt m)))

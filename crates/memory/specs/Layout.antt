@@ -16,9 +16,12 @@ callWidth = 8
 abbrev pub callRoom : ℕ
 callRoom = 16
 
--- a name behind its length byte
+-- the longest name, and a name behind its length byte
+abbrev pub nameLimit : ℕ
+nameLimit = 255
+
 abbrev pub nameWidth : ℕ
-nameWidth = 256
+nameWidth = 1 + nameLimit
 
 abbrev pub nameRoom : ℕ
 nameRoom = 4
@@ -38,9 +41,22 @@ pendingLength = 4 + callWidth * callRoom
 abbrev pub namesLength : ℕ
 namesLength = 4 + nameWidth * nameRoom
 
--- a stream: how many bytes were taken, how many of them are kept, and those
+abbrev pub keptLength : ℕ
+keptLength = 4 + headRoom
+
+-- a stream: how many bytes were taken, how many of them are kept as its head, and those; the last two at these places of it
+abbrev pub headOffset : ℕ
+headOffset = 4
+
+abbrev pub byteOffset : ℕ
+byteOffset = headOffset + 4
+
 abbrev pub streamLength : ℕ
-streamLength = 4 + (4 + headRoom)
+streamLength = headOffset + keptLength
+
+-- behind the stream: no byte yet; any that stand there are zero
+abbrev pub restLength : ℕ
+restLength = 0
 
 -- ---- places in a slot, whose first word is the peer's number
 
@@ -72,13 +88,16 @@ abbrev pub takenAt : ℕ
 takenAt = namesAt + namesLength
 
 abbrev pub headAt : ℕ
-headAt = takenAt + 4
+headAt = takenAt + headOffset
 
 abbrev pub firstByte : ℕ
 firstByte = headAt + 4
 
+abbrev pub restAt : ℕ
+restAt = takenAt + streamLength
+
 abbrev pub slotLength : ℕ
-slotLength = takenAt + streamLength
+slotLength = restAt + restLength
 
 -- ---- slots in memory
 

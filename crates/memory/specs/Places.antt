@@ -10,7 +10,7 @@ use Rattle.tables.specs.Tables.{tableOf}
 use Rattle.policy.specs.Names.{nameOf}
 use Rattle.stream.specs.Tail.{Tail}
 use Rattle.rules.specs.State.{Peer, Slot, State, firstBy}
-use Rattle.memory.specs.Layout.{slotLength, slotStart, gidsAt, gidWidth, gidRoom, pendingAt, callWidth, callRoom, namesAt, nameWidth, nameRoom, takenAt, headAt, firstByte, headRoom}
+use Rattle.memory.specs.Layout.{slotLength, slotStart, gidsAt, gidWidth, gidRoom, pendingAt, callWidth, callRoom, namesAt, nameWidth, nameRoom, takenAt, headAt, firstByte, headRoom, uidAt}
 use Rattle.memory.specs.Encoding.{wordOf, pendingOf, slotBytes, slotOf, stateOf}
 
 -- ---- the peer whose slot begins at a
@@ -22,7 +22,7 @@ abbrev pub peerFrom : List ℕ → ℕ → Peer Tail
 peerFrom m a =
     record {
       number = wordAt Little m a;
-      uid = wordAt Little m (a + 4);
+      uid = wordAt Little m (a + uidAt);
       gids = tableOf gidWidth gidRoom wordOf (drop (a + gidsAt) m);
       pending = tableOf callWidth callRoom pendingOf (drop (a + pendingAt) m);
       names = tableOf nameWidth nameRoom nameOf (drop (a + namesAt) m);

@@ -14,7 +14,7 @@ use Rattle.wire.proofs.Parts.{drop-take, drop-past, part-nested, cut-two}
 use Rattle.tables.proofs.Table.{table-take}
 use Rattle.rules.specs.State.{Pending, peer}
 use Rattle.rules.specs.Pending.{endedAll, bereft}
-use Rattle.memory.specs.Layout.{memoryLength, slotLength, slotStart, pendingAt, callWidth, callRoom, pendingLength, namesAt}
+use Rattle.memory.specs.Layout.{memoryLength, slotLength, slotStart, pendingAt, callWidth, callRoom, pendingLength, namesAt, slotsAt}
 use Rattle.memory.specs.Encoding.{pendingBytes, pendingOf, slotBytes, peerOf, slotOf, memoryOf, stateOf}
 use Rattle.memory.specs.Places.{numberAt, changed}
 use Rattle.memory.proofs.Reading.{sixteen, slot-at, part-peer, part-number}
@@ -125,7 +125,7 @@ module _ {m₀ m : List ℕ} {c i : ℕ} (b : Bereaving m₀ m c i) where
         let y = changed (bereft c) (take slotLength (drop a m)) in
         let ly : length y ≡ slotLength = slot-length (bereft c (slotOf (take slotLength (drop a m)))) in
         let s = sweeping-again (bereft c) m₀ m u y i (b .sweeping) h e refl in
-        let n : 4 + slotLength * (i + 1) ≡ a + slotLength = omega arith in
+        let n : slotsAt + slotLength * (i + 1) ≡ a + slotLength = omega arith in
         let r : drop (a + slotLength) u ≡ drop (a + slotLength) m₀
         = ap (drop (a + slotLength)) e
         ∙ drop-past (take a m) (y ++ drop (a + slotLength) m) a slotLength (length-take-le a m (omega arith))

@@ -13,7 +13,7 @@ use Rattle.policy.specs.Decisions.{mayConnect}
 use Rattle.stream.specs.Tail.{tails}
 use Rattle.rules.specs.State.{peer, isFree}
 use Rattle.rules.specs.Calls.{newcomer, connect, noConnect}
-use Rattle.memory.specs.Layout.{slotLength, slotStart, firstGid}
+use Rattle.memory.specs.Layout.{slotLength, slotStart, firstGid, gidWidth, gidRoom, slotsAt}
 use Rattle.memory.specs.Encoding.{slotBytes, stateOf}
 use Rattle.memory.specs.Sound.{Held}
 use Rattle.memory.specs.Calls.{stored, Did}
@@ -30,17 +30,17 @@ use Rattle.peers.proofs.Zeros.{zero-rest}
 use Rattle.peers.proofs.Found.{Octets, below, did-stay, free-part}
 
 -- a newcomer's bytes are what was written, and the zeros of the slot
-seat-bytes : (m gids : List ℕ) (a n u : ℕ) → length gids ≤ 16 → take slotLength (drop a m) ≡ replicate slotLength 0
-    → newBytes n u gids ++ drop (a + (12 + 4 * length gids)) m ≡ slotBytes (peer (newcomer tails n u gids)) ++ drop (a + slotLength) m
+seat-bytes : (m gids : List ℕ) (a n u : ℕ) → length gids ≤ gidRoom → take slotLength (drop a m) ≡ replicate slotLength 0
+    → newBytes n u gids ++ drop (a + (firstGid + gidWidth * length gids)) m ≡ slotBytes (peer (newcomer tails n u gids)) ++ drop (a + slotLength) m
 unfolding newBytes
 seat-bytes m gids a n u h e =
-    let k = 12 + 4 * length gids in
+    let k = firstGid + gidWidth * length gids in
     let x₁ = wordBytes n in
     let x₂ = wordBytes u in
     let x₃ = wordBytes (length gids) in
     let x₄ = cells wordBytes gids in
-    let f : slotLength - k ≡ (slotLength - firstGid) - 4 * length gids = omega arith in
-    let z = replicate {A = ℕ} ((slotLength - firstGid) - 4 * length gids) 0 in
+    let f : slotLength - k ≡ (slotLength - firstGid) - gidWidth * length gids = omega arith in
+    let z = replicate {A = ℕ} ((slotLength - firstGid) - gidWidth * length gids) 0 in
     let t = drop (a + slotLength) m in
     let r : drop (a + k) m ≡ z ++ t = zero-rest m a slotLength k (omega arith) e ∙ ap (λ (c : ℕ). replicate c 0 ++ t) f in
     let s : slotBytes (peer (newcomer tails n u gids)) ≡ (x₁ ++ (x₂ ++ (x₃ ++ x₄))) ++ z
@@ -53,8 +53,8 @@ seat-bytes m gids a n u h e =
 -- ---- the seat
 
 pub admit-seated : (m : List ℕ) → Octets m → (i n uid : ℕ) (gids m₁ m₂ : List ℕ) → Free m i gids
-    → m₁ ≡ take (slotStart i) m ++ (newBytes n uid gids ++ drop (slotStart i + (12 + 4 * length gids)) m)
-    → m₂ ≡ wordBytes n ++ drop 4 m₁
+    → m₁ ≡ take (slotStart i) m ++ (newBytes n uid gids ++ drop (slotStart i + (firstGid + gidWidth * length gids)) m)
+    → m₂ ≡ wordBytes n ++ drop slotsAt m₁
     → m₂ ≡ admitted m i n uid gids
 unfolding admitted
 admit-seated m f i n uid gids m₁ m₂ g e₁ e₂ =
@@ -62,13 +62,13 @@ admit-seated m f i n uid gids m₁ m₂ g e₁ e₂ =
     let x = peer (newcomer tails n uid gids) in
     let q : m₁ ≡ take a m ++ (slotBytes x ++ drop (a + slotLength) m)
     = e₁ ∙ ap (λ (y : List ℕ). take a m ++ y) (seat-bytes m gids a n uid (g .few) (g .zeros ∙ free-bytes)) in
-    e₂ ∙ ap (λ (y : List ℕ). wordBytes n ++ drop 4 y) q ∙ sym (seated m (below m f) (g .held .held) n i x (g .below))
+    e₂ ∙ ap (λ (y : List ℕ). wordBytes n ++ drop slotsAt y) q ∙ sym (seated m (below m f) (g .held .held) n i x (g .below))
 
 pub ruleset admitting = (admit-seated, needs)
 
 -- ---- 38, 39, and the seat
 
-pub enter-free : (m gids : List ℕ) (i : ℕ) → Held m → FoundSlot isFree m 0 i → (i ≡ 16 → ⊥) → length gids ≤ 16 → Free m i gids
+pub enter-free : (m gids : List ℕ) (i : ℕ) → Held m → FoundSlot isFree m 0 i → (i ≡ 16 → ⊥) → length gids ≤ gidRoom → Free m i gids
 enter-free m gids i g e q h =
     let b : i ≤ 16 = e .bound in
     let k : i < 16 = omega arith in
@@ -106,7 +106,7 @@ module _ (image m : List ℕ) (f : Octets m) (g : Held m) (uid : ℕ) (gids : Li
   unfolding connect
   connect-many h r d = did-stay m f g r (connect tails image (stateOf m) uid gids) (rw (lt-ltb 16 (length gids) h, d))
 
-  module _ (h : length gids ≤ 16) (b : Bool) (e : b ≡ mayConnect image (record { 0 = uid }) gids) where
+  module _ (h : length gids ≤ gidRoom) (b : Bool) (e : b ≡ mayConnect image (record { 0 = uid }) gids) where
     pub connect-denied : not b ≡ true → (r : Connected) → r ≡ noConnect 36 → Did (stored (connect tails image (stateOf m) uid gids)) r m
     unfolding connect
     connect-denied t r d =

@@ -21,7 +21,7 @@ use Rattle.policy.specs.declared.Uid.{Uid}
 use Rattle.rules.specs.State.{isPeer}
 use Rattle.rules.specs.Addresses.{ownable}
 use Rattle.rules.specs.Calls.{isOwner, own}
-use Rattle.memory.specs.Layout.{memoryLength, slotStart, namesAt, firstName, nameWidth, nameRoom, namesLength}
+use Rattle.memory.specs.Layout.{memoryLength, slotStart, namesAt, firstName, nameWidth, nameRoom, namesLength, nameLimit, uidAt}
 use Rattle.memory.specs.Encoding.{stateOf}
 use Rattle.memory.specs.Sound.{Held}
 use Rattle.memory.specs.Calls.{stored, Did}
@@ -44,7 +44,7 @@ pub may-own-front : (image : List ℕ) (uid : Uid) (gids : List ℕ) (count : �
     → r ≡ mayOwn image uid (take (count - 0) gids) name → r ≡ mayOwn image uid (take count gids) name
 may-own-front image uid gids count name r e = e ∙ rw (sub-zero count)
 
-pub may-own-is : (image m name : List ℕ) (i u : ℕ) (g : Gids) (r : Bool) → GidsOf m i g → u ≡ wordAt Little m (slotStart i + 4)
+pub may-own-is : (image m name : List ℕ) (i u : ℕ) (g : Gids) (r : Bool) → GidsOf m i g → u ≡ wordAt Little m (slotStart i + uidAt)
     → r ≡ mayOwn image (record { 0 = u }) (take (g .count) (g .list)) name
     → r ≡ mayOwn image (record { 0 = peerAt m i .uid }) (peerAt m i .gids) name
 may-own-is image m name i u g r h e q = q ∙ rw (h .are, e)
@@ -57,8 +57,8 @@ module _ (m y name : List ℕ) (at : ℕ) (g : Naming m at name) where
   pub name-room : at + 1 + length name ≤ length (set m at (length name))
   name-room =
       let s : length m ≡ memoryLength = g .sized in
-      let k : length name ≤ 255 = g .short in
-      let r : at + 256 ≤ memoryLength = g .room in
+      let k : length name ≤ nameLimit = g .short in
+      let r : at + nameWidth ≤ memoryLength = g .room in
       rw (length-set m at (length name)) (omega arith)
 
   pub name-put : y ≡ name
@@ -67,7 +67,7 @@ module _ (m y name : List ℕ) (at : ℕ) (g : Naming m at name) where
   unfolding nameBytes
   name-put e =
       let s : length m ≡ memoryLength = g .sized in
-      let r : at + 256 ≤ memoryLength = g .room in
+      let r : at + nameWidth ≤ memoryLength = g .room in
       let n = length name in
       let u = set m at n in
       let t : take (at + 1) u ≡ take at m ++ (n ∷ []) = rw add-one (take-suc-set m at n (omega arith)) in
@@ -82,8 +82,8 @@ module _ (m y name : List ℕ) (at : ℕ) (g : Naming m at name) where
   unfolding nameBytes
   name-sized e =
       let s : length m ≡ memoryLength = g .sized in
-      let k : length name ≤ 255 = g .short in
-      let r : at + 256 ≤ memoryLength = g .room in
+      let k : length name ≤ nameLimit = g .short in
+      let r : at + nameWidth ≤ memoryLength = g .room in
       ap length (name-put e) ∙ put-sized m (nameBytes name) at (1 + length name) (omega arith) (omega arith)
 
 pub ruleset naming = (name-room, name-put, name-sized, needs)
@@ -98,9 +98,9 @@ module _ (m : List ℕ) (f : Octets m) (i : ℕ) (g : Seated m i) (name : List �
   unfolding granted
   grant-full l = did-stay m f (g .held) 34 (granted m i name) (rw (many, le-leb 4 n l))
 
-  module _ (l : n < 4) where
+  module _ (l : n < nameRoom) where
     -- the cell behind those in use is zero
-    room : take 256 (drop (slotStart i + firstName + nameWidth * n) m) ≡ replicate 256 0
+    room : take nameWidth (drop (slotStart i + firstName + nameWidth * n) m) ≡ replicate nameWidth 0
     room =
         let a = slotStart i in
         let k = 4 + nameWidth * n in
@@ -115,11 +115,11 @@ module _ (m : List ℕ) (f : Octets m) (i : ℕ) (g : Seated m i) (name : List �
         = ap (λ (c : ℕ). drop k (take c d)) s
         ∙ drop-take k x d
         ∙ ap (take x) (drop-drop k (a + namesAt) m ∙ ap (λ (c : ℕ). drop c m) t) in
-        sym (take-take 256 x (drop (a + firstName + nameWidth * n) m) (omega arith))
-        ∙ ap (take 256) (sym y ∙ z)
-        ∙ take-zeros 256 x (omega arith)
+        sym (take-take nameWidth x (drop (a + firstName + nameWidth * n) m) (omega arith))
+        ∙ ap (take nameWidth) (sym y ∙ z)
+        ∙ take-zeros nameWidth x (omega arith)
 
-    pub grant-done : length name ≤ 255 → (m₁ m₂ : List ℕ)
+    pub grant-done : length name ≤ nameLimit → (m₁ m₂ : List ℕ)
         → m₁ ≡ take (slotStart i + firstName + nameWidth * n) m ++ (nameBytes name ++ drop (slotStart i + firstName + nameWidth * n + (1 + length name)) m)
         → m₂ ≡ take (slotStart i + namesAt) m₁ ++ (wordBytes (n + 1) ++ drop (slotStart i + namesAt + 4) m₁)
         → Did (stored (granted m i name)) 0 m₂
@@ -127,12 +127,12 @@ module _ (m : List ℕ) (f : Octets m) (i : ℕ) (g : Seated m i) (name : List �
     grant-done k m₁ m₂ e₁ e₂ =
         let c = slotStart i + firstName + nameWidth * n in
         let u = length name in
-        let t = drop (c + 256) m in
-        let v : 256 - (1 + u) ≡ 255 - u = omega arith in
-        let z = replicate {A = ℕ} (255 - u) 0 in
-        let y : drop (c + (1 + u)) m ≡ z ++ t = zero-rest m c 256 (1 + u) (omega arith) room ∙ ap (λ (x : ℕ). replicate x 0 ++ t) v in
+        let t = drop (c + nameWidth) m in
+        let v : nameWidth - (1 + u) ≡ nameLimit - u = omega arith in
+        let z = replicate {A = ℕ} (nameLimit - u) 0 in
+        let y : drop (c + (1 + u)) m ≡ z ++ t = zero-rest m c nameWidth (1 + u) (omega arith) room ∙ ap (λ (x : ℕ). replicate x 0 ++ t) v in
         let p : nameBytes name ++ (z ++ t) ≡ cellOf name ++ t
-        = ap (λ (x : List ℕ). u ∷ x) (sym (append-assoc name z t) ∙ ap (λ (x : List ℕ). x ++ t) (sym (pad-fits 255 name k))) in
+        = ap (λ (x : List ℕ). u ∷ x) (sym (append-assoc name z t) ∙ ap (λ (x : List ℕ). x ++ t) (sym (pad-fits nameLimit name k))) in
         let e₃ : m₁ ≡ take c m ++ (cellOf name ++ t)
         = e₁ ∙ ap (λ (x : List ℕ). take c m ++ (nameBytes name ++ x)) y ∙ ap (λ (x : List ℕ). take c m ++ x) p in
         let w = name-appended m (below m f) (g .held) i (g .below) (g .some) name m₁ m₂ n c (sym many) l refl e₃ e₂ in
@@ -155,7 +155,7 @@ pub ruleset claiming = (claim-granted, claim-other, needs)
 
 -- ---- 30, 31, 32, and 0 for a name that the peer has
 
-pub own-short : (name : List ℕ) (b : Bool) → b ≡ ownable name → not b ≡ false → length name ≤ 255
+pub own-short : (name : List ℕ) (b : Bool) → b ≡ ownable name → not b ≡ false → length name ≤ nameLimit
 own-short name b e t = ownable-short name (sym e ∙ not-false b t)
 
 module _ (image m : List ℕ) (f : Octets m) (g : Held m) (n i : ℕ) (e : FoundSlot (isPeer n) m 0 i) (name : List ℕ) where

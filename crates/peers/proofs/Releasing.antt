@@ -49,19 +49,19 @@ module _ (m : List ℕ) (f : Octets m) (i : ℕ) (g : Seated m i) (name : List �
   give-none h = did-stay m f (g .held) 35 (givenUp m i name) (rw (owned, le-ltb j n h))
 
   module _ (h : j < n) where
-    pub give-table : Cell (take (slotStart i + namesAt + namesLength - (slotStart i + namesAt)) (drop (slotStart i + namesAt) m)) (4 + nameWidth * j) 256 (4 + nameWidth * n)
+    pub give-table : Cell (take (slotStart i + namesAt + namesLength - (slotStart i + namesAt)) (drop (slotStart i + namesAt) m)) (4 + nameWidth * j) nameWidth (4 + nameWidth * n)
     give-table = part-cell nameWidth nameRoom j n m (slotStart i + namesAt) (omega (arith, g .sized, g .below)) (omega (arith, counted m i g .fewNames)) h
 
     pub give-done : (t : List ℕ)
         → t
         ≡ wordBytes (n - 1)
-        ++ cutOut 256 (nameWidth * n) (nameWidth * j) (drop 4 (take (slotStart i + namesAt + namesLength - (slotStart i + namesAt)) (drop (slotStart i + namesAt) m)))
+        ++ cutOut nameWidth (nameWidth * n) (nameWidth * j) (drop 4 (take (slotStart i + namesAt + namesLength - (slotStart i + namesAt)) (drop (slotStart i + namesAt) m)))
         → Did (stored (givenUp m i name)) 0
         (take (slotStart i + namesAt) m ++ (t ++ drop (slotStart i + namesAt + namesLength - (slotStart i + namesAt)) (drop (slotStart i + namesAt) m)))
     unfolding givenUp
     give-done t et =
         let ns = peerAt m i .names in
-        let few : n ≤ 4 = omega (arith, counted m i g .fewNames) in
+        let few : n ≤ nameRoom = omega (arith, counted m i g .fewNames) in
         let o : released name ns ≡ without j ns = released-without name ns ∙ ap (λ (k : ℕ). without k ns) (sym place) in
         let z = remove-written nameWidth nameRoom cellOf cell-length ns j m t (slotStart i + namesAt) n
         (names-stand m (below m f) (g .held) i (g .below) (g .some)) (sym many) few h et

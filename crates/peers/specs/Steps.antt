@@ -11,7 +11,7 @@ use Rattle.rules.specs.State.{free, peer, isFree, firstBy, putSlot, withNames}
 use Rattle.rules.specs.Pending.{bereft}
 use Rattle.rules.specs.Calls.{Step, stays, newcomer, connectAt, ownNew, released}
 use Rattle.rules.specs.declared.Connected.{Connected}
-use Rattle.memory.specs.Layout.{slotStart, memoryLength, slotLength}
+use Rattle.memory.specs.Layout.{slotStart, memoryLength, slotLength, gidRoom}
 use Rattle.memory.specs.Encoding.{slotBytes, slotOf, memoryOf, stateOf}
 use Rattle.memory.specs.Sound.{Held}
 use Rattle.memory.specs.Places.{putAt, changed, mapped}
@@ -24,7 +24,7 @@ pub record Free (m : List ℕ) (i : ℕ) (gids : List ℕ) : Type 0 where
   pub sized : length m ≡ memoryLength
   pub held : Held m
   pub below : i < 16
-  pub few : length gids ≤ 16
+  pub few : length gids ≤ gidRoom
   pub zeros : take slotLength (drop (slotStart i) m) ≡ slotBytes free
 
 -- a peer in slot i, whose number is the last

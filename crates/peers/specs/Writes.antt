@@ -5,7 +5,7 @@ use Prim.Native.Nat.{ℕ, _+_, _≤_}
 use lib.ListN.{length}
 use Rattle.wire.specs.Words.{wordBytes}
 use Rattle.tables.specs.Tables.{cells}
-use Rattle.memory.specs.Layout.{memoryLength}
+use Rattle.memory.specs.Layout.{memoryLength, nameLimit, nameWidth}
 
 -- what is written of a peer that connects
 unfoldable pub newBytes : ℕ → ℕ → List ℕ → List ℕ
@@ -18,5 +18,5 @@ nameBytes name = length name ∷ name
 -- a name has room at `at`
 pub record Naming (m : List ℕ) (at : ℕ) (name : List ℕ) : Type 0 where
   pub sized : length m ≡ memoryLength
-  pub short : length name ≤ 255
-  pub room : at + 256 ≤ memoryLength
+  pub short : length name ≤ nameLimit
+  pub room : at + nameWidth ≤ memoryLength

@@ -1,9 +1,14 @@
 // The calls about peers and their names, on a good image and good memory: connect, own, release, disconnect.
+use memory::CALL_WIDTH;
 use memory::FIRST_GID;
 use memory::FIRST_NAME;
+use memory::GID_ROOM;
 use memory::GIDS_AT;
+use memory::NAME_WIDTH;
 use memory::NAMES_AT;
+use memory::NAMES_LENGTH;
 use memory::PENDING_AT;
+use memory::PENDING_LENGTH;
 use memory::SLOT_LENGTH;
 use memory::SLOTS_AT;
 use memory::TAKEN_AT;
@@ -24,7 +29,7 @@ ghost use Rattle.policy.specs.Decisions.{mayOwn};
 ghost use Rattle.stream.specs.Tail.{tails};
 ghost use Rattle.rules.specs.Pending.{endedAll};
 ghost use Rattle.rules.specs.Calls.{connect, own, release, disconnect};
-ghost use Rattle.memory.specs.Layout.{memoryLength, slotStart, callWidth, callRoom, pendingLength};
+ghost use Rattle.memory.specs.Layout.{memoryLength, slotStart, firstGid, gidWidth, gidRoom, callWidth, callRoom, pendingLength, nameLimit};
 ghost use Rattle.memory.specs.Encoding.{pendingBytes, pendingOf, stateOf};
 ghost use Rattle.memory.specs.Sound.{Held};
 ghost use Rattle.memory.specs.Calls.{stored, Did};
@@ -36,8 +41,8 @@ ghost use Rattle.peers.specs.Steps.{Free, admitted, entered, PlainSlot, 
 
 // Writes a peer's number, uid and gids in slot i, where zeros stand.
 fn seat(memory: &mut [u8], i: usize, number: u32, uid: u32, gids: &[u32])
-    requires { ⌜ (At (now memory) i) × (length (now gids) ≤ 16) ⌝ }
-    ensures { λ r. ⌜ now (memory .exit) ≡ take (slotStart i) (now (memory .entry)) ++ (newBytes number uid (now (gids .entry)) ++ drop (slotStart i + (12 + 4 * length (now (gids .entry)))) (now (memory .entry))) ⌝ }
+    requires { ⌜ (At (now memory) i) × (length (now gids) ≤ gidRoom) ⌝ }
+    ensures { λ r. ⌜ now (memory .exit) ≡ take (slotStart i) (now (memory .entry)) ++ (newBytes number uid (now (gids .entry)) ++ drop (slotStart i + (firstGid + gidWidth * length (now (gids .entry)))) (now (memory .entry))) ⌝ }
 {
     let at = SLOTS_AT + SLOT_LENGTH * i;
     wire::put_u32(memory, at, number);
@@ -57,7 +62,7 @@ fn admit(memory: &mut [u8], i: usize, number: u32, uid: u32, gids: &[u32])
 
 // Gives the lowest free slot and the next number: 38, 39.
 fn enter(memory: &mut [u8], uid: u32, gids: &[u32]) -> Connected
-    requires { ⌜ (Held (now memory)) × (length (now gids) ≤ 16) ⌝ }
+    requires { ⌜ (Held (now memory)) × (length (now gids) ≤ gidRoom) ⌝ }
     ensures { λ r. ⌜ Did (stored (entered (now (memory .entry)) uid (now (gids .entry)))) r (now (memory .exit)) ⌝ }
 {
     let slot = slots::find_free(memory);
@@ -100,9 +105,9 @@ fn end_calls(table: &mut [u8], callee: u32)
     let mut n = wire::u32_at(Order::Little, table, 0);
     let mut j: u32 = 0;
     while j < n {
-        let at = 8 * (j as usize);
+        let at = CALL_WIDTH * (j as usize);
         if wire::u32_at(Order::Little, table, 4 + at) == callee {
-            tables::remove(table, at, 8, 8 * (n as usize), n - 1);
+            tables::remove(table, at, CALL_WIDTH, CALL_WIDTH * (n as usize), n - 1);
             n -= 1;
             continue;
         }
@@ -119,7 +124,7 @@ fn end_at(memory: &mut [u8], i: usize, callee: u32)
         return;
     }
     let at = SLOTS_AT + SLOT_LENGTH * i + PENDING_AT;
-    let end = at + 132;
+    let end = at + PENDING_LENGTH;
     end_calls(&mut memory[at..end], callee);
 }
 
@@ -163,8 +168,8 @@ pub fn disconnect(memory: &mut [u8], peer: u32) -> Gone
 // ---- own
 
 // The policy lets a peer of this uid and the first `count` of these gids own the name.
-fn may_own_as(image: &[u8], uid: Uid, gids: [u32; 16], count: usize, name: &[u8]) -> bool
-    requires { ⌜ (GoodImage (now image)) × (count ≤ 16) ⌝ }
+fn may_own_as(image: &[u8], uid: Uid, gids: [u32; GID_ROOM], count: usize, name: &[u8]) -> bool
+    requires { ⌜ (GoodImage (now image)) × (count ≤ gidRoom) ⌝ }
     ensures { λ r. ⌜ r ≡ mayOwn (now (image .entry)) uid (take count gids) (now (name .entry)) ⌝ }
 {
     decide::may_own(image, uid, &gids[0..count], name)
@@ -195,7 +200,7 @@ fn put_name(memory: &mut [u8], at: usize, name: &[u8])
 
 // Gives the name, which is nobody's, to the peer of slot i: 34.
 fn grant(memory: &mut [u8], i: usize, name: &[u8]) -> u8
-    requires { ⌜ (Seated (now memory) i) × (length (now name) ≤ 255) ⌝ }
+    requires { ⌜ (Seated (now memory) i) × (length (now name) ≤ nameLimit) ⌝ }
     ensures { λ r. ⌜ Did (stored (granted (now (memory .entry)) i (now (name .entry)))) r (now (memory .exit)) ⌝ }
 {
     let n = slots::word_at(memory, i, NAMES_AT);
@@ -204,7 +209,7 @@ fn grant(memory: &mut [u8], i: usize, name: &[u8]) -> u8
     }
     put_name(
         memory,
-        SLOTS_AT + SLOT_LENGTH * i + FIRST_NAME + 256 * (n as usize),
+        SLOTS_AT + SLOT_LENGTH * i + FIRST_NAME + NAME_WIDTH * (n as usize),
         name,
     );
     wire::put_u32(memory, SLOTS_AT + SLOT_LENGTH * i + NAMES_AT, n + 1);
@@ -213,7 +218,7 @@ fn grant(memory: &mut [u8], i: usize, name: &[u8]) -> u8
 
 // Gives the name, which is not its own, to the peer of slot i: 33, 34.
 fn claim(memory: &mut [u8], i: usize, name: &[u8]) -> u8
-    requires { ⌜ (Seated (now memory) i) × (length (now name) ≤ 255) ⌝ }
+    requires { ⌜ (Seated (now memory) i) × (length (now name) ≤ nameLimit) ⌝ }
     ensures { λ r. ⌜ Did (stored (claimed (now (memory .entry)) i (now (name .entry)))) r (now (memory .exit)) ⌝ }
 {
     if 16 <= slots::find_owner(memory, name, 0) {
@@ -256,12 +261,12 @@ fn give_up(memory: &mut [u8], i: usize, name: &[u8]) -> u8
         return 35;
     }
     let at = SLOTS_AT + SLOT_LENGTH * i + NAMES_AT;
-    let end = at + 1028;
+    let end = at + NAMES_LENGTH;
     tables::remove(
         &mut memory[at..end],
-        256 * j,
-        256,
-        256 * (n as usize),
+        NAME_WIDTH * j,
+        NAME_WIDTH,
+        NAME_WIDTH * (n as usize),
         n - 1,
     );
     0

@@ -23,7 +23,7 @@ use Rattle.stream.specs.Tail.{Tail, tails, closed, fresh, goodTail}
 use Rattle.stream.proofs.Good.{fresh-good, open-more}
 use Rattle.stream.proofs.Pushes.{offer-whole}
 use Rattle.rules.specs.State.{Peer, Slot, free, peer, State, putSlot, withStream}
-use Rattle.memory.specs.Layout.{memoryLength, slotStart, takenAt, firstByte, headRoom, streamLength}
+use Rattle.memory.specs.Layout.{memoryLength, slotStart, takenAt, firstByte, headRoom, streamLength, headOffset, byteOffset}
 use Rattle.memory.specs.Encoding.{headBytes, streamBytes, memoryOf, stateOf}
 use Rattle.memory.specs.Sound.{Sound}
 use Rattle.memory.proofs.Frame.{memory-length}
@@ -65,11 +65,11 @@ module _ (m : List ℕ) (i : ℕ) (l : length m ≡ memoryLength) (h : i < 16) (
       let v = wordBytes (length (t .head)) in
       let d = pad headRoom (t .head) in
       let r = drop (b + streamLength) m in
-      let e : slotStart i + firstByte ≡ b + 8 = omega arith in
+      let e : slotStart i + firstByte ≡ b + byteOffset = omega arith in
       rw e
-      (drop-past (take b m) (streamBytes t ++ r) b 8 before
-      ∙ ap (drop 8) (append-assoc w (v ++ d) r ∙ ap (λ (z : List ℕ). w ++ z) (append-assoc v d r))
-      ∙ drop-past w (v ++ (d ++ r)) 4 4 (word-length (t .taken))
+      (drop-past (take b m) (streamBytes t ++ r) b byteOffset before
+      ∙ ap (drop byteOffset) (append-assoc w (v ++ d) r ∙ ap (λ (z : List ℕ). w ++ z) (append-assoc v d r))
+      ∙ drop-past w (v ++ (d ++ r)) headOffset 4 (word-length (t .taken))
       ∙ drop-at v (d ++ r) 4 (word-length (length (t .head))))
 
   module _ (n : ℕ) (k : n ≤ headRoom) where

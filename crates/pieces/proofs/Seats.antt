@@ -20,14 +20,14 @@ use Rattle.stream.specs.Tail.{Tail, tails, closed, fresh, goodTail}
 use Rattle.stream.specs.Contracts.{tailOf, GoodTail}
 use Rattle.stream.specs.declared.Advance.{Advance}
 use Rattle.rules.specs.State.{free, peer, putSlot, withStream}
-use Rattle.memory.specs.Layout.{memoryLength, slotStart, takenAt, headAt, firstByte, headRoom, streamLength}
+use Rattle.memory.specs.Layout.{memoryLength, slotStart, takenAt, headAt, firstByte, headRoom, streamLength, headOffset, byteOffset}
 use Rattle.memory.specs.Encoding.{headBytes, streamBytes, memoryOf, stateOf}
 use Rattle.memory.specs.Sound.{Sound}
 use Rattle.memory.proofs.Reading.{slot-peer}
 use Rattle.memory.proofs.Held.{held-peer, held-counted, Counted}
 use Rattle.memory.proofs.Fields.{stream-bytes}
 use Rattle.memory.proofs.Good.{good-sound}
-use Rattle.memory.proofs.Puts.{stream-put}
+use Rattle.memory.proofs.Puts.{part-of, stream-put}
 use Rattle.sound.proofs.Kept.{Fine}
 use Rattle.sound.proofs.Put.{peer-fine}
 use Rattle.slots.specs.Slots.{peerAt, Seated}
@@ -53,18 +53,18 @@ module _ (m : List ℕ) (f : (j : ℕ) → Fits w8 (getD m j 0)) (i : ℕ) (s : 
   -- the bytes of its stream
   part-is : take streamLength (drop (slotStart i + takenAt) m) ≡ streamBytes (peerAt m i .stream)
   part-is =
-      sym (drop-take takenAt streamLength (drop (slotStart i) m) ∙ rw (drop-drop takenAt (slotStart i) m))
-      ∙ ap (drop takenAt) (held-peer m i (s .held) (s .below) (s .some))
+      sym (part-of m (slotStart i) takenAt streamLength (omega arith))
+      ∙ ap (λ (z : List ℕ). take streamLength (drop takenAt z)) (held-peer m i (s .held) (s .below) (s .some))
       ∙ stream-bytes (peerAt m i)
 
   stream-in : streamIn (take streamLength (drop (slotStart i + takenAt) m)) ≡ peerAt m i .stream
   stream-in =
       let b = slotStart i + takenAt in
       let p : b + 0 ≡ slotStart i + takenAt = omega arith in
-      let q : b + 4 ≡ slotStart i + headAt = omega arith in
-      let r : b + 8 ≡ slotStart i + firstByte = omega arith in
+      let q : b + headOffset ≡ slotStart i + headAt = omega arith in
+      let r : b + byteOffset ≡ slotStart i + firstByte = omega arith in
       let n = min (wordAt Little m (slotStart i + headAt)) headRoom in
-      rw (word-part m b streamLength 0 (omega arith), p, word-part m b streamLength 4 (omega arith), q, drop-take 8 headRoom (drop b m), drop-drop 8 b m, r)
+      rw (word-part m b streamLength 0 (omega arith), p, word-part m b streamLength headOffset (omega arith), q, drop-take byteOffset headRoom (drop b m), drop-drop byteOffset b m, r)
       (ap (λ (h : List ℕ). record { taken = wordAt Little m (slotStart i + takenAt); head = h }) (take-take n headRoom (drop (slotStart i + firstByte) m) (omega arith)))
 
   pub opens-at : closed (peerAt m i .stream) ≡ false → Opens (take (slotStart i + takenAt + streamLength - (slotStart i + takenAt)) (drop (slotStart i + takenAt) m))
@@ -134,17 +134,17 @@ zeros-more m b k w e =
 
 -- zeros written over the counts of a stream and its head, where zeros stand behind it
 pub settled-at : (m z : List ℕ) (i n : ℕ) → length m ≡ memoryLength → i < 16 → n ≤ headRoom → behindIn m i n ≡ replicate (headRoom - n) 0
-    → z ≡ replicate (length (take (slotStart i + takenAt + (8 + n) - (slotStart i + takenAt)) (drop (slotStart i + takenAt) m))) 0
-    → take (slotStart i + takenAt) m ++ (z ++ drop (slotStart i + takenAt + (8 + n) - (slotStart i + takenAt)) (drop (slotStart i + takenAt) m)) ≡ cleared m i
+    → z ≡ replicate (length (take (slotStart i + takenAt + (byteOffset + n) - (slotStart i + takenAt)) (drop (slotStart i + takenAt) m))) 0
+    → take (slotStart i + takenAt) m ++ (z ++ drop (slotStart i + takenAt + (byteOffset + n) - (slotStart i + takenAt)) (drop (slotStart i + takenAt) m)) ≡ cleared m i
 settled-at m z i n h k s o q =
     let b = slotStart i + takenAt in
-    let l : length (take (b + (8 + n) - b) (drop b m)) ≡ 8 + n
-    = ap length (cut-at b (8 + n) m) ∙ length-take-le (8 + n) (drop b m) (omega (arith, length-drop b m)) in
-    let d : slotStart i + firstByte + n ≡ b + (8 + n) = omega arith in
-    let u : 8 + n + (headRoom - n) ≡ streamLength = omega arith in
-    let v : b + (8 + n) + (headRoom - n) ≡ b + streamLength = omega arith in
-    let x : replicate (8 + n) 0 ++ drop (b + (8 + n)) m ≡ replicate streamLength 0 ++ drop (b + streamLength) m
-    = rw (u, v) at (zeros-more m b (8 + n) (headRoom - n) (rw d at o)) in
-    put-at b (8 + n) m z ∙ rw (q, l, x)
+    let l : length (take (b + (byteOffset + n) - b) (drop b m)) ≡ byteOffset + n
+    = ap length (cut-at b (byteOffset + n) m) ∙ length-take-le (byteOffset + n) (drop b m) (omega (arith, length-drop b m)) in
+    let d : slotStart i + firstByte + n ≡ b + (byteOffset + n) = omega arith in
+    let u : byteOffset + n + (headRoom - n) ≡ streamLength = omega arith in
+    let v : b + (byteOffset + n) + (headRoom - n) ≡ b + streamLength = omega arith in
+    let x : replicate (byteOffset + n) 0 ++ drop (b + (byteOffset + n)) m ≡ replicate streamLength 0 ++ drop (b + streamLength) m
+    = rw (u, v) at (zeros-more m b (byteOffset + n) (headRoom - n) (rw d at o)) in
+    put-at b (byteOffset + n) m z ∙ rw (q, l, x)
 
 pub ruleset seats = (opens-at, fed-at, closed-at, closed-is, settled-at, needs)

@@ -16,13 +16,13 @@ use Rattle.stream.specs.Tail.{Tail, closed, goodTail}
 use Rattle.stream.specs.Contracts.{verdictOf}
 use Rattle.stream.specs.declared.Advance.{Advance}
 use Rattle.rules.specs.State.{peer, putSlot, withStream}
-use Rattle.memory.specs.Layout.{memoryLength, slotStart, takenAt, firstByte, headRoom, streamLength}
+use Rattle.memory.specs.Layout.{memoryLength, slotStart, takenAt, firstByte, headRoom, streamLength, headOffset, byteOffset}
 use Rattle.memory.specs.Encoding.{streamBytes, memoryOf, stateOf}
 use Rattle.slots.specs.Slots.{peerAt, Seated}
 
 -- the stream that its bytes in a slot say
 abbrev pub streamIn : List ℕ → Tail
-streamIn x = record { taken = wordAt Little x 0; head = take (min (wordAt Little x 4) headRoom) (drop 8 x) }
+streamIn x = record { taken = wordAt Little x 0; head = take (min (wordAt Little x headOffset) headRoom) (drop byteOffset x) }
 
 -- x is the bytes of a good open stream
 pub record Opens (x : List ℕ) : Type 0 where

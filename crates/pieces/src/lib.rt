@@ -1,10 +1,14 @@
 // A piece offered to a peer's stream, on good memory and under a good image.
 use header::Header;
 use header::Reading;
+use memory::BYTE_OFFSET;
 use memory::FIRST_BYTE;
 use memory::HEAD_AT;
+use memory::HEAD_OFFSET;
+use memory::HEAD_ROOM;
 use memory::SLOT_LENGTH;
 use memory::SLOTS_AT;
+use memory::STREAM_LENGTH;
 use memory::TAKEN_AT;
 use rules::Judgement;
 use rules::Receiver;
@@ -37,12 +41,12 @@ fn feed(bytes: &mut [u8], piece: &[u8]) -> Advance
 {
     let s = Stream {
         taken: wire::u32_at(Order::Little, bytes, 0) as usize,
-        stored: wire::u32_at(Order::Little, bytes, 4) as usize,
+        stored: wire::u32_at(Order::Little, bytes, HEAD_OFFSET) as usize,
     };
-    let a = s.advance(&mut bytes[8..2056], piece);
+    let a = s.advance(&mut bytes[BYTE_OFFSET..STREAM_LENGTH], piece);
     let after = a.stream;
     wire::put_u32(bytes, 0, after.taken as u32);
-    wire::put_u32(bytes, 4, after.stored as u32);
+    wire::put_u32(bytes, HEAD_OFFSET, after.stored as u32);
     a
 }
 
@@ -52,7 +56,7 @@ fn feed_at(memory: &mut [u8], i: usize, piece: &[u8]) -> Advance
     ensures { λ r. ⌜ FedAt (now (memory .entry)) i (offer tails (peerAt (now (memory .entry)) i .stream) (now (piece .entry))) r (now (memory .exit)) ⌝ }
 {
     let from = SLOTS_AT + SLOT_LENGTH * i + TAKEN_AT;
-    let to = from + 2056;
+    let to = from + STREAM_LENGTH;
     feed(&mut memory[from..to], piece)
 }
 
@@ -66,7 +70,7 @@ fn is_closed_at(memory: &[u8], i: usize) -> bool
         stored: slots::word_at(memory, i, HEAD_AT) as usize,
     };
     let from = SLOTS_AT + SLOT_LENGTH * i + FIRST_BYTE;
-    let to = from + 2048;
+    let to = from + HEAD_ROOM;
     s.is_closed(&memory[from..to])
 }
 
@@ -76,16 +80,16 @@ fn settle_at(memory: &mut [u8], i: usize, n: usize)
     ensures { λ r. ⌜ now (memory .exit) ≡ cleared (now (memory .entry)) i ⌝ }
 {
     let from = SLOTS_AT + SLOT_LENGTH * i + TAKEN_AT;
-    let end = from + (8 + n);
+    let end = from + (BYTE_OFFSET + n);
     wire::wipe(&mut memory[from..end]);
 }
 
 // A copy of the first n bytes of the head that slot i keeps.
-fn head_of(memory: &[u8], i: usize, n: usize) -> [u8; 2048]
+fn head_of(memory: &[u8], i: usize, n: usize) -> [u8; HEAD_ROOM]
     requires { ⌜ (length (now memory) ≡ memoryLength) × (i < 16) × (n ≤ headRoom) ⌝ }
     ensures { λ r. ⌜ take n r ≡ headIn (now (memory .entry)) i n ⌝ }
 {
-    let mut head = [0u8; 2048];
+    let mut head = [0u8; HEAD_ROOM];
     let from = SLOTS_AT + SLOT_LENGTH * i + FIRST_BYTE;
     let to = from + n;
     wire::copy(&mut head[0..n], &memory[from..to]);

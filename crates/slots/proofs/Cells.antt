@@ -17,18 +17,18 @@ use Rattle.wire.proofs.Parts.{drop-take}
 use Rattle.policy.specs.Names.{nameOf, owns}
 use Rattle.rules.specs.State.{firstBy}
 use Rattle.rules.proofs.First.{first-any}
-use Rattle.memory.specs.Layout.{slotStart, pendingAt, firstCallee, firstSerial, callWidth, namesAt, firstName, nameWidth}
+use Rattle.memory.specs.Layout.{slotStart, pendingAt, firstCallee, firstSerial, callWidth, namesAt, firstName, nameWidth, callRoom, nameLimit, nameRoom}
 use Rattle.memory.proofs.Reading.{name-next, pending-next, names-many, pending-many}
 use Rattle.slots.specs.Slots.{peerAt, nameAt}
 
 -- the length of a name is the byte in front of its cell
-pub cell-front : (m : List ℕ) (a : ℕ) → front (take 256 (drop a m)) ≡ getD m a 0
-cell-front m a = getD-take 256 (drop a m) 0 0 (omega arith) ∙ getD-drop a m 0 0 ∙ rw add-zero
+pub cell-front : (m : List ℕ) (a : ℕ) → front (take nameWidth (drop a m)) ≡ getD m a 0
+cell-front m a = getD-take nameWidth (drop a m) 0 0 (omega arith) ∙ getD-drop a m 0 0 ∙ rw add-zero
 
 -- the name ends inside the cell
-cell-name : (m : List ℕ) (a : ℕ) → getD m a 0 < 256 → nameOf (take 256 (drop a m)) ≡ take (getD m a 0) (drop (a + 1) m)
+cell-name : (m : List ℕ) (a : ℕ) → getD m a 0 < 256 → nameOf (take nameWidth (drop a m)) ≡ take (getD m a 0) (drop (a + 1) m)
 cell-name m a h =
-    rw (cell-front m a, drop-take 1 255 (drop a m), drop-drop 1 a m) (take-take (getD m a 0) 255 (drop (a + 1) m) (omega arith))
+    rw (cell-front m a, drop-take 1 nameLimit (drop a m), drop-drop 1 a m) (take-take (getD m a 0) nameLimit (drop (a + 1) m) (omega arith))
 
 pub names-next : (m : List ℕ) (i j : ℕ) → j < length (peerAt m i .names) → getD m (slotStart i + firstName + nameWidth * j) 0 < 256
     → drop j (peerAt m i .names) ≡ nameAt m i j ∷ drop (j + 1) (peerAt m i .names)
@@ -44,10 +44,10 @@ calls-next m i j h =
     pending-next m (slotStart i) j h ∙ rw (k, o)
 
 -- how many they are
-pub names-counted : (m : List ℕ) (i n r : ℕ) → n ≡ wordAt Little m (slotStart i + namesAt) → r ≡ min n 4 → r ≡ length (peerAt m i .names)
+pub names-counted : (m : List ℕ) (i n r : ℕ) → n ≡ wordAt Little m (slotStart i + namesAt) → r ≡ min n nameRoom → r ≡ length (peerAt m i .names)
 names-counted m i n r e c = c ∙ rw e (sym (names-many m (slotStart i)))
 
-pub pending-counted : (m : List ℕ) (i n r : ℕ) → n ≡ wordAt Little m (slotStart i + pendingAt) → r ≡ min n 16 → r ≡ length (peerAt m i .pending)
+pub pending-counted : (m : List ℕ) (i n r : ℕ) → n ≡ wordAt Little m (slotStart i + pendingAt) → r ≡ min n callRoom → r ≡ length (peerAt m i .pending)
 pending-counted m i n r e c = c ∙ rw e (sym (pending-many m (slotStart i)))
 
 pub ruleset counting = (names-counted, pending-counted, needs)

@@ -9,31 +9,31 @@ use lib.Seq.{take-suc-set, append-snoc}
 use borrow.Author.Needs.{needs}
 use Rattle.wire.specs.Words.{wordAt}
 use Rattle.wire.specs.declared.Order.the-variants.{Little}
-use Rattle.memory.specs.Layout.{slotStart, gidsAt, firstGid}
+use Rattle.memory.specs.Layout.{slotStart, gidsAt, firstGid, gidWidth, gidRoom}
 use Rattle.slots.specs.Slots.{peerAt}
 use Rattle.memory.proofs.Reading.{gid-next, gids-many}
 
 -- k of the gids are copied, and the rest stands in memory
 pub record Gathering (m : List ℕ) (i count : ℕ) (list : List ℕ) (k : ℕ) : Type 0 where
-  pub few : count ≤ 16
-  pub sized : length list ≡ 16
+  pub few : count ≤ gidRoom
+  pub sized : length list ≡ gidRoom
   pub inside : k ≤ count
   pub long : length (peerAt m i .gids) ≡ count
   pub left : take k list ++ drop k (peerAt m i .gids) ≡ peerAt m i .gids
 
-pub gathering-begins : {m : List ℕ} {i count n : ℕ} {list : List ℕ} → n ≡ wordAt Little m (slotStart i + gidsAt) → count ≡ min n 16 → length list ≡ 16
+pub gathering-begins : {m : List ℕ} {i count n : ℕ} {list : List ℕ} → n ≡ wordAt Little m (slotStart i + gidsAt) → count ≡ min n gidRoom → length list ≡ gidRoom
     → Gathering m i count list 0
 gathering-begins {m} {i} e c l =
     record { few = omega arith; sized = l; inside = omega arith; long = gids-many m (slotStart i) ∙ rw (← e) (sym c); left = refl }
 
 module _ {m : List ℕ} {i count : ℕ} {list : List ℕ} {k : ℕ} (g : Gathering m i count list k) where
-  pub gathering-more : k < count → {x : ℕ} → x ≡ wordAt Little m (slotStart i + (12 + 4 * k)) → Gathering m i count (set list k x) (k + 1)
+  pub gathering-more : k < count → {x : ℕ} → x ≡ wordAt Little m (slotStart i + (firstGid + gidWidth * k)) → Gathering m i count (set list k x) (k + 1)
   gathering-more h {x} e =
-      let s : length list ≡ 16 = g .sized in
-      let f : count ≤ 16 = g .few in
+      let s : length list ≡ gidRoom = g .sized in
+      let f : count ≤ gidRoom = g .few in
       let r = drop (k + 1) (peerAt m i .gids) in
       let u : take (k + 1) (set list k x) ≡ take k list ++ (x ∷ []) = rw add-one (take-suc-set list k x (omega arith)) in
-      let o : slotStart i + firstGid + 4 * k ≡ slotStart i + (12 + 4 * k) = omega arith in
+      let o : slotStart i + firstGid + gidWidth * k ≡ slotStart i + (firstGid + gidWidth * k) = omega arith in
       let d : drop k (peerAt m i .gids) ≡ x ∷ r = gid-next m (slotStart i) k (omega (arith, g .long)) ∙ rw (o, e) in
       record {
         few = f;

@@ -13,7 +13,7 @@ use Rattle.wire.proofs.Words.{cut-at}
 use Rattle.policy.specs.Names.{owns}
 use Rattle.rules.specs.State.{firstBy}
 use Rattle.rules.specs.Calls.{slotAt, isOwner}
-use Rattle.memory.specs.Layout.{slotStart, firstName, nameWidth}
+use Rattle.memory.specs.Layout.{slotStart, firstName, nameWidth, nameRoom}
 use Rattle.memory.specs.Encoding.{stateOf}
 use Rattle.memory.specs.Places.{numberAt}
 use Rattle.memory.proofs.Reading.{slot-free, slot-peer}
@@ -23,11 +23,11 @@ use Rattle.slots.proofs.Cells.{names-next, name-byte, before, owns-firs
 
 -- the search from name `from` on has come to name j of `count`
 pub record Looking (m : List ℕ) (i : ℕ) (name : List ℕ) (from count j : ℕ) : Type 0 where
-  pub few : count ≤ 4
+  pub few : count ≤ nameRoom
   pub counted : count ≡ length (peerAt m i .names)
   pub left : namePlace m i name from ≡ namePlace m i name j
 
-pub looking-begins : {m : List ℕ} {i from : ℕ} {name : List ℕ} {count : ℕ} → count ≡ length (peerAt m i .names) → count ≤ 4
+pub looking-begins : {m : List ℕ} {i from : ℕ} {name : List ℕ} {count : ℕ} → count ≡ length (peerAt m i .names) → count ≤ nameRoom
     → Looking m i name from count from
 looking-begins e h = record { few = h; counted = e; left = refl }
 

@@ -12,19 +12,19 @@ use Rattle.wire.specs.Words.{wordAt}
 use Rattle.wire.specs.declared.Order.the-variants.{Little}
 use Rattle.rules.specs.State.{firstBy}
 use Rattle.rules.specs.Pending.{isCall}
-use Rattle.memory.specs.Layout.{slotStart, firstCallee, firstSerial, callWidth}
+use Rattle.memory.specs.Layout.{slotStart, firstCallee, firstSerial, callWidth, callRoom}
 use Rattle.slots.specs.Slots.{peerAt, CallAt}
 use Rattle.slots.proofs.Cells.{calls-next}
 
 -- the call is looked for from `from` on, and the search has come to call j of `count`
 pub record Seeking (m : List ℕ) (i callee serial from count j : ℕ) : Type 0 where
-  pub few : count ≤ 16
+  pub few : count ≤ callRoom
   pub long : length (peerAt m i .pending) ≡ count
   pub inside : j ≤ count
   pub left : from + firstBy (isCall callee serial) (drop from (peerAt m i .pending))
       ≡ j + firstBy (isCall callee serial) (drop j (peerAt m i .pending))
 
-pub seeking-begins : {m : List ℕ} {i callee serial from count : ℕ} → count ≡ length (peerAt m i .pending) → count ≤ 16
+pub seeking-begins : {m : List ℕ} {i callee serial from count : ℕ} → count ≡ length (peerAt m i .pending) → count ≤ callRoom
     → from ≤ length (peerAt m i .pending)
     → Seeking m i callee serial from count from
 seeking-begins e f h = record { few = f; long = sym e; inside = rw e h; left = refl }

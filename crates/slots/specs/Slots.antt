@@ -7,7 +7,7 @@ use Rattle.wire.specs.Bytes.{same}
 use Rattle.stream.specs.Tail.{Tail}
 use Rattle.rules.specs.State.{Peer, firstBy}
 use Rattle.rules.specs.Pending.{isCall}
-use Rattle.memory.specs.Layout.{memoryLength, slotStart, firstName, nameWidth}
+use Rattle.memory.specs.Layout.{memoryLength, slotStart, gidRoom, firstName, nameWidth}
 use Rattle.memory.specs.Sound.{Held}
 use Rattle.memory.specs.Places.{numberAt, peerFrom}
 use Rattle.slots.specs.declared.Gids.{Gids}
@@ -38,7 +38,7 @@ pub record Seated (m : List ℕ) (i : ℕ) : Type 0 where
 
 -- the gids of slot i stand in front of the list
 pub record GidsOf (m : List ℕ) (i : ℕ) (r : Gids) : Type 0 where
-  pub few : r .count ≤ 16
+  pub few : r .count ≤ gidRoom
   pub are : take (r .count) (r .list) ≡ peerAt m i .gids
 
 -- r is the first of the pending calls of slot i from `from` on that is for this callee and serial, or how many there are

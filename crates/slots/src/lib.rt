@@ -1,9 +1,15 @@
 // Readings of the guard's memory: the words of a slot, and which slot a peer has.
+use memory::CALL_ROOM;
+use memory::CALL_WIDTH;
 use memory::FIRST_CALLEE;
 use memory::FIRST_GID;
 use memory::FIRST_NAME;
 use memory::FIRST_SERIAL;
+use memory::GID_ROOM;
+use memory::GID_WIDTH;
 use memory::GIDS_AT;
+use memory::NAME_ROOM;
+use memory::NAME_WIDTH;
 use memory::NAMES_AT;
 use memory::PENDING_AT;
 use memory::SLOT_LENGTH;
@@ -18,14 +24,14 @@ ghost use Rattle.rules.specs.State.{isFree, isPeer};
 ghost use Rattle.rules.specs.Calls.{slotAt, isOwner};
 ghost use Rattle.wire.specs.Bytes.{same};
 ghost use Rattle.policy.specs.Names.{owns};
-ghost use Rattle.memory.specs.Layout.{memoryLength, slotLength, slotStart, firstName, nameWidth};
+ghost use Rattle.memory.specs.Layout.{memoryLength, slotLength, slotStart, callRoom, firstName, nameWidth, nameRoom};
 ghost use Rattle.memory.specs.Encoding.{stateOf};
 ghost use Rattle.memory.specs.Places.{numberAt, FoundSlot};
 ghost use Rattle.slots.specs.Slots.{peerAt, nameAt, namePlace, At, GidsOf, CallAt};
 
 // A peer's gids: the first `count` of the list.
 pub struct Gids {
-    pub list: [u32; 16],
+    pub list: [u32; GID_ROOM],
     pub count: usize,
 }
 
@@ -91,11 +97,11 @@ pub fn gids_at(memory: &[u8], i: usize) -> Gids
     requires { ⌜ At (now memory) i ⌝ }
     ensures { λ r. ⌜ GidsOf (now (memory .entry)) i r ⌝ }
 {
-    let mut list = [0u32; 16];
-    let count = wire::least(word_at(memory, i, GIDS_AT) as usize, 16);
+    let mut list = [0u32; GID_ROOM];
+    let count = wire::least(word_at(memory, i, GIDS_AT) as usize, GID_ROOM);
     let mut k = 0;
     while k < count {
-        list[k] = word_at(memory, i, FIRST_GID + 4 * k);
+        list[k] = word_at(memory, i, FIRST_GID + GID_WIDTH * k);
         k += 1;
     }
     Gids { list, count }
@@ -104,25 +110,25 @@ pub fn gids_at(memory: &[u8], i: usize) -> Gids
 // How many names slot i has.
 pub fn count_names(memory: &[u8], i: usize) -> usize
     requires { ⌜ At (now memory) i ⌝ }
-    ensures { λ r. ⌜ (r ≡ length (peerAt (now (memory .entry)) i .names)) × (r ≤ 4) ⌝ }
+    ensures { λ r. ⌜ (r ≡ length (peerAt (now (memory .entry)) i .names)) × (r ≤ nameRoom) ⌝ }
 {
-    wire::least(word_at(memory, i, NAMES_AT) as usize, 4)
+    wire::least(word_at(memory, i, NAMES_AT) as usize, NAME_ROOM)
 }
 
 // How many pending calls slot i has.
 pub fn count_pending(memory: &[u8], i: usize) -> usize
     requires { ⌜ At (now memory) i ⌝ }
-    ensures { λ r. ⌜ (r ≡ length (peerAt (now (memory .entry)) i .pending)) × (r ≤ 16) ⌝ }
+    ensures { λ r. ⌜ (r ≡ length (peerAt (now (memory .entry)) i .pending)) × (r ≤ callRoom) ⌝ }
 {
-    wire::least(word_at(memory, i, PENDING_AT) as usize, 16)
+    wire::least(word_at(memory, i, PENDING_AT) as usize, CALL_ROOM)
 }
 
 // Name j of slot i is this one.
 fn is_name(memory: &[u8], i: usize, j: usize, name: &[u8]) -> bool
-    requires { ⌜ (length (now memory) ≡ memoryLength) × (i < 16) × (j < 4) ⌝ }
+    requires { ⌜ (length (now memory) ≡ memoryLength) × (i < 16) × (j < nameRoom) ⌝ }
     ensures { λ r. ⌜ (r ≡ same (nameAt (now (memory .entry)) i j) (now (name .entry))) × (getD (now (memory .entry)) (slotStart i + firstName + nameWidth * j) 0 < 256) ⌝ }
 {
-    let at = SLOTS_AT + SLOT_LENGTH * i + FIRST_NAME + 256 * j;
+    let at = SLOTS_AT + SLOT_LENGTH * i + FIRST_NAME + NAME_WIDTH * j;
     let from = at + 1;
     let to = from + wire::wide(memory[at]) as usize;
     wire::equal(&memory[from..to], name)
@@ -187,8 +193,8 @@ pub fn find_pending(memory: &[u8], i: usize, callee: u32, serial: u32, from: usi
     let count = count_pending(memory, i);
     let mut j = from;
     while j < count {
-        if (word_at(memory, i, FIRST_CALLEE + 8 * j) == callee)
-            & (word_at(memory, i, FIRST_SERIAL + 8 * j) == serial)
+        if (word_at(memory, i, FIRST_CALLEE + CALL_WIDTH * j) == callee)
+            & (word_at(memory, i, FIRST_SERIAL + CALL_WIDTH * j) == serial)
         {
             return j;
         }

@@ -13,8 +13,5 @@ is-table-spec =
     (λ c. search tables)
     (λ c κs. search tables)
     (λ c. search tables)
-    (λ c. search tables)
-    (λ c κs. search tables)
-    (λ c. search tables)
     (λ c κs. search tables)
     (λ c. search tables))
