@@ -22,7 +22,8 @@ use Rattle.tables.proofs.Same.{same-zeros, same-split, table-same, plain-always
 use Rattle.policy.specs.Names.{cellOf, nameOf}
 use Rattle.stream.specs.Tail.{Tail}
 use Rattle.rules.specs.State.{Slot, free, peer}
-use Rattle.memory.specs.Layout.{memoryLength, slotLength, slotStart, gidsAt, gidWidth, gidRoom, gidsLength, pendingAt, callWidth, callRoom, pendingLength, namesAt, firstName, nameWidth, nameRoom, namesLength, takenAt, headAt, firstByte, headRoom, keptLength, restLength, uidAt, restAt}
+use Rattle.memory.specs.Layout.{memoryLength, slotLength, slotStart, gidsAt, gidWidth, gidRoom, gidsLength, pendingAt, callWidth, callRoom, pendingLength, namesAt}
+use Rattle.memory.specs.Layout.{firstName, nameWidth, nameRoom, namesLength, takenAt, headAt, firstByte, headRoom, keptLength, restLength, uidAt, restAt}
 use Rattle.memory.specs.Encoding.{pendingBytes, headBytes, restBytes, peerBytes, slotBytes, wordOf, pendingOf, slotOf}
 use Rattle.memory.specs.Places.{peerFrom}
 use Rattle.memory.proofs.Reading.{slot-take, peer-from}
@@ -67,7 +68,8 @@ module _ (m : List ℕ) (f : (i : ℕ) → getD m i 0 < 256) where
         ∙ rw d
 
     -- where any cell is plain, the zeros alone are left to test
-    table-plain : ((b : List ℕ) → length b ≡ w → ((i : ℕ) → getD b i 0 < 256) → enc (dec b) ≡ b) → (c to : ℕ) → to ≡ c + (4 + w * k) → k < 4294967296 → to ≤ length m
+    table-plain : ((b : List ℕ) → length b ≡ w → ((i : ℕ) → getD b i 0 < 256) → enc (dec b) ≡ b) → (c to : ℕ) → to ≡ c + (4 + w * k) → k < 4294967296
+        → to ≤ length m
         → same (tableBytes w k enc (tableOf w k dec (drop c m))) (take (4 + w * k) (drop c m)) ≡ tableTest m c w k to
     unfolding tableTest
     table-plain always c to e s h = table-cells c s (omega arith) ∙ go (decLe (wordAt Little m c) k)
@@ -112,7 +114,8 @@ unfolding tableTest
 zeros-on m c w k t u h o = go (decLe (wordAt Little m c) k)
   where
     go : Dec (wordAt Little m c ≤ k)
-        → leb (wordAt Little m c) k && allZero (take (t - (c + 4 + w * wordAt Little m c)) (drop (c + 4 + w * wordAt Little m c) m)) && allZero (take (u - t) (drop t m))
+        → leb (wordAt Little m c) k && allZero (take (t - (c + 4 + w * wordAt Little m c)) (drop (c + 4 + w * wordAt Little m c) m))
+        && allZero (take (u - t) (drop t m))
         ≡ leb (wordAt Little m c) k && allZero (take (u - (c + 4 + w * wordAt Little m c)) (drop (c + 4 + w * wordAt Little m c) m))
     go (yes b) =
         let n = wordAt Little m c in
@@ -131,7 +134,8 @@ module _ (m : List ℕ) (f : (i : ℕ) → getD m i 0 < 256) (a : ℕ) (h : a + 
   head-plain : same (headBytes (take (min (wordAt Little m (a + headAt)) headRoom) (drop (a + firstByte) m))) (take keptLength (drop (a + headAt) m))
       ≡ tableTest m (a + headAt) 1 headRoom (a + restAt)
   head-plain =
-      ap (λ (z : List ℕ). same z (take keptLength (drop (a + headAt) m))) (ap headBytes (sym head-is) ∙ head-table (tableOf 1 headRoom front (drop (a + headAt) m)))
+      ap (λ (z : List ℕ). same z (take keptLength (drop (a + headAt) m)))
+      (ap headBytes (sym head-is) ∙ head-table (tableOf 1 headRoom front (drop (a + headAt) m)))
       ∙ table-plain m f 1 headRoom single single-length front single-plain (a + headAt) (a + restAt) (omega arith) (omega arith) (omega arith)
 
   rest-plain : same restBytes (take restLength (drop (a + restAt) m)) ≡ allZero (take (a + slotLength - (a + restAt)) (drop (a + restAt) m))
@@ -141,7 +145,8 @@ module _ (m : List ℕ) (f : (i : ℕ) → getD m i 0 < 256) (a : ℕ) (h : a + 
       rw e (zeros-same restLength (drop (a + restAt) m) (omega (arith, length-drop (a + restAt) m)))
 
   -- the head and what stands behind it
-  end-plain : same (headBytes (take (min (wordAt Little m (a + headAt)) headRoom) (drop (a + firstByte) m)) ++ restBytes) (take (slotLength - headAt) (drop (a + headAt) m))
+  end-plain : same (headBytes (take (min (wordAt Little m (a + headAt)) headRoom) (drop (a + firstByte) m)) ++ restBytes)
+      (take (slotLength - headAt) (drop (a + headAt) m))
       ≡ tableTest m (a + headAt) 1 headRoom (a + slotLength)
   end-plain =
       let t = headBytes (take (min (wordAt Little m (a + headAt)) headRoom) (drop (a + firstByte) m)) in
@@ -153,7 +158,8 @@ module _ (m : List ℕ) (f : (i : ℕ) → getD m i 0 < 256) (a : ℕ) (h : a + 
   pub peer-plain : same (peerBytes (peerFrom m a)) (take slotLength (drop a m))
       ≡ tableTest m (a + gidsAt) gidWidth gidRoom (a + pendingAt)
       && (tableTest m (a + pendingAt) callWidth callRoom (a + namesAt)
-      && ((leb (wordAt Little m (a + namesAt)) nameRoom && plainCells cellOf nameOf nameWidth (wordAt Little m (a + namesAt)) (take (nameWidth * nameRoom) (drop (a + firstName) m)))
+      && ((leb (wordAt Little m (a + namesAt)) nameRoom
+      && plainCells cellOf nameOf nameWidth (wordAt Little m (a + namesAt)) (take (nameWidth * nameRoom) (drop (a + firstName) m)))
       && tableTest m (a + headAt) 1 headRoom (a + slotLength)))
   unfolding peerBytes
   peer-plain =
@@ -172,15 +178,20 @@ module _ (m : List ℕ) (f : (i : ℕ) → getD m i 0 < 256) (a : ℕ) (h : a + 
       word-same m f (wordBytes (wordAt Little m (a + uidAt)) ++ (g ++ (p ++ (n ++ s)))) a slotLength (omega arith) (omega arith)
       ∙ word-same m f (g ++ (p ++ (n ++ s))) (a + uidAt) (slotLength - uidAt) (omega arith) (omega arith)
       ∙ rw u
-      (same-part g (p ++ (n ++ s)) m (a + gidsAt) gidsLength (slotLength - gidsAt) (table-length gidWidth gidRoom wordBytes (tableOf gidWidth gidRoom wordOf (drop (a + gidsAt) m))) (omega arith)
+      (same-part g (p ++ (n ++ s)) m (a + gidsAt) gidsLength (slotLength - gidsAt)
+      (table-length gidWidth gidRoom wordBytes (tableOf gidWidth gidRoom wordOf (drop (a + gidsAt) m))) (omega arith)
       ∙ rw (v, table-plain m f gidWidth gidRoom wordBytes word-length wordOf bytes-again (a + gidsAt) (a + pendingAt) (omega arith) (omega arith) (omega arith))
       (ap (λ (b : Bool). tableTest m (a + gidsAt) gidWidth gidRoom (a + pendingAt) && b)
-      (same-part p (n ++ s) m (a + pendingAt) pendingLength (slotLength - pendingAt) (table-length callWidth callRoom pendingBytes (tableOf callWidth callRoom pendingOf (drop (a + pendingAt) m))) (omega arith)
-      ∙ rw (w, table-plain m f callWidth callRoom pendingBytes pending-length pendingOf pending-again (a + pendingAt) (a + namesAt) (omega arith) (omega arith) (omega arith))
+      (same-part p (n ++ s) m (a + pendingAt) pendingLength (slotLength - pendingAt)
+      (table-length callWidth callRoom pendingBytes (tableOf callWidth callRoom pendingOf (drop (a + pendingAt) m))) (omega arith)
+      ∙ rw (w, table-plain m f callWidth callRoom pendingBytes pending-length pendingOf pending-again (a + pendingAt) (a + namesAt) (omega arith) (omega arith)
+      (omega arith))
       (ap (λ (b : Bool). tableTest m (a + pendingAt) callWidth callRoom (a + namesAt) && b)
-      (same-part n s m (a + namesAt) namesLength (slotLength - namesAt) (table-length nameWidth nameRoom cellOf (tableOf nameWidth nameRoom nameOf (drop (a + namesAt) m))) (omega arith)
+      (same-part n s m (a + namesAt) namesLength (slotLength - namesAt)
+      (table-length nameWidth nameRoom cellOf (tableOf nameWidth nameRoom nameOf (drop (a + namesAt) m))) (omega arith)
       ∙ rw (x, table-cells m f nameWidth nameRoom cellOf cell-length nameOf (a + namesAt) (omega arith) (omega arith), z)
-      (ap (λ (b : Bool). (leb (wordAt Little m (a + namesAt)) nameRoom && plainCells cellOf nameOf nameWidth (wordAt Little m (a + namesAt)) (take (nameWidth * nameRoom) (drop (a + firstName) m))) && b)
+      (ap (λ (b : Bool). (leb (wordAt Little m (a + namesAt)) nameRoom
+      && plainCells cellOf nameOf nameWidth (wordAt Little m (a + namesAt)) (take (nameWidth * nameRoom) (drop (a + firstName) m))) && b)
       (ap (λ (l : List ℕ). same l (take (slotLength - takenAt) (drop (a + takenAt) m))) (append-assoc k t restBytes)
       ∙ word-same m f (t ++ restBytes) (a + takenAt) (slotLength - takenAt) (omega arith) (omega arith)
       ∙ rw y end-plain)))))))
@@ -201,7 +212,8 @@ slot-plain m f l i h e =
     ap (λ (x : Slot Tail). same (slotBytes x) (take slotLength (drop a m))) q
     ∙ peer-plain m f a (omega arith)
     ∙ and-assoc (tableTest m (a + gidsAt) gidWidth gidRoom (a + pendingAt)) (tableTest m (a + pendingAt) callWidth callRoom (a + namesAt))
-    (leb (wordAt Little m (a + namesAt)) nameRoom && plainCells cellOf nameOf nameWidth (wordAt Little m (a + namesAt)) (take (nameWidth * nameRoom) (drop (a + firstName) m)))
+    (leb (wordAt Little m (a + namesAt)) nameRoom
+    && plainCells cellOf nameOf nameWidth (wordAt Little m (a + namesAt)) (take (nameWidth * nameRoom) (drop (a + firstName) m)))
     (tableTest m (a + headAt) 1 headRoom (a + slotLength))
 
 -- a free slot is all zero

@@ -70,14 +70,18 @@ module _ (m : List ℕ) (a b : ℕ) (e : b ≡ getD m a 0) (s : b < 256) (l : a 
   cell-split [] h = absurd (omega arith)
   cell-split (x ∷ c) h = refl
 
-  pub cell-plain : same (cellOf (nameOf (take nameWidth (drop a m)))) (take nameWidth (drop a m)) ≡ allZero (take (a + nameWidth - (a + 1 + b)) (drop (a + 1 + b) m))
+  pub cell-plain : same (cellOf (nameOf (take nameWidth (drop a m)))) (take nameWidth (drop a m))
+      ≡ allZero (take (a + nameWidth - (a + 1 + b)) (drop (a + 1 + b) m))
   cell-plain =
       let k : a + nameWidth - (a + 1 + b) ≡ nameLimit - b = omega arith in
       cell-split (take nameWidth (drop a m)) (rw (length-take nameWidth (drop a m)) (omega (arith, length-drop a m)))
-      ∙ rw (front-is, rest, name-length, eq-eqb b b refl, same-pad b nameLimit (take nameLimit (drop (a + 1) m)) rest-length, k, drop-part b nameLimit (nameLimit - b) (drop (a + 1) m) (omega arith), drop-drop b (a + 1) m)
+      ∙ rw (front-is, rest, name-length, eq-eqb b b refl, same-pad b nameLimit (take nameLimit (drop (a + 1) m)) rest-length, k,
+      drop-part b nameLimit (nameLimit - b) (drop (a + 1) m) (omega arith), drop-drop b (a + 1) m)
 
-pub cell-is : (m : List ℕ) (i j b : ℕ) (r : Bool) → length m ≡ memoryLength → i < 16 → j < nameRoom → b ≡ getD m (slotStart i + firstName + nameWidth * j) 0 → b < 256
-    → r ≡ allZero (take (slotStart i + firstName + nameWidth * j + nameWidth - (slotStart i + firstName + nameWidth * j + 1 + b)) (drop (slotStart i + firstName + nameWidth * j + 1 + b) m))
+pub cell-is : (m : List ℕ) (i j b : ℕ) (r : Bool) → length m ≡ memoryLength → i < 16 → j < nameRoom → b ≡ getD m (slotStart i + firstName + nameWidth * j) 0
+    → b < 256
+    → r ≡ allZero (take (slotStart i + firstName + nameWidth * j + nameWidth - (slotStart i + firstName + nameWidth * j + 1 + b))
+    (drop (slotStart i + firstName + nameWidth * j + 1 + b) m))
     → r ≡ plainCell m i j
 unfolding plainCell
 cell-is m i j b r l h k e s z = z ∙ sym (cell-plain m (slotStart i + firstName + nameWidth * j) b e s (omega arith))
@@ -113,7 +117,8 @@ module _ {m : List ℕ} {i n j : ℕ} (l : Celling m i n j) where
         rw (drop-part (nameWidth * j) (nameWidth * nameRoom) ((nameWidth * nameRoom) - nameWidth * j) (drop (slotStart i + firstName) m) (omega arith), drop-drop (nameWidth * j) (slotStart i + firstName) m)
         (take-take nameWidth ((nameWidth * nameRoom) - nameWidth * j) (drop (slotStart i + firstName + nameWidth * j) m) (omega arith))
 
-    step : plainCells cellOf nameOf nameWidth (n - j) (drop (nameWidth * j) (region m i)) ≡ plainCell m i j && plainCells cellOf nameOf nameWidth (n - (j + 1)) (drop (nameWidth * (j + 1)) (region m i))
+    step : plainCells cellOf nameOf nameWidth (n - j) (drop (nameWidth * j) (region m i))
+        ≡ plainCell m i j && plainCells cellOf nameOf nameWidth (n - (j + 1)) (drop (nameWidth * (j + 1)) (region m i))
     unfolding plainCell
     step =
         let k : nameWidth * j + nameWidth ≡ nameWidth * (j + 1) = omega arith in

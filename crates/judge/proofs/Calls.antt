@@ -44,13 +44,15 @@ pub ruleset beginning = (call-began, needs)
 
 -- call k stands in the cells
 pub call-cell : (m : List ℕ) (i n k : ℕ) → Seated m i → n ≤ callRoom → k < n
-    → Cell (take (slotStart i + pendingAt + pendingLength - (slotStart i + pendingAt)) (drop (slotStart i + pendingAt) m)) (4 + callWidth * k) callWidth (4 + callWidth * n)
+    → Cell (take (slotStart i + pendingAt + pendingLength - (slotStart i + pendingAt)) (drop (slotStart i + pendingAt) m)) (4 + callWidth * k) callWidth
+    (4 + callWidth * n)
 call-cell m i n k p f l = part-cell callWidth callRoom k n m (slotStart i + pendingAt) (omega (arith, p .sized, p .below)) f l
 
 pub call-ended : (m t : List ℕ) (i n k : ℕ) → Seated m i → n ≡ length (peerAt m i .pending) → n ≤ callRoom → k < n → ((j : ℕ) → Fits w8 (getD m j 0))
     → t
     ≡ wordBytes (n - 1)
-    ++ cutOut callWidth (callWidth * n) (callWidth * k) (drop 4 (take (slotStart i + pendingAt + pendingLength - (slotStart i + pendingAt)) (drop (slotStart i + pendingAt) m)))
+    ++ cutOut callWidth (callWidth * n) (callWidth * k)
+    (drop 4 (take (slotStart i + pendingAt + pendingLength - (slotStart i + pendingAt)) (drop (slotStart i + pendingAt) m)))
     → CallRemoved m i k
     (take (slotStart i + pendingAt) m ++ (t ++ drop (slotStart i + pendingAt + pendingLength - (slotStart i + pendingAt)) (drop (slotStart i + pendingAt) m)))
 call-ended m t i n k p e f l b et =

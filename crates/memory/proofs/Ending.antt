@@ -29,7 +29,8 @@ unfolding parts
 parts-back zero d b = refl
 parts-back (suc n) d b =
     let f : (i : ℕ) → getD (take callWidth d) i 0 < 256 = bytes-take callWidth d b in
-    ap₂ _∷_ (pending-back (pendingOf (take callWidth d)) (word-fits (take callWidth d) 0 f) (word-fits (take callWidth d) 4 f)) (parts-back n (drop callWidth d) (bytes-drop callWidth d b))
+    ap₂ _∷_ (pending-back (pendingOf (take callWidth d)) (word-fits (take callWidth d) 0 f) (word-fits (take callWidth d) 4 f))
+    (parts-back n (drop callWidth d) (bytes-drop callWidth d b))
 
 table-back : (t : List ℕ) → ((i : ℕ) → getD t i 0 < 256)
     → map pendingOf (map pendingBytes (tableOf callWidth callRoom pendingOf t)) ≡ tableOf callWidth callRoom pendingOf t
@@ -84,7 +85,8 @@ module _ {c : ℕ} {ws₀ : List Pending} {t : List ℕ} {n j : ℕ} (g : Ending
   callee-at =
       let m : n ≡ length (g .calls) = g .count in
       let l : j < length (tableOf callWidth callRoom pendingOf t) = rw read (omega arith) in
-      let q : getD (g .calls) j (pendingOf []) ≡ pendingOf (take callWidth (drop (4 + callWidth * j) t)) = rw read at (table-at callWidth callRoom pendingOf t j l) in
+      let q : getD (g .calls) j (pendingOf []) ≡ pendingOf (take callWidth (drop (4 + callWidth * j) t))
+      = rw read at (table-at callWidth callRoom pendingOf t j l) in
       ap (λ (w : Pending). w .callee) q
       ∙ word-part t (4 + callWidth * j) callWidth 0 (omega arith)
       ∙ ap (wordAt Little t) (omega arith)

@@ -15,7 +15,8 @@ use Rattle.tables.proofs.Table.{table-length, table-count, table-again}
 use Rattle.policy.specs.Names.{cellOf}
 use Rattle.stream.specs.Tail.{Tail}
 use Rattle.rules.specs.State.{Pending, Peer, free, peer, State, putSlot, withNames, withPending, withStream}
-use Rattle.memory.specs.Layout.{slotLength, slotStart, gidsAt, gidWidth, gidRoom, pendingAt, callWidth, callRoom, namesAt, nameWidth, nameRoom, takenAt, streamLength, restAt}
+use Rattle.memory.specs.Layout.{slotLength, slotStart, gidsAt, gidWidth, gidRoom, pendingAt, callWidth}
+use Rattle.memory.specs.Layout.{callRoom, namesAt, nameWidth, nameRoom, takenAt, streamLength, restAt}
 use Rattle.memory.specs.Encoding.{pendingBytes, streamBytes, restBytes, peerBytes, slotBytes, memoryOf}
 use Rattle.memory.proofs.Frame.{head-length, put-memory, memory-at}
 
@@ -121,7 +122,8 @@ pub put-stream : (p : Peer Tail) (t : Tail) → slotBytes (peer (withStream p t)
 unfolding beforeStream beforeNames beforePending beforeGids
 put-stream p t =
     split-stream (withStream p t)
-    ∙ rw (split-stream p) (part-put (beforeStream p) (streamBytes (p .stream)) (streamBytes t) restBytes takenAt streamLength (before-stream p) (stream-length (p .stream)))
+    ∙ rw (split-stream p) (part-put (beforeStream p) (streamBytes (p .stream)) (streamBytes t) restBytes takenAt streamLength (before-stream p)
+    (stream-length (p .stream)))
 
 -- ---- a field put in memory: `new` are the c bytes at b of slot i that differ
 

@@ -38,7 +38,8 @@ names-in m a n b l e h =
     let q : length s / nameWidth ≡ n = ap (λ (z : ℕ). z / nameWidth) k ∙ mul-div-cancel-left n (omega arith) in
     let c : min (wordAt Little m (a + namesAt)) nameRoom ≡ n = rw (← e) (min-eq-left h) in
     let f : a + namesAt + 4 ≡ a + firstName = omega arith in
-    let r : map nameOf (parts nameWidth (min (wordAt Little (drop (a + namesAt) m) 0) nameRoom) (drop 4 (drop (a + namesAt) m))) ≡ map nameOf (parts nameWidth n d)
+    let r : map nameOf (parts nameWidth (min (wordAt Little (drop (a + namesAt) m) 0) nameRoom) (drop 4 (drop (a + namesAt) m)))
+    ≡ map nameOf (parts nameWidth n d)
     = rw (word-front m (a + namesAt), c, drop-drop 4 (a + namesAt) m, f) in
     rw q
     (names-cells n s (bytes-take (nameWidth * n) d (bytes-drop (a + firstName) m b))

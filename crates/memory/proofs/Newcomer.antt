@@ -14,7 +14,8 @@ use Rattle.policy.specs.Names.{cellOf}
 use Rattle.stream.specs.Tail.{tails}
 use Rattle.rules.specs.State.{peer}
 use Rattle.rules.specs.Calls.{newcomer}
-use Rattle.memory.specs.Layout.{slotLength, firstGid, gidWidth, gidRoom, pendingAt, callWidth, callRoom, pendingLength, namesAt, nameWidth, nameRoom, namesLength, takenAt, headRoom, keptLength, streamLength, restLength}
+use Rattle.memory.specs.Layout.{slotLength, firstGid, gidWidth, gidRoom, pendingAt, callWidth, callRoom, pendingLength, namesAt}
+use Rattle.memory.specs.Layout.{nameWidth, nameRoom, namesLength, takenAt, headRoom, keptLength, streamLength, restLength}
 use Rattle.memory.specs.Encoding.{pendingBytes, headBytes, restBytes, peerBytes, slotBytes}
 use Rattle.memory.proofs.Frame.{word-zero}
 use Rattle.memory.proofs.Heads.{single, head-table}
@@ -51,7 +52,8 @@ newcomer-spread n uid gids h =
     let c = cells wordBytes gids in
     let x = gidWidth * gidRoom - gidWidth * length gids in
     let e : x + (slotLength - pendingAt) ≡ (slotLength - firstGid) - gidWidth * length gids = omega arith in
-    let s : (wordBytes (length gids) ++ pad (gidWidth * gidRoom) c) ++ replicate (slotLength - pendingAt) 0 ≡ wordBytes (length gids) ++ (c ++ replicate ((slotLength - firstGid) - gidWidth * length gids) 0)
+    let s : (wordBytes (length gids) ++ pad (gidWidth * gidRoom) c) ++ replicate (slotLength - pendingAt) 0
+    ≡ wordBytes (length gids) ++ (c ++ replicate ((slotLength - firstGid) - gidWidth * length gids) 0)
     = append-assoc (wordBytes (length gids)) (pad (gidWidth * gidRoom) c) (replicate (slotLength - pendingAt) 0)
     ∙ ap (λ (z : List ℕ). wordBytes (length gids) ++ z)
     (ap (λ (z : List ℕ). z ++ replicate (slotLength - pendingAt) 0) (table-spread gidWidth gidRoom wordBytes word-length gids h)

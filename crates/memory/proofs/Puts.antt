@@ -80,7 +80,8 @@ module _ (m : List ℕ) (bytes : (j : ℕ) → getD m j 0 < 256) (g : Held m) (i
   room : (k : ℕ) → k ≤ slotLength → slotStart i + k ≤ length m
   room k l = omega (arith, g .sized)
 
-  pub name-appended : (name m₁ m₂ : List ℕ) (n c : ℕ) → n ≡ length (peerFrom m (slotStart i) .names) → n < nameRoom → c ≡ slotStart i + firstName + nameWidth * n
+  pub name-appended : (name m₁ m₂ : List ℕ) (n c : ℕ) → n ≡ length (peerFrom m (slotStart i) .names) → n < nameRoom
+      → c ≡ slotStart i + firstName + nameWidth * n
       → m₁ ≡ take c m ++ (cellOf name ++ drop (c + nameWidth) m)
       → m₂ ≡ take (slotStart i + namesAt) m₁ ++ (wordBytes (n + 1) ++ drop (slotStart i + namesAt + 4) m₁)
       → m₂ ≡ memoryOf (putSlot (stateOf m) i (peer (withNames (peerFrom m (slotStart i)) (peerFrom m (slotStart i) .names ++ (name ∷ [])))))
@@ -92,7 +93,8 @@ module _ (m : List ℕ) (bytes : (j : ℕ) → getD m j 0 < 256) (g : Held m) (i
       e l f e₁ e₂
       ∙ sym (names-put (ns ++ (name ∷ [])))
 
-  pub call-appended : (w : Pending) (m₁ m₂ : List ℕ) (n c : ℕ) → n ≡ length (peerFrom m (slotStart i) .pending) → n < callRoom → c ≡ slotStart i + firstCallee + callWidth * n
+  pub call-appended : (w : Pending) (m₁ m₂ : List ℕ) (n c : ℕ) → n ≡ length (peerFrom m (slotStart i) .pending) → n < callRoom
+      → c ≡ slotStart i + firstCallee + callWidth * n
       → m₁ ≡ take c m ++ (pendingBytes w ++ drop (c + callWidth) m)
       → m₂ ≡ take (slotStart i + pendingAt) m₁ ++ (wordBytes (n + 1) ++ drop (slotStart i + pendingAt + 4) m₁)
       → m₂ ≡ memoryOf (putSlot (stateOf m) i (peer (withPending (peerFrom m (slotStart i)) (peerFrom m (slotStart i) .pending ++ (w ∷ [])))))

@@ -3,7 +3,7 @@ use mathlib.Core.List.{List, [], _∷_}
 use mathlib.Core.Path.{_≡_, refl, sym, ap, _∙_}
 use Prim.Native.Nat.{ℕ, _+_, _*_, _<_, min, _-_}
 use native.Mathlib.Omega.{arith}
-use native.Mathlib.Nat.{add-zero, min-le-right}
+use native.Mathlib.Nat.{add-zero}
 use lib.ListN.{length, getD, take, drop, length-map, List·getD-map}
 use lib.Seq.{drop-drop, take-take}
 use borrow.Author.Tests.{ne-eqb}
@@ -18,7 +18,8 @@ use Rattle.tables.proofs.Table.{table-take, table-many, table-next}
 use Rattle.policy.specs.Names.{nameOf}
 use Rattle.stream.specs.Tail.{Tail}
 use Rattle.rules.specs.State.{Peer, free, peer}
-use Rattle.memory.specs.Layout.{slotLength, slotStart, gidsAt, firstGid, gidWidth, gidRoom, pendingAt, firstCallee, firstSerial, callWidth, callRoom, namesAt, firstName, nameWidth, nameRoom, takenAt, headAt, firstByte, headRoom, slotsAt, uidAt}
+use Rattle.memory.specs.Layout.{slotLength, slotStart, gidsAt, firstGid, gidWidth, gidRoom, pendingAt, firstCallee, firstSerial, callWidth, callRoom}
+use Rattle.memory.specs.Layout.{namesAt, firstName, nameWidth, nameRoom, takenAt, headAt, firstByte, headRoom, slotsAt, uidAt}
 use Rattle.memory.specs.Encoding.{wordOf, pendingOf, slotTail, peerOf, slotOf, stateOf}
 use Rattle.memory.specs.Places.{peerFrom, numberAt}
 
@@ -49,10 +50,10 @@ slot-at m i h =
 tail-take : (d : List ℕ) → slotTail (take slotLength d) ≡ slotTail d
 unfolding slotTail
 tail-take d =
-    rw (word-take d slotLength takenAt (omega arith), word-take d slotLength headAt (omega arith), drop-take firstByte headRoom d)
+    rw (word-take d slotLength takenAt (omega arith), word-take d slotLength headAt (omega arith), drop-take firstByte (slotLength - firstByte) d)
     (λ j. record {
       taken = wordAt Little d takenAt;
-      head = take-take (min (wordAt Little d headAt) headRoom) headRoom (drop firstByte d) (min-le-right (wordAt Little d headAt) headRoom) j;
+      head = take-take (min (wordAt Little d headAt) headRoom) (slotLength - firstByte) (drop firstByte d) (omega arith) j;
     })
 
 pub peer-take : (d : List ℕ) → peerOf (take slotLength d) ≡ peerOf d
@@ -123,7 +124,8 @@ pub gid-next : (m : List ℕ) (a j : ℕ) → j < length (peerFrom m a .gids)
 gid-next m a j h =
     let e : a + gidsAt + (4 + gidWidth * j) ≡ a + firstGid + gidWidth * j = omega arith in
     table-next gidWidth gidRoom wordOf (drop (a + gidsAt) m) j h
-    ∙ rw (drop-drop (4 + gidWidth * j) (a + gidsAt) m, word-take (drop (a + gidsAt + (4 + gidWidth * j)) m) gidWidth 0 (omega arith), word-front m (a + gidsAt + (4 + gidWidth * j)), e)
+    ∙ rw (drop-drop (4 + gidWidth * j) (a + gidsAt) m, word-take (drop (a + gidsAt + (4 + gidWidth * j)) m) gidWidth 0 (omega arith),
+      word-front m (a + gidsAt + (4 + gidWidth * j)), e)
 
 pub pending-next : (m : List ℕ) (a j : ℕ) → j < length (peerFrom m a .pending)
     → drop j (peerFrom m a .pending)

@@ -85,7 +85,8 @@ tail-back p l h =
     let a = taken-back p l in
     let m : min (length (p .stream .head)) headRoom ≡ length (p .stream .head) = min-eq-left h in
     let b : take (min (wordAt Little (slotBytes (peer p)) headAt) headRoom) (drop firstByte (slotBytes (peer p))) ≡ p .stream .head
-    = rw (head-count p h, m, head-padded p, pad-fits headRoom (p .stream .head) h, append-assoc (p .stream .head)) (take-at (p .stream .head) _ (length (p .stream .head)) refl) in
+    = rw (head-count p h, m, head-padded p, pad-fits headRoom (p .stream .head) h, append-assoc (p .stream .head))
+    (take-at (p .stream .head) _ (length (p .stream .head)) refl) in
     λ j. record { taken = a j; head = b j }
 
 -- ---- the whole

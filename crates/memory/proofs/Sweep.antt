@@ -27,7 +27,8 @@ word-first m h b =
     sym (ap (take slotsAt) (word-cut m h b) ∙ take-at (wordBytes (wordAt Little m 0)) (drop slotsAt m) slotsAt (word-length (wordAt Little m 0)))
 
 -- the first four bytes, and the slots with part i put
-put-split : (m y : List ℕ) (i : ℕ) → putAt m i y ≡ take slotsAt m ++ (take (slotLength * i) (drop slotsAt m) ++ (y ++ drop (slotLength * i + slotLength) (drop slotsAt m)))
+put-split : (m y : List ℕ) (i : ℕ) → putAt m i y
+    ≡ take slotsAt m ++ (take (slotLength * i) (drop slotsAt m) ++ (y ++ drop (slotLength * i + slotLength) (drop slotsAt m)))
 put-split m y i =
     let e : slotStart i + slotLength ≡ slotsAt + (slotLength * i + slotLength) = omega arith in
     rw (e, take-add slotsAt (slotLength * i) m, drop-drop (slotLength * i + slotLength) slotsAt m)
@@ -53,7 +54,8 @@ put-again m y i h l k =
     let d = drop slotsAt m in
     let z = take (slotLength * i) d ++ (y ++ drop (slotLength * i + slotLength) d) in
     let a : wordAt Little (putAt m i y) 0 ≡ wordAt Little m 0 = put-last-same m y i (omega arith) in
-    let b : drop slotsAt (putAt m i y) ≡ z = ap (drop slotsAt) (put-split m y i) ∙ drop-at (take slotsAt m) z slotsAt (length-take-le slotsAt m (omega arith)) in
+    let b : drop slotsAt (putAt m i y) ≡ z = ap (drop slotsAt) (put-split m y i)
+    ∙ drop-at (take slotsAt m) z slotsAt (length-take-le slotsAt m (omega arith)) in
     let c : map slotOf (parts slotLength 16 (drop slotsAt (putAt m i y))) ≡ set (map slotOf (parts slotLength 16 d)) i (slotOf y)
     = rw (b, parts-put slotLength 16 d y i h k (omega (arith, length-drop slotsAt m))) (map-set slotOf (parts slotLength 16 d) i y) in
     λ j. record { last = a j; slots = c j }

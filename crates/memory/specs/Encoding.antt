@@ -11,7 +11,8 @@ use Rattle.tables.specs.Tables.{cells, parts, tableBytes, tableOf}
 use Rattle.policy.specs.Names.{cellOf, nameOf}
 use Rattle.stream.specs.Tail.{Tail}
 use Rattle.rules.specs.State.{Pending, Peer, Slot, free, peer, State}
-use Rattle.memory.specs.Layout.{slotLength, slotsAt, uidAt, gidsAt, gidWidth, gidRoom, pendingAt, callWidth, callRoom, namesAt, nameWidth, nameRoom, takenAt, headAt, firstByte, headRoom, restLength}
+use Rattle.memory.specs.Layout.{slotLength, slotsAt, uidAt, gidsAt, gidWidth, gidRoom, pendingAt, callWidth, callRoom}
+use Rattle.memory.specs.Layout.{namesAt, nameWidth, nameRoom, takenAt, headAt, firstByte, headRoom, restLength}
 
 -- ---- what a state is in bytes (rule 10.2)
 

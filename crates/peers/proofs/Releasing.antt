@@ -49,13 +49,15 @@ module _ (m : List ℕ) (f : Octets m) (i : ℕ) (g : Seated m i) (name : List �
   give-none h = did-stay m f (g .held) 35 (givenUp m i name) (rw (owned, le-ltb j n h))
 
   module _ (h : j < n) where
-    pub give-table : Cell (take (slotStart i + namesAt + namesLength - (slotStart i + namesAt)) (drop (slotStart i + namesAt) m)) (4 + nameWidth * j) nameWidth (4 + nameWidth * n)
+    pub give-table : Cell (take (slotStart i + namesAt + namesLength - (slotStart i + namesAt)) (drop (slotStart i + namesAt) m)) (4 + nameWidth * j) nameWidth
+        (4 + nameWidth * n)
     give-table = part-cell nameWidth nameRoom j n m (slotStart i + namesAt) (omega (arith, g .sized, g .below)) (omega (arith, counted m i g .fewNames)) h
 
     pub give-done : (t : List ℕ)
         → t
         ≡ wordBytes (n - 1)
-        ++ cutOut nameWidth (nameWidth * n) (nameWidth * j) (drop 4 (take (slotStart i + namesAt + namesLength - (slotStart i + namesAt)) (drop (slotStart i + namesAt) m)))
+        ++ cutOut nameWidth (nameWidth * n) (nameWidth * j)
+        (drop 4 (take (slotStart i + namesAt + namesLength - (slotStart i + namesAt)) (drop (slotStart i + namesAt) m)))
         → Did (stored (givenUp m i name)) 0
         (take (slotStart i + namesAt) m ++ (t ++ drop (slotStart i + namesAt + namesLength - (slotStart i + namesAt)) (drop (slotStart i + namesAt) m)))
     unfolding givenUp

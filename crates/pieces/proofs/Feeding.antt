@@ -28,7 +28,8 @@ module _ (x : List ℕ) (o : Opens x) where
   -- the head behind its count
   head-part : drop headOffset x ≡ wordBytes (length (streamIn x .head)) ++ pad headRoom (streamIn x .head)
   unfolding headBytes
-  head-part = ap (drop headOffset) (o .bytes) ∙ drop-at (wordBytes (streamIn x .taken)) (headBytes (streamIn x .head)) headOffset (word-length (streamIn x .taken))
+  head-part = ap (drop headOffset) (o .bytes)
+      ∙ drop-at (wordBytes (streamIn x .taken)) (headBytes (streamIn x .head)) headOffset (word-length (streamIn x .taken))
 
   count-is : wordAt Little x headOffset ≡ length (streamIn x .head)
   count-is =
@@ -84,11 +85,13 @@ module _ (x : List ℕ) (o : Opens x) where
       let w = wordBytes (r .stream .taken) in
       let v = wordBytes (r .stream .stored) in
       let l : length (take byteOffset x) ≡ byteOffset = length-take-le byteOffset x (omega (arith, o .sized)) in
-      let z : drop headRoom (drop byteOffset x) ≡ [] = drop-of-length-le (drop byteOffset x) {i = headRoom} (omega (arith, length-drop byteOffset x, o .sized)) in
+      let z : drop headRoom (drop byteOffset x) ≡ []
+      = drop-of-length-le (drop byteOffset x) {i = headRoom} (omega (arith, length-drop byteOffset x, o .sized)) in
       let y₁ : x₁ ≡ take byteOffset x ++ region = e₁ ∙ rw z (ap (λ (y : List ℕ). take byteOffset x ++ y) (append-nil region)) in
       let d₁ : drop byteOffset x₁ ≡ region = ap (drop byteOffset) y₁ ∙ drop-at (take byteOffset x) region byteOffset l in
       let d₂ : drop byteOffset x₂ ≡ region
-      = ap (drop byteOffset) e₂ ∙ sym (drop-drop 4 headOffset (w ++ drop headOffset x₁)) ∙ ap (drop 4) (drop-at w (drop headOffset x₁) headOffset (word-length (r .stream .taken))) ∙ drop-drop 4 headOffset x₁ ∙ d₁ in
+      = ap (drop byteOffset) e₂ ∙ sym (drop-drop 4 headOffset (w ++ drop headOffset x₁))
+      ∙ ap (drop 4) (drop-at w (drop headOffset x₁) headOffset (word-length (r .stream .taken))) ∙ drop-drop 4 headOffset x₁ ∙ d₁ in
       let t₂ : take headOffset x₂ ≡ w = ap (take headOffset) e₂ ∙ take-at w (drop headOffset x₁) headOffset (word-length (r .stream .taken)) in
       record {
         taken = g .taken;

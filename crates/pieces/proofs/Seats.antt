@@ -64,7 +64,8 @@ module _ (m : List ℕ) (f : (j : ℕ) → Fits w8 (getD m j 0)) (i : ℕ) (s : 
       let q : b + headOffset ≡ slotStart i + headAt = omega arith in
       let r : b + byteOffset ≡ slotStart i + firstByte = omega arith in
       let n = min (wordAt Little m (slotStart i + headAt)) headRoom in
-      rw (word-part m b streamLength 0 (omega arith), p, word-part m b streamLength headOffset (omega arith), q, drop-take byteOffset headRoom (drop b m), drop-drop byteOffset b m, r)
+      rw (word-part m b streamLength 0 (omega arith), p, word-part m b streamLength headOffset (omega arith), q, drop-take byteOffset headRoom (drop b m),
+      drop-drop byteOffset b m, r)
       (ap (λ (h : List ℕ). record { taken = wordAt Little m (slotStart i + takenAt); head = h }) (take-take n headRoom (drop (slotStart i + firstByte) m) (omega arith)))
 
   pub opens-at : closed (peerAt m i .stream) ≡ false → Opens (take (slotStart i + takenAt + streamLength - (slotStart i + takenAt)) (drop (slotStart i + takenAt) m))
@@ -135,7 +136,8 @@ zeros-more m b k w e =
 -- zeros written over the counts of a stream and its head, where zeros stand behind it
 pub settled-at : (m z : List ℕ) (i n : ℕ) → length m ≡ memoryLength → i < 16 → n ≤ headRoom → behindIn m i n ≡ replicate (headRoom - n) 0
     → z ≡ replicate (length (take (slotStart i + takenAt + (byteOffset + n) - (slotStart i + takenAt)) (drop (slotStart i + takenAt) m))) 0
-    → take (slotStart i + takenAt) m ++ (z ++ drop (slotStart i + takenAt + (byteOffset + n) - (slotStart i + takenAt)) (drop (slotStart i + takenAt) m)) ≡ cleared m i
+    → take (slotStart i + takenAt) m ++ (z ++ drop (slotStart i + takenAt + (byteOffset + n) - (slotStart i + takenAt)) (drop (slotStart i + takenAt) m))
+    ≡ cleared m i
 settled-at m z i n h k s o q =
     let b = slotStart i + takenAt in
     let l : length (take (b + (byteOffset + n) - b) (drop b m)) ≡ byteOffset + n
