@@ -1,46 +1,48 @@
 -- Form by form, the tests that the code makes are those of the definition.
 use mathlib.Core.Path.{_≡_, refl, _∙_}
-use mathlib.Core.Bool.{Bool, true, false, _&&_, _||_, and-true, and-false}
+use mathlib.Core.Bool.{Bool, true, false, not, and-true, and-false, or-false, false≢true}
 use mathlib.Core.List.{List, [], _∷_}
 use Prim.Native.Nat.{ℕ, _-_, _≤_, _<_}
 use native.Mathlib.Omega.{arith}
 use lib.Dec.{leb, eqb}
 use lib.ListN.{length, take, drop, getD}
 use borrow.Author.Needs.{needs}
-use borrow.Author.Tests.{le-leb, lt-leb, eq-eqb, ne-eqb}
+use borrow.Author.Tests.{le-leb, lt-leb, eq-eqb, ne-eqb, eqb-true, not-true, not-false}
 use Rattle.wire.proofs.Words.{rest-at}
-use Rattle.names.specs.Names.{word, pieces, dotted, startsWith, wellKnown, unique, validName, counted}
+use Rattle.names.specs.declared.Shape.{Shape}
+use Rattle.names.specs.Names.{pieces, dotted, startsWith, wellKnown, unique, validName, counted}
+use Rattle.names.specs.Names.{interfaceShape, wellKnownShape, uniqueShape, memberShape, pathShape}
 use Rattle.names.specs.Near.{listed, parted, several}
 use Rattle.names.specs.declared.Form.{Form}
 use Rattle.names.specs.declared.Form.the-variants.{Interface, WellKnown, Unique, BusName, Member, Path}
 use Rattle.names.proofs.Scan.{passed}
 
--- a dot is no byte of an element
-pub dot : (dash : Bool) → word dash 46 ≡ false
-dot true = refl
-dot false = refl
-
 -- ---- two elements or more, one alone, one or more: of a short text by the count, of a long one by the scan
 
-module _ (s : List ℕ) (dash lead : Bool) where
-  pub several-short : {n : ℕ} → n ≡ counted 46 dash lead (drop 0 s) → leb 2 n ≡ several dash lead s
+module _ (s : List ℕ) (shape : Shape) where
+  pub several-short : {n : ℕ} → n ≡ counted shape s → leb 2 n ≡ several shape s
   unfolding several
-  several-short e = rw e (passed 46 dash lead (leb 2) s refl)
+  several-short e = rw e (passed shape (leb 2) s refl)
 
-  pub several-long : {p q : Bool} → p ≡ listed 46 dash lead true s → q ≡ parted 46 s → p && q ≡ several dash lead s
-  unfolding several listed parted
-  several-long e f = rw (e, f, and-true)
+  module _ {q : Bool} (f : q ≡ parted (shape .separator) s) where
+    pub several-not : not q ≡ true → false ≡ several shape s
+    unfolding several parted
+    several-not t = rw (← f, not-true q t, and-false)
+
+    pub several-long : not q ≡ false → shape .many ≡ true → {p : Bool} → p ≡ listed shape s → p ≡ several shape s
+    unfolding several listed parted
+    several-long t m e = e ∙ rw (← f, not-false q t, m)
 
 module _ (s : List ℕ) where
-  pub walk-short : {n : ℕ} → n ≡ counted 47 false true (drop 0 s) → leb 1 n ≡ listed 47 false true true s
+  pub walk-short : {n : ℕ} → n ≡ counted pathShape s → leb 1 n ≡ listed pathShape s
   unfolding listed
-  walk-short e = rw (e, passed 47 false true (leb 1) s refl, le-leb 1 (length (pieces 47 s)) (omega arith))
+  walk-short e = rw (e, passed pathShape (leb 1) s refl, le-leb 1 (length (pieces 47 s)) (omega arith))
 
   -- ---- each form
 
   module _ (h : 255 < length s) where
-    pub dotted-long : (dash : Bool) → false ≡ dotted dash s
-    dotted-long dash = rw (lt-leb (length s) 255 h)
+    pub dotted-long : (shape : Shape) → false ≡ dotted shape s
+    dotted-long shape = rw (lt-leb (length s) 255 h)
 
     pub unique-long : false ≡ validName Unique s
     unfolding validName unique
@@ -50,15 +52,15 @@ module _ (s : List ℕ) where
     unfolding validName
     member-too-long = rw (lt-leb (length s) 255 h)
 
-  pub dotted-is : (dash : Bool) → length s ≤ 255 → {r : Bool} → r ≡ several dash false s → r ≡ dotted dash s
+  pub dotted-is : (shape : Shape) → length s ≤ 255 → {r : Bool} → r ≡ several shape s → r ≡ dotted shape s
   unfolding several
-  dotted-is dash h e = rw (le-leb (length s) 255 h) e
+  dotted-is shape h e = rw (le-leb (length s) 255 h) e
 
-  pub member-short : length s < 9 → {n : ℕ} → n ≡ counted 46 false false (drop 0 s) → eqb n 1 ≡ validName Member s
+  pub member-short : length s < 9 → {n : ℕ} → n ≡ counted memberShape s → eqb n 1 ≡ validName Member s
   unfolding validName
-  member-short h e = rw (e, passed 46 false false (λ k. eqb k 1) s refl, le-leb (length s) 255 (omega arith))
+  member-short h e = rw (e, passed memberShape (λ k. eqb k 1) s refl, le-leb (length s) 255 (omega arith))
 
-  pub member-long : length s ≤ 255 → {r : Bool} → r ≡ listed 46 false false false s → r ≡ validName Member s
+  pub member-long : length s ≤ 255 → {r : Bool} → r ≡ listed memberShape s → r ≡ validName Member s
   unfolding validName listed
   member-long h e = rw (le-leb (length s) 255 h) e
 
@@ -87,7 +89,7 @@ module _ (s : List ℕ) where
   unfolding validName unique
   unique-not e = rw (starts-not 58 s e, and-false)
 
-  pub unique-is : (length s ≡ 0 → ⊥) → getD s 0 0 ≡ 58 → length s ≤ 255 → {r : Bool} → r ≡ several true true (take (length s - 1) (drop 1 s)) → r ≡ validName Unique s
+  pub unique-is : (length s ≡ 0 → ⊥) → getD s 0 0 ≡ 58 → length s ≤ 255 → {r : Bool} → r ≡ several uniqueShape (take (length s - 1) (drop 1 s)) → r ≡ validName Unique s
   unfolding validName unique several
   unique-is n e h f = rw (le-leb (length s) 255 h, starts 58 s n e, ← rest-at 1 s) f
 
@@ -104,9 +106,33 @@ module _ (s : List ℕ) where
     unfolding validName
     path-root k = rw (starts 47 s n e, k)
 
-    pub path-more : (length s ≡ 1 → ⊥) → {r : Bool} → r ≡ listed 47 false true true (take (length s - 1) (drop 1 s)) → r ≡ validName Path s
+    pub path-more : (length s ≡ 1 → ⊥) → {r : Bool} → r ≡ listed pathShape (take (length s - 1) (drop 1 s)) → r ≡ validName Path s
     unfolding validName listed
     path-more k f = f ∙ rw (rest-at 1 s, starts 47 s n e, ne-eqb (length s) 1 k, and-true)
+
+-- ---- a bus name: unique where it begins with a colon, which no well-known name does
+
+coloned : (s : List ℕ) → startsWith 58 s ≡ true → wellKnown s ≡ false
+unfolding startsWith wellKnown
+coloned [] e = absurd (false≢true e)
+coloned (x ∷ s) e = let f : x ≡ 58 = eqb-true x 58 e in rw (f, and-false)
+
+module _ (s : List ℕ) where
+  pub bus-none : length s ≡ 0 → false ≡ validName BusName s
+  unfolding validName unique wellKnown
+  bus-none e = rw (starts-none 58 s e, and-false) (go s e)
+    where
+      go : (s : List ℕ) → length s ≡ 0 → false ≡ dotted wellKnownShape s
+      go [] e = refl
+      go (x ∷ s) e = absurd (omega arith)
+
+  pub bus-unique : (length s ≡ 0 → ⊥) → getD s 0 0 ≡ 58 → {r : Bool} → r ≡ validName Unique s → r ≡ validName BusName s
+  unfolding validName
+  bus-unique n e h = rw (coloned s (starts 58 s n e), or-false) h
+
+  pub bus-well-known : (getD s 0 0 ≡ 58 → ⊥) → {r : Bool} → r ≡ dotted wellKnownShape s → r ≡ validName BusName s
+  unfolding validName unique wellKnown
+  bus-well-known e h = rw (starts-not 58 s e, and-false) h
 
 -- ---- the form that is asked for
 
@@ -114,17 +140,13 @@ module _ (f : Form) (s : List ℕ) where
   pub asked : (g : Form) → f ≡ g → {r : Bool} → r ≡ validName g s → r ≡ validName f s
   asked g e h = rw e h
 
-  pub asked-interface : f ≡ Interface → {r : Bool} → r ≡ dotted false s → r ≡ validName f s
+  pub asked-interface : f ≡ Interface → {r : Bool} → r ≡ dotted interfaceShape s → r ≡ validName f s
   unfolding validName
   asked-interface e h = rw e h
 
-  pub asked-well-known : f ≡ WellKnown → {r : Bool} → r ≡ dotted true s → r ≡ validName f s
+  pub asked-well-known : f ≡ WellKnown → {r : Bool} → r ≡ dotted wellKnownShape s → r ≡ validName f s
   unfolding validName wellKnown
   asked-well-known e h = rw e h
 
-  pub asked-bus-name : f ≡ BusName → {u w : Bool} → u ≡ validName Unique s → w ≡ dotted true s → u || w ≡ validName f s
-  unfolding validName wellKnown
-  asked-bus-name e p q = rw (e, p, q)
-
 -- what answers the needs of the forms' functions
-pub ruleset forms = (dot, several-short, several-long, walk-short, dotted-long, unique-long, member-too-long, dotted-is, member-short, member-long, unique-none, unique-not, unique-is, path-none, path-not, path-root, path-more, asked, asked-interface, asked-well-known, asked-bus-name, needs)
+pub ruleset forms = (several-short, several-not, several-long, walk-short, dotted-long, unique-long, member-too-long, dotted-is, member-short, member-long, unique-none, unique-not, unique-is, path-none, path-not, path-root, path-more, asked, asked-interface, asked-well-known, bus-none, bus-unique, bus-well-known, needs)

@@ -93,8 +93,8 @@ used-up region s piece used l e =
 
 -- ---- a piece's end in the body, and a broken head
 
-pub broken-at : {region : List ℕ} {s : Stream} {piece : List ℕ} {used a : ℕ} → Started region s piece used → readHeader (take (s .stored) region) ≡ reading.Broken a
-    → s .taken ≤ 134217728 → Resumed region s piece used (record { stream = s; taken = used; event = Broken a }) region
+pub broken-at : {region : List ℕ} {s : Stream} {piece : List ℕ} {used a : ℕ} → Started region s piece used
+    → readHeader (take (s .stored) region) ≡ reading.Broken a → s .taken ≤ 134217728 → Resumed region s piece used (record { stream = s; taken = used; event = Broken a }) region
 broken-at {region} {s} {piece} {used} {a} b e f =
     let z : used + 0 ≡ used = add-zero used in
     record {
@@ -110,8 +110,8 @@ lengths h x head message e f =
     (cc, cc)
 
 -- the piece ends in the body: all of it is taken
-module _ {region : List ℕ} {s : Stream} {piece : List ℕ} {used : ℕ} (b : Started region s piece used) (x : Header) (e : readHeader (take (s .stored) region) ≡ reading.Whole x)
-    (k : s .stored ≡ x .head) where
+module _ {region : List ℕ} {s : Stream} {piece : List ℕ} {used : ℕ} (b : Started region s piece used) (x : Header)
+    (e : readHeader (take (s .stored) region) ≡ reading.Whole x) (k : s .stored ≡ x .head) where
   head-length : length (take (s .stored) region) ≡ x .head
   head-length = started-length b ∙ k
 

@@ -28,21 +28,25 @@ use Rattle.stream.proofs.Heads.{Sized, sized, not-short, late-fault}
 use Rattle.stream.proofs.Good.{stopped, Kept, runs, stops, good-kept, running-more, end-is, sized-end}
 use Rattle.stream.proofs.Gives.{lengths}
 
+-- the head that a stream keeps
+abbrev kept : List ℕ → Stream → List ℕ
+kept region s = take (s .stored) region
+
 module _ (region : List ℕ) (s : Stream) (i : s .stored ≤ length region) where
-  is-length : length (take (s .stored) region) ≡ s .stored
+  is-length : length (kept region s) ≡ s .stored
   is-length = length-take-le (s .stored) region i
 
   -- a stream is good by two tests: of where its head ends, and of its verdict
-  good-is : (end : ℕ) (b : Bool) → headEnd (take (s .stored) region) ≡ end → fitting (judge (tailIn region s)) (s .taken) (take (s .stored) region) ≡ b
+  good-is : (end : ℕ) (b : Bool) → headEnd (kept region s) ≡ end → fitting (judge (tailIn region s)) (s .taken) (kept region s) ≡ b
       → goodTail (tailIn region s) ≡ (eqb (s .stored) (min (s .taken) end) && b)
   unfolding goodTail
   good-is end b e f = λ j. eqb (is-length j) (min (s .taken) (e j)) && f j
 
-  not-good : (end : ℕ) → headEnd (take (s .stored) region) ≡ end → (s .stored ≡ min (s .taken) end → ⊥) → false ≡ goodTail (tailIn region s)
-  not-good end e n = sym (good-is end (fitting (judge (tailIn region s)) (s .taken) (take (s .stored) region)) e refl ∙ rw (ne-eqb (s .stored) (min (s .taken) end) n))
+  not-good : (end : ℕ) → headEnd (kept region s) ≡ end → (s .stored ≡ min (s .taken) end → ⊥) → false ≡ goodTail (tailIn region s)
+  not-good end e n = sym (good-is end (fitting (judge (tailIn region s)) (s .taken) (kept region s)) e refl ∙ rw (ne-eqb (s .stored) (min (s .taken) end) n))
 
   -- in the head every byte is kept
-  unread : (end : ℕ) → headEnd (take (s .stored) region) ≡ end → readHeader (take (s .stored) region) ≡ Short → s .stored < end → eqb (s .taken) (s .stored) ≡ goodTail (tailIn region s)
+  unread : (end : ℕ) → headEnd (kept region s) ≡ end → readHeader (kept region s) ≡ Short → s .stored < end → eqb (s .taken) (s .stored) ≡ goodTail (tailIn region s)
   unread end e q l =
       agree (eqb (s .taken) (s .stored)) (eqb (s .stored) (min (s .taken) end) && true)
       (λ p. let t = eqb-true (s .taken) (s .stored) p in both-true (eqb (s .stored) (min (s .taken) end)) true (eq-eqb (s .stored) (min (s .taken) end) (omega arith)) refl)
@@ -50,24 +54,24 @@ module _ (region : List ℕ) (s : Stream) (i : s .stored ≤ length region) wher
       ∙ sym (good-is end true e (rw q))
 
   pub good-few : s .stored < 16 → eqb (s .taken) (s .stored) ≡ goodTail (tailIn region s)
-  good-few l = unread 16 (rw (is-length, lt-ltb (s .stored) 16 l)) (read-few (take (s .stored) region) (rw is-length l)) l
+  good-few l = unread 16 (rw (is-length, lt-ltb (s .stored) 16 l)) (read-few (kept region s) (rw is-length l)) l
 
   module _ (a : 16 ≤ s .stored) where
-    is-above : 16 ≤ length (take (s .stored) region)
+    is-above : 16 ≤ length (kept region s)
     is-above = rw is-length a
 
     pub long-head : 16 ≤ length (take (s .stored - 0) (drop 0 region))
     long-head = rw sub-zero is-above
 
     module _ {f : Fixed} (e : f ≡ fixedPart (take (s .stored - 0) (drop 0 region))) where
-      is-fixed : fixedPart (take (s .stored) region) ≡ f
+      is-fixed : fixedPart (kept region s) ≡ f
       is-fixed = sym (rw sub-zero at e)
 
       pub good-fault : {n : ℕ} → f ≡ fixed.Broken n → (eqb (s .taken) 16 && eqb (s .stored) 16) ≡ goodTail (tailIn region s)
       good-fault {n} q =
-          let h : 16 ≤ headLength (take (s .stored) region) = head-low (take (s .stored) region) in
-          let r : readHeader (take (s .stored) region) ≡ Broken n = read-broken (take (s .stored) region) is-above (is-fixed ∙ q) in
-          let l = headLength (take (s .stored) region) in
+          let h : 16 ≤ headLength (kept region s) = head-low (kept region s) in
+          let r : readHeader (kept region s) ≡ Broken n = read-broken (kept region s) is-above (is-fixed ∙ q) in
+          let l = headLength (kept region s) in
           agree (eqb (s .taken) 16 && eqb (s .stored) 16) (eqb (s .stored) (min (s .taken) l) && eqb (s .taken) 16)
           (λ p.
           let t = eqb-true (s .taken) 16 (both-first (eqb (s .taken) 16) (eqb (s .stored) 16) p) in
@@ -77,14 +81,14 @@ module _ (region : List ℕ) (s : Stream) (i : s .stored ≤ length region) wher
           let t = eqb-true (s .stored) (min (s .taken) l) (both-first (eqb (s .stored) (min (s .taken) l)) (eqb (s .taken) 16) p) in
           let u = eqb-true (s .taken) 16 (both-second (eqb (s .stored) (min (s .taken) l)) (eqb (s .taken) 16) p) in
           both-true (eqb (s .taken) 16) (eqb (s .stored) 16) (eq-eqb (s .taken) 16 u) (eq-eqb (s .stored) 16 (omega arith)))
-          ∙ sym (good-is l (eqb (s .taken) 16) (end-is (take (s .stored) region) is-above) (rw (r, le-leb n 6 (fixed-number (take (s .stored) region) (is-fixed ∙ q) .1))))
+          ∙ sym (good-is l (eqb (s .taken) 16) (end-is (kept region s) is-above) (rw (r, le-leb n 6 (fixed-number (kept region s) (is-fixed ∙ q) .1))))
 
       module _ {end message : ℕ} (q : f ≡ fixed.Sizes end message) where
-        is-end : headEnd (take (s .stored) region) ≡ end
-        is-end = sized-end (take (s .stored) region) is-above (sized (take (s .stored) region) (is-fixed ∙ q))
+        is-end : headEnd (kept region s) ≡ end
+        is-end = sized-end (kept region s) is-above (sized (kept region s) (is-fixed ∙ q))
 
         pub good-part : s .stored < end → eqb (s .taken) (s .stored) ≡ goodTail (tailIn region s)
-        good-part l = unread end is-end (read-short (take (s .stored) region) is-above (is-fixed ∙ q) (rw is-length l)) l
+        good-part l = unread end is-end (read-short (kept region s) is-above (is-fixed ∙ q) (rw is-length l)) l
 
         pub good-past : end < s .stored → false ≡ goodTail (tailIn region s)
         good-past l = not-good end is-end (λ p. omega arith)
@@ -100,49 +104,50 @@ module _ (region : List ℕ) (s : Stream) (i : s .stored ≤ length region) wher
 
 -- ---- a whole head
 
-module _ {region : List ℕ} {s : Stream} {message : ℕ} (w : WholeTail region s message) {r : Reading} (e : r ≡ readHeader (take (s .stored - 0) (drop 0 region))) where
-  whole-read : readHeader (take (s .stored) region) ≡ r
+module _ {region : List ℕ} {s : Stream} {message : ℕ} (w : WholeTail region s message)
+    {r : Reading} (e : r ≡ readHeader (take (s .stored - 0) (drop 0 region))) where
+  whole-read : readHeader (kept region s) ≡ r
   whole-read = sym (rw sub-zero at e)
 
-  whole-length : length (take (s .stored) region) ≡ s .stored
+  whole-length : length (kept region s) ≡ s .stored
   whole-length = is-length region s (w .inside)
 
-  whole-above : 16 ≤ length (take (s .stored) region)
+  whole-above : 16 ≤ length (kept region s)
   whole-above = rw whole-length (w .above)
 
-  whole-sized : Sized (take (s .stored) region) (s .stored) message
-  whole-sized = sized (take (s .stored) region) (w .sizes)
+  whole-sized : Sized (kept region s) (s .stored) message
+  whole-sized = sized (kept region s) (w .sizes)
 
   -- all that is left is the verdict
-  whole-good : (b : Bool) → fitting (judge (tailIn region s)) (s .taken) (take (s .stored) region) ≡ b → b ≡ goodTail (tailIn region s)
+  whole-good : (b : Bool) → fitting (judge (tailIn region s)) (s .taken) (kept region s) ≡ b → b ≡ goodTail (tailIn region s)
   whole-good b f =
-      sym (good-is region s (w .inside) (s .stored) b (sized-end (take (s .stored) region) whole-above whole-sized) f
+      sym (good-is region s (w .inside) (s .stored) b (sized-end (kept region s) whole-above whole-sized) f
       ∙ rw (eq-eqb (s .stored) (min (s .taken) (s .stored)) (omega (arith, w .reached))))
 
   pub whole-short : r ≡ Short → false ≡ goodTail (tailIn region s)
-  whole-short q = absurd (not-short (take (s .stored) region) whole-above (w .sizes) (omega (arith, whole-length)) (whole-read ∙ q))
+  whole-short q = absurd (not-short (kept region s) whole-above (w .sizes) (omega (arith, whole-length)) (whole-read ∙ q))
 
   pub whole-broken : {n : ℕ} → r ≡ Broken n → eqb (s .taken) (s .stored) ≡ goodTail (tailIn region s)
   whole-broken {n} q =
-      let v : 6 < n = late-fault (take (s .stored) region) whole-above (w .sizes) (omega (arith, whole-length)) (whole-read ∙ q) in
+      let v : 6 < n = late-fault (kept region s) whole-above (w .sizes) (omega (arith, whole-length)) (whole-read ∙ q) in
       whole-good (eqb (s .taken) (s .stored)) (rw (whole-read ∙ q, lt-leb n 6 v, ← whole-sized .is-head))
 
   pub whole-body : {x : Header} → r ≡ Whole x → ltb (s .taken) message ≡ goodTail (tailIn region s)
   whole-body {x} q =
-      whole-good (ltb (s .taken) message) (rw (whole-read ∙ q, lengths (take (s .stored) region) x (s .stored) message (whole-read ∙ q) (w .sizes) .1) (either (ltb (s .taken) message)))
+      whole-good (ltb (s .taken) message) (rw (whole-read ∙ q, lengths (kept region s) x (s .stored) message (whole-read ∙ q) (w .sizes) .1) (either (ltb (s .taken) message)))
     where
-      either : (b : Bool) → fitting (cond b more (whole (take (x .head) (take (s .stored) region)) x)) (s .taken) (take (s .stored) region) ≡ b
+      either : (b : Bool) → fitting (cond b more (whole (take (x .head) (kept region s)) x)) (s .taken) (kept region s) ≡ b
       either true = refl
       either false = refl
 
 -- ---- closed streams
 
 module _ {region : List ℕ} {s : Stream} (g : GoodTail region s) where
-  closed-length : length (take (s .stored) region) ≡ s .stored
+  closed-length : length (kept region s) ≡ s .stored
   closed-length = is-length region s (g .inside)
 
   pub closed-few : s .stored < 16 → false ≡ closed (tailIn region s)
-  closed-few l = sym (rw (read-few (take (s .stored) region) (rw closed-length l)))
+  closed-few l = sym (rw (read-few (kept region s) (rw closed-length l)))
 
   pub closed-body : s .stored < s .taken → false ≡ closed (tailIn region s)
   closed-body l = go (good-kept (tailIn region s) (g .good))
@@ -152,7 +157,7 @@ module _ {region : List ℕ} {s : Stream} (g : GoodTail region s) where
       go (stops (stopped a e n k)) = absurd (omega (arith, closed-length))
 
   module _ {r : Reading} (e : r ≡ readHeader (take (s .stored - 0) (drop 0 region))) where
-    closed-read : readHeader (take (s .stored) region) ≡ r
+    closed-read : readHeader (kept region s) ≡ r
     closed-read = sym (rw sub-zero at e)
 
     pub closed-short : r ≡ Short → false ≡ closed (tailIn region s)
@@ -164,6 +169,6 @@ module _ {region : List ℕ} {s : Stream} (g : GoodTail region s) where
     pub closed-whole : {x : Header} → r ≡ Whole x → false ≡ closed (tailIn region s)
     closed-whole {x} q = sym (rw (closed-read ∙ q) (either (ltb (s .taken) (x .head + x .body))))
       where
-        either : (b : Bool) → isBroken (cond b more (whole (take (x .head) (take (s .stored) region)) x)) ≡ false
+        either : (b : Bool) → isBroken (cond b more (whole (take (x .head) (kept region s)) x)) ≡ false
         either true = refl
         either false = refl

@@ -5,10 +5,10 @@ use Rattle.names.proofs.pair_blocks.Statement.{statement}
 use Rattle.names.proofs.pair_blocks.Tie as tie
 
 abbrev Inv-loop : tie.InvT-loop
-Inv-loop s n sep dash lead many last i₀ i = Passed sep dash lead many s n i
+Inv-loop s n shape last i₀ i = Passed shape s n i
 
 abbrev μ-loop : tie.MeasureT-loop
-μ-loop s n sep dash lead many last i₀ i = n - i
+μ-loop s n shape last i₀ i = n - i
 
 pub pair-blocks-spec : {M : Type 1} → statement M
 pair-blocks-spec =

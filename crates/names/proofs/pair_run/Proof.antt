@@ -5,10 +5,10 @@ use Rattle.names.proofs.pair_run.Statement.{statement}
 use Rattle.names.proofs.pair_run.Tie as tie
 
 abbrev Inv-loop : tie.InvT-loop
-Inv-loop s at n sep dash lead many good₀ i₀ good i = Run sep dash lead many s at n i good
+Inv-loop s at n shape good₀ i₀ good i = Run shape s at n i good
 
 abbrev μ-loop : tie.MeasureT-loop
-μ-loop s at n sep dash lead many good₀ i₀ good i = n - i
+μ-loop s at n shape good₀ i₀ good i = n - i
 
 pub pair-run-spec : {M : Type 1} → statement M
 pair-run-spec =

@@ -1,11 +1,11 @@
--- `names::is_listed` meets its contract.
+-- `names::is_scanned` meets its contract.
 use Rattle.names.proofs.Blocks.{blocks}
 use borrow.Author.Needs.{needs}
-use Rattle.names.proofs.is_listed.Statement.{statement}
-use Rattle.names.proofs.is_listed.Tie as tie
+use Rattle.names.proofs.is_scanned.Statement.{statement}
+use Rattle.names.proofs.is_scanned.Tie as tie
 
-pub is-listed-spec : {M : Type 1} → statement M
-is-listed-spec =
+pub is-scanned-spec : {M : Type 1} → statement M
+is-scanned-spec =
     tie.close
     (tie.spec
     (λ c. search needs)
