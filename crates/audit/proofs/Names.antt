@@ -9,7 +9,6 @@ use lib.ListN.{length, take, drop, getD, drop-of-length-le}
 use borrow.Author.Needs.{needs}
 use borrow.Author.Tests.{not-true, not-false}
 use Rattle.wire.specs.Lists.{distinct}
-use Rattle.wire.proofs.Words.{cut-at}
 use Rattle.policy.specs.Names.{owns}
 use Rattle.rules.specs.Addresses.{ownable}
 use Rattle.rules.specs.Calls.{isOwner}
@@ -18,36 +17,29 @@ use Rattle.memory.specs.Encoding.{stateOf}
 use Rattle.memory.specs.Good.{goodNames}
 use Rattle.memory.specs.Places.{FoundSlot}
 use Rattle.slots.specs.Slots.{peerAt, nameAt}
-use Rattle.slots.proofs.Cells.{names-next, name-byte}
+use Rattle.slots.proofs.Cells.{names-next}
 use Rattle.audit.specs.Tests.{nameTest}
 use Rattle.audit.proofs.Found.{found-any, not-ltb}
 
--- ---- name j: x is its text, as the code cuts it
+-- ---- name j: x is its text
 
-module _ (m : List ℕ) (i j b : ℕ) (e : b ≡ getD m (slotStart i + firstName + nameWidth * j) 0) where
-  -- the text that the code lends
-  abbrev text : List ℕ
-  text = take (slotStart i + firstName + nameWidth * j + 1 + b - (slotStart i + firstName + nameWidth * j + 1)) (drop (slotStart i + firstName + nameWidth * j + 1) m)
-
-  text-is : text ≡ nameAt m i j
-  text-is = cut-at (slotStart i + firstName + nameWidth * j + 1) b m ∙ rw e
-
-  module _ (o : Bool) (p : o ≡ ownable text) where
+module _ (m : List ℕ) (i j : ℕ) (x : List ℕ) (is : x ≡ nameAt m i j) where
+  module _ (o : Bool) (p : o ≡ ownable x) where
     pub name-bad : not o ≡ true → false ≡ nameTest m i j
     unfolding nameTest
-    name-bad t = rw (← text-is, ← p, not-true o t)
+    name-bad t = rw (← is, ← p, not-true o t)
 
-    module _ (w : Bool) (q : w ≡ owns (drop (j + 1) (peerAt m i .names)) text) where
+    module _ (w : Bool) (q : w ≡ owns (drop (j + 1) (peerAt m i .names)) x) where
       pub name-twice : w ≡ true → false ≡ nameTest m i j
       unfolding nameTest
-      name-twice t = rw (← text-is, ← q, t, and-false)
+      name-twice t = rw (← is, ← q, t, and-false)
 
-      pub name-good : not o ≡ false → w ≡ false → (r : ℕ) → FoundSlot (isOwner text) m (i + 1) r → leb 16 r ≡ nameTest m i j
+      pub name-good : not o ≡ false → w ≡ false → (r : ℕ) → FoundSlot (isOwner x) m (i + 1) r → leb 16 r ≡ nameTest m i j
       unfolding nameTest
       name-good s t r f =
-          rw (← text-is, ← p, not-false o s, ← q, t, found-any (isOwner text) m (i + 1) r f, and-true) (sym (not-ltb r 16))
+          rw (← is, ← p, not-false o s, ← q, t, found-any (isOwner x) m (i + 1) r f, and-true) (sym (not-ltb r 16))
 
-pub ruleset name-tests = (name-bad, name-twice, name-good, name-byte, needs)
+pub ruleset name-tests = (name-bad, name-twice, name-good, needs)
 
 -- ---- the names of a slot, of which j are tested
 

@@ -184,8 +184,11 @@ module _ (m : List ℕ) (f : (i : ℕ) → getD m i 0 < 256) (a : ℕ) (h : a + 
       (ap (λ (b : Bool). tableTest m (a + gidsAt) gidWidth gidRoom (a + pendingAt) && b)
       (same-part p (n ++ s) m (a + pendingAt) pendingLength (slotLength - pendingAt)
       (table-length callWidth callRoom pendingBytes (tableOf callWidth callRoom pendingOf (drop (a + pendingAt) m))) (omega arith)
-      ∙ rw (w, table-plain m f callWidth callRoom pendingBytes pending-length pendingOf pending-again (a + pendingAt) (a + namesAt) (omega arith) (omega arith)
-      (omega arith))
+      ∙ rw (
+        w,
+        table-plain m f callWidth callRoom pendingBytes pending-length pendingOf pending-again (a + pendingAt) (a + namesAt) (omega arith) (omega arith)
+            (omega arith),
+      )
       (ap (λ (b : Bool). tableTest m (a + pendingAt) callWidth callRoom (a + namesAt) && b)
       (same-part n s m (a + namesAt) namesLength (slotLength - namesAt)
       (table-length nameWidth nameRoom cellOf (tableOf nameWidth nameRoom nameOf (drop (a + namesAt) m))) (omega arith)
@@ -218,7 +221,8 @@ slot-plain m f l i h e =
 
 -- a free slot is all zero
 pub free-plain : (m : List ℕ) → length m ≡ memoryLength → (i : ℕ) → i < 16 → wordAt Little m (slotStart i) ≡ 0
-    → same (slotBytes (slotOf (take slotLength (drop (slotStart i) m)))) (take slotLength (drop (slotStart i) m)) ≡ allZero (take slotLength (drop (slotStart i) m))
+    → same (slotBytes (slotOf (take slotLength (drop (slotStart i) m)))) (take slotLength (drop (slotStart i) m))
+    ≡ allZero (take slotLength (drop (slotStart i) m))
 unfolding slotOf slotBytes
 free-plain m l i h e =
     let a = slotStart i in

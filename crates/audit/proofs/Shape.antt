@@ -75,8 +75,16 @@ module _ (m : List ℕ) (a b : ℕ) (e : b ≡ getD m a 0) (s : b < 256) (l : a 
   cell-plain =
       let k : a + nameWidth - (a + 1 + b) ≡ nameLimit - b = omega arith in
       cell-split (take nameWidth (drop a m)) (rw (length-take nameWidth (drop a m)) (omega (arith, length-drop a m)))
-      ∙ rw (front-is, rest, name-length, eq-eqb b b refl, same-pad b nameLimit (take nameLimit (drop (a + 1) m)) rest-length, k,
-      drop-part b nameLimit (nameLimit - b) (drop (a + 1) m) (omega arith), drop-drop b (a + 1) m)
+      ∙ rw (
+        front-is,
+        rest,
+        name-length,
+        eq-eqb b b refl,
+        same-pad b nameLimit (take nameLimit (drop (a + 1) m)) rest-length,
+        k,
+        drop-part b nameLimit (nameLimit - b) (drop (a + 1) m) (omega arith),
+        drop-drop b (a + 1) m,
+      )
 
 pub cell-is : (m : List ℕ) (i j b : ℕ) (r : Bool) → length m ≡ memoryLength → i < 16 → j < nameRoom → b ≡ getD m (slotStart i + firstName + nameWidth * j) 0
     → b < 256
@@ -93,23 +101,24 @@ pub ruleset cell-tests = (cell-is, needs)
 abbrev region : List ℕ → ℕ → List ℕ
 region m i = take (nameWidth * nameRoom) (drop (slotStart i + firstName) m)
 
-pub record Celling (m : List ℕ) (i n j : ℕ) : Type 0 where
+-- the loop's invariant: the cells from j on decide what the test says
+pub record CellsInvariant (m : List ℕ) (i n j : ℕ) : Type 0 where
   pub few : n ≤ nameRoom
   pub inside : j ≤ n
   pub counted : n ≡ wordAt Little m (slotStart i + namesAt)
   pub left : cellsTest m i ≡ plainCells cellOf nameOf nameWidth (n - j) (drop (nameWidth * j) (region m i))
 
-pub celling-many : (m : List ℕ) (i n : ℕ) → n ≡ wordAt Little m (slotStart i + namesAt) → nameRoom < n → false ≡ cellsTest m i
+pub cells-many : (m : List ℕ) (i n : ℕ) → n ≡ wordAt Little m (slotStart i + namesAt) → nameRoom < n → false ≡ cellsTest m i
 unfolding cellsTest
-celling-many m i n e h = rw (← e, lt-leb n nameRoom h)
+cells-many m i n e h = rw (← e, lt-leb n nameRoom h)
 
-pub celling-begins : {m : List ℕ} {i n : ℕ} → n ≡ wordAt Little m (slotStart i + namesAt) → n ≤ nameRoom → Celling m i n 0
+pub cells-begins : {m : List ℕ} {i n : ℕ} → n ≡ wordAt Little m (slotStart i + namesAt) → n ≤ nameRoom → CellsInvariant m i n 0
 unfolding cellsTest
-celling-begins {m} {i} {n} e h =
+cells-begins {m} {i} {n} e h =
     let k : n - 0 ≡ n = omega arith in
     record { few = h; inside = omega arith; counted = e; left = rw (← e, le-leb n nameRoom h, k) }
 
-module _ {m : List ℕ} {i n j : ℕ} (l : Celling m i n j) where
+module _ {m : List ℕ} {i n j : ℕ} (l : CellsInvariant m i n j) where
   module _ (h : j < n) {r : Bool} (e : r ≡ plainCell m i j) where
     cell-at : take nameWidth (drop (nameWidth * j) (region m i)) ≡ take nameWidth (drop (slotStart i + firstName + nameWidth * j) m)
     cell-at =
@@ -124,17 +133,17 @@ module _ {m : List ℕ} {i n j : ℕ} (l : Celling m i n j) where
         let k : nameWidth * j + nameWidth ≡ nameWidth * (j + 1) = omega arith in
         plain-next nameWidth cellOf cell-length nameOf n j (region m i) h ∙ rw (cell-at, k)
 
-    pub celling-more : not r ≡ false → Celling m i n (j + 1)
-    celling-more t =
+    pub cells-more : not r ≡ false → CellsInvariant m i n (j + 1)
+    cells-more t =
         record { few = l .few; inside = omega arith; counted = l .counted; left = l .left ∙ step ∙ rw (← e, not-false r t) }
 
-    pub celling-stops : not r ≡ true → false ≡ cellsTest m i
-    celling-stops t = sym (l .left ∙ step ∙ rw (← e, not-true r t))
+    pub cells-stops : not r ≡ true → false ≡ cellsTest m i
+    cells-stops t = sym (l .left ∙ step ∙ rw (← e, not-true r t))
 
-  pub celling-ends : n ≤ j → (r : Bool)
+  pub cells-ends : n ≤ j → (r : Bool)
       → r ≡ allZero (take (slotStart i + takenAt - (slotStart i + firstName + nameWidth * j)) (drop (slotStart i + firstName + nameWidth * j) m))
       → r ≡ cellsTest m i
-  celling-ends h r z =
+  cells-ends h r z =
       let f : n ≤ nameRoom = l .few in
       let g : j ≤ n = l .inside in
       let k : slotStart i + takenAt - (slotStart i + firstName + nameWidth * j) ≡ (nameWidth * nameRoom) - nameWidth * j = omega arith in
@@ -143,4 +152,4 @@ module _ {m : List ℕ} {i n j : ℕ} (l : Celling m i n j) where
       ∙ plain-end nameWidth cellOf cell-length nameOf n j (region m i) h
       ∙ rw (drop-part (nameWidth * j) (nameWidth * nameRoom) ((nameWidth * nameRoom) - nameWidth * j) (drop (slotStart i + firstName) m) (omega arith), drop-drop (nameWidth * j) (slotStart i + firstName) m, k))
 
-pub ruleset celling = (celling-many, celling-begins, celling-more, celling-stops, celling-ends, needs)
+pub ruleset cells = (cells-many, cells-begins, cells-more, cells-stops, cells-ends, needs)

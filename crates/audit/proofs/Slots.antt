@@ -44,8 +44,10 @@ pub ruleset shapes = (shape-is, needs)
 
 -- ---- its stream
 
-pub stream-is : (m : List ℕ) (i t n s : ℕ) (r : Bool) → t ≡ wordAt Little m (slotStart i + takenAt) → n ≡ wordAt Little m (slotStart i + headAt) → s ≡ min n headRoom
-    → r ≡ goodTail (record { taken = t; head = take s (take (slotStart i + firstByte + headRoom - (slotStart i + firstByte)) (drop (slotStart i + firstByte) m)) })
+pub stream-is : (m : List ℕ) (i t n s : ℕ) (r : Bool) → t ≡ wordAt Little m (slotStart i + takenAt) → n ≡ wordAt Little m (slotStart i + headAt)
+    → s ≡ min n headRoom
+    → r ≡ goodTail
+    (record { taken = t; head = take s (take (slotStart i + firstByte + headRoom - (slotStart i + firstByte)) (drop (slotStart i + firstByte) m)) })
     → r ≡ goodTail (peerAt m i .stream)
 stream-is m i t n s r p q e z =
     let k : s ≤ headRoom = omega arith in
@@ -54,7 +56,10 @@ stream-is m i t n s r p q e z =
 pub stream-small : (m : List ℕ) (i n s : ℕ) → length m ≡ memoryLength → i < 16 → s ≡ min n headRoom
     → s ≤ length (take (slotStart i + firstByte + headRoom - (slotStart i + firstByte)) (drop (slotStart i + firstByte) m))
 stream-small m i n s l h e =
-    rw (cut-at (slotStart i + firstByte) headRoom m, length-take-le headRoom (drop (slotStart i + firstByte) m) (omega (arith, length-drop (slotStart i + firstByte) m)))
+    rw (
+      cut-at (slotStart i + firstByte) headRoom m,
+      length-take-le headRoom (drop (slotStart i + firstByte) m) (omega (arith, length-drop (slotStart i + firstByte) m)),
+    )
     (omega arith)
 
 pub ruleset streams = (stream-is, stream-small, needs)

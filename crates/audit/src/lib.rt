@@ -36,10 +36,7 @@ fn is_name_good(memory: &[u8], i: usize, j: usize) -> bool
     requires { ⌜ (length (now memory) ≡ memoryLength) × (i < 16) × (j < nameRoom) ⌝ }
     ensures { λ r. ⌜ (r ≡ nameTest (now (memory .entry)) i j) × (getD (now (memory .entry)) (slotStart i + firstName + nameWidth * j) 0 < 256) ⌝ }
 {
-    let at = SLOTS_AT + SLOT_LENGTH * i + FIRST_NAME + NAME_WIDTH * j;
-    let from = at + 1;
-    let to = from + wire::wide(memory[at]) as usize;
-    let name = &memory[from..to];
+    let name = slots::name_at(memory, i, j);
     if !rules::is_ownable(name) {
         return false;
     }
@@ -67,7 +64,8 @@ fn are_names_good(memory: &[u8], i: usize) -> bool
 
 // Pending call j of slot i has a connected callee and a serial, and stands once from there on.
 fn is_call_good(memory: &[u8], i: usize, j: usize) -> bool
-    requires { ⌜ (length (now memory) ≡ memoryLength) × (i < 16) × (j < length (peerAt (now memory) i .pending)) × (length (peerAt (now memory) i .pending) ≤ callRoom) ⌝ }
+    requires { ⌜ (length (now memory) ≡ memoryLength) × (i < 16) × (j < length (peerAt (now memory) i .pending))
+        × (length (peerAt (now memory) i .pending) ≤ callRoom) ⌝ }
     ensures { λ r. ⌜ r ≡ callTest (now (memory .entry)) i j ⌝ }
 {
     let callee = slots::word_at(memory, i, FIRST_CALLEE + CALL_WIDTH * j);
@@ -185,7 +183,8 @@ fn is_stream_good(memory: &[u8], i: usize) -> bool
 // The peer of slot i keeps the rules, beside the slots after it.
 fn is_peer_good(memory: &[u8], i: usize, number: u32, last: u32) -> bool
     requires { ⌜ (length (now memory) ≡ memoryLength) × (i < 16) × (number ≡ numberAt (now memory) i) × (1 ≤ number) ⌝ }
-    ensures { λ r. ⌜ r ≡ goodPeer (stateOf (now (memory .entry)) .slots) last (peerAt (now (memory .entry)) i) (drop (i + 1) (stateOf (now (memory .entry)) .slots)) ⌝ }
+    ensures { λ r.
+        ⌜ r ≡ goodPeer (stateOf (now (memory .entry)) .slots) last (peerAt (now (memory .entry)) i) (drop (i + 1) (stateOf (now (memory .entry)) .slots)) ⌝ }
 {
     if last < number {
         return false;

@@ -13,8 +13,9 @@ use Rattle.header.specs.Fields.{textIn, valueAt, framed, elementAt, walk, field
 use Rattle.header.specs.Values.{numberIn, goodValue, goodField, goodValues}
 use Rattle.header.specs.Required.{hasRequired}
 use Rattle.header.specs.Header.{headerOf, judgedHead, readHead, readHeader}
-use Rattle.image.specs.Good.{goodCounts, goodSections, goodHeader, goodString, goodOrAny, goodOwned, goodConnectRule, goodOwnRule, goodStrings, goodTransactionRule}
-use Rattle.image.specs.Good.{goodConnect, goodOwn, goodTransaction, goodImage, outcomeOf, imageAnswer}
+use Rattle.image.specs.Good.{goodCounts, goodSections, goodHeader, goodString, goodOrAny, goodOwned, goodConnectRule, goodOwnRule, goodStrings}
+use Rattle.image.specs.Good.{goodTransactionRule}
+use Rattle.image.specs.Good.{goodRule, goodImage, outcomeOf, imageAnswer}
 use Rattle.policy.specs.Subjects.{inGroups, subjectFits}
 use Rattle.policy.specs.Names.{owns}
 use Rattle.policy.specs.Precedence.{deciding}
@@ -31,7 +32,12 @@ use Rattle.book.specs.Lists.{modelStep, answers}
 use Rattle.book.specs.Bench.{workedAnswer, workedTable, furtherRows}
 
 both-agree : (agrees workedAnswer same workedTable ≡ true) × (agrees workedAnswer same furtherRows ≡ true)
-unfolding allZero same wordAt wordBytes startsWith wellKnown unique validName inNamespace headOf closedBy one row validSignature orderOf headLength messageLength sizesOf fixedPart letterOf textIn valueAt framed elementAt walk fieldsOf numberIn goodValue goodField goodValues hasRequired headerOf judgedHead readHead readHeader goodCounts goodSections goodHeader goodString goodOrAny goodOwned goodConnectRule goodOwnRule goodStrings goodTransactionRule goodConnect goodOwn goodTransaction goodImage outcomeOf imageAnswer inGroups subjectFits owns deciding connectFits ownedFits ownFits messageOf partFits interfaceFits partsFit nameFits transactionFits transactionMatches connectDecides mayConnect ownDecides mayOwn transactionDecides mayTransact offer firstBy digits uniqueName answersTo resolve awaits maskOf countOf judged connect own piece cutOff modelStep answers
+unfolding allZero same wordAt wordBytes startsWith wellKnown unique validName inNamespace headOf closedBy one row validSignature orderOf headLength
+    messageLength sizesOf fixedPart letterOf textIn valueAt framed elementAt walk fieldsOf numberIn goodValue goodField goodValues hasRequired headerOf
+    judgedHead readHead readHeader goodCounts goodSections goodHeader goodString goodOrAny goodOwned goodConnectRule goodOwnRule goodStrings
+    goodTransactionRule goodRule goodImage outcomeOf imageAnswer inGroups subjectFits owns deciding connectFits ownedFits ownFits messageOf partFits
+    interfaceFits partsFit nameFits transactionFits transactionMatches connectDecides mayConnect ownDecides mayOwn transactionDecides mayTransact offer
+    firstBy digits uniqueName answersTo resolve awaits maskOf countOf judged connect own piece cutOff modelStep answers
 both-agree = (refl, refl)
 
 pub table-agrees : agrees workedAnswer same workedTable ≡ true

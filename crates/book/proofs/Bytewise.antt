@@ -15,12 +15,13 @@ use Rattle.rules.specs.Places.{isStop, goesOn}
 use Rattle.book.specs.Split.{said}
 
 -- the verdicts of an offering, and the state that it leaves
-pub record Heard (S : Type 0) : Type 0 where
+pub record Offering (S : Type 0) : Type 0 where
   pub said : List Judgement
   pub state : State S
 
-abbrev pub hears : {S : Type 0} → List Judgement → Heard S → Heard S
-hears vs a = record { said = vs ++ a .said; state = a .state }
+-- these verdicts, and then those of an offering
+abbrev pub saidBefore : {S : Type 0} → List Judgement → Offering S → Offering S
+saidBefore vs a = record { said = vs ++ a .said; state = a .state }
 
 -- the same step with one byte more taken
 abbrev pub bumped : {S : Type 0} → Step S Taken → Step S Taken
@@ -51,36 +52,37 @@ module _ {S : Type 0} (step : State S → List ℕ → Step S Taken) where
     pub way : (s : State S) (b : ℕ) (p : List ℕ) → Way s b p
 
   -- the bytes one by one
-  unfoldable pub bytewise : State S → List ℕ → Heard S
+  unfoldable pub bytewise : State S → List ℕ → Offering S
   bytewise s [] = record { said = []; state = s }
-  bytewise s (b ∷ p) = hears (said (step s (b ∷ []) .result)) (bytewise (step s (b ∷ []) .state) p)
+  bytewise s (b ∷ p) = saidBefore (said (step s (b ∷ []) .result)) (bytewise (step s (b ∷ []) .state) p)
 
   pub bytewise-none : (s : State S) → bytewise s [] ≡ record { said = []; state = s }
   unfolding bytewise
   bytewise-none s = refl
 
   -- in parts or whole
-  pub bytewise-append : (s : State S) (p q : List ℕ) → bytewise s (p ++ q) ≡ hears (bytewise s p .said) (bytewise (bytewise s p .state) q)
+  pub bytewise-append : (s : State S) (p q : List ℕ) → bytewise s (p ++ q) ≡ saidBefore (bytewise s p .said) (bytewise (bytewise s p .state) q)
   unfolding bytewise
   bytewise-append s [] q = refl
   bytewise-append s (b ∷ p) q =
       let vs = said (step s (b ∷ []) .result) in
       let t = step s (b ∷ []) .state in
-      ap (hears vs) (bytewise-append t p q)
-      ∙ ap (λ (l : List Judgement). record { said = l; state = bytewise (bytewise t p .state) q .state }) (sym (append-assoc vs (bytewise t p .said) (bytewise (bytewise t p .state) q .said)))
+      ap (saidBefore vs) (bytewise-append t p q)
+      ∙ ap (λ (l : List Judgement). record { said = l; state = bytewise (bytewise t p .state) q .state })
+      (sym (append-assoc vs (bytewise t p .said) (bytewise (bytewise t p .state) q .said)))
 
   -- what refuses is silent
   pub refused-silent : (s : State S) (p : List ℕ) → Refuses s → bytewise s p ≡ record { said = []; state = s }
   unfolding bytewise
   refused-silent s [] r = refl
   refused-silent s (b ∷ p) r =
-      ap (λ (z : Step S Taken). hears (said (z .result)) (bytewise (z .state) p)) (r .refused (b ∷ []))
-      ∙ ap (λ (l : List Judgement). hears l (bytewise s p)) (r .silent)
+      ap (λ (z : Step S Taken). saidBefore (said (z .result)) (bytewise (z .state) p)) (r .refused (b ∷ []))
+      ∙ ap (λ (l : List Judgement). saidBefore l (bytewise s p)) (r .silent)
       ∙ refused-silent s p r
 
   -- what a call with the piece p gives, and then the bytes that it left
-  abbrev pub call-then : List ℕ → Step S Taken → Heard S
-  call-then p z = hears (said (z .result)) (bytewise (z .state) (drop (z .result .taken) p))
+  abbrev pub call-then : List ℕ → Step S Taken → Offering S
+  call-then p z = saidBefore (said (z .result)) (bytewise (z .state) (drop (z .result .taken) p))
 
   module _ (laws : Laws) where
     pub call-first : (s : State S) (p : List ℕ) → bytewise s p ≡ call-then p (step s p)
@@ -88,7 +90,7 @@ module _ {S : Type 0} (step : State S → List ℕ → Step S Taken) where
     call-first s [] = go (laws .idle s)
       where
         go : Idle s → bytewise s [] ≡ call-then [] (step s [])
-        go (idle-refuses r) = sym (ap (call-then []) (r .refused []) ∙ ap (λ (l : List Judgement). hears l (bytewise s [])) (r .silent))
+        go (idle-refuses r) = sym (ap (call-then []) (r .refused []) ∙ ap (λ (l : List Judgement). saidBefore l (bytewise s [])) (r .silent))
         go (idles e) = sym (ap (call-then []) e)
     call-first s (b ∷ p) = go (laws .way s b p) (call-first (step s (b ∷ []) .state) p)
       where
@@ -96,9 +98,9 @@ module _ {S : Type 0} (step : State S → List ℕ → Step S Taken) where
         t = step s (b ∷ []) .state
 
         go : Way s b p → bytewise t p ≡ call-then p (step t p) → bytewise s (b ∷ p) ≡ call-then (b ∷ p) (step s (b ∷ p))
-        go (refuses r) ih = sym (ap (call-then (b ∷ p)) (r .refused (b ∷ p)) ∙ ap (λ (l : List Judgement). hears l (bytewise s (b ∷ p))) (r .silent))
-        go (joins q e) ih = ap (λ (l : List Judgement). hears l (bytewise t p)) q ∙ ih ∙ sym (ap (call-then (b ∷ p)) e)
-        go (decides e k f) ih = sym (ap (call-then (b ∷ p)) e ∙ ap (λ (n : ℕ). hears (said (step s (b ∷ []) .result)) (bytewise t (drop n (b ∷ p)))) k)
+        go (refuses r) ih = sym (ap (call-then (b ∷ p)) (r .refused (b ∷ p)) ∙ ap (λ (l : List Judgement). saidBefore l (bytewise s (b ∷ p))) (r .silent))
+        go (joins q e) ih = ap (λ (l : List Judgement). saidBefore l (bytewise t p)) q ∙ ih ∙ sym (ap (call-then (b ∷ p)) e)
+        go (decides e k f) ih = sym (ap (call-then (b ∷ p)) e ∙ ap (λ (n : ℕ). saidBefore (said (step s (b ∷ []) .result)) (bytewise t (drop n (b ∷ p)))) k)
 
     -- an answer that ends an offering leaves a state that refuses
     stopped : (s : State S) (p : List ℕ) → isStop (step s p .result .judgement .answer) ≡ true → Refuses (step s p .state)
@@ -122,7 +124,8 @@ module _ {S : Type 0} (step : State S → List ℕ → Step S Taken) where
         → bytewise s p ≡ record { said = said (step s p .result); state = step s p .state }
     call-last s p h =
         let z = step s p in
-        call-first s p ∙ ap (hears (said (z .result))) (go (isStop (z .result .judgement .answer)) refl h) ∙ ap (λ (l : List Judgement). record { said = l; state = z .state }) (append-nil (said (z .result)))
+        call-first s p ∙ ap (saidBefore (said (z .result))) (go (isStop (z .result .judgement .answer)) refl h)
+        ∙ ap (λ (l : List Judgement). record { said = l; state = z .state }) (append-nil (said (z .result)))
       where
         z : Step S Taken
         z = step s p

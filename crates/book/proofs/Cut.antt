@@ -9,7 +9,7 @@ use lib.Dec.{ltb}
 use lib.ListN.{length, take, drop, length-append, length-drop, drop-of-length-le}
 use lib.Seq.{take-append-le, drop-append-le, take-at}
 use borrow.Author.Tests.{lt-ltb, le-ltb, ltb-true, ltb-false}
-use Rattle.wire.proofs.Texts.{both-first, both-second}
+use Rattle.wire.proofs.Texts.{impossible, both-first, both-second}
 use Rattle.header.specs.declared.Header.{Header}
 use Rattle.header.specs.declared.Reading.{Reading}
 use Rattle.header.specs.declared.Reading.the-variants.{Short, Broken, Whole}
@@ -71,7 +71,7 @@ module _ (xs : List ℕ) where
         (sym (begins-whole x w))
       where
         never : readHeader xs ≡ Short → ⊥
-        never e = let q : Whole x ≡ Short = sym (w .read) ∙ e in let z : _≡_ {A = ℕ} 0 1 = cc in omega arith
+        never e = let q : Whole x ≡ Short = sym (w .read) ∙ e in impossible cc
 
   -- a whole message is whole whatever follows it
   module _ (e : isWhole (firstVerdict xs) ≡ true) where
@@ -108,7 +108,8 @@ module _ (xs : List ℕ) (b : ℕ) where
       let f = whole-fits (snoc xs b) x (w .1 .read) in
       let s : x .head + x .body ≤ length xs = omega (arith, past-less (snoc xs b) e, begins-size (snoc xs b) x (w .1), length-snoc xs b) in
       let k : headLength (snoc xs b) ≤ length xs = omega (arith, f .head-is) in
-      let r : readHeader xs ≡ Whole x = sym (ap readHeader (take-at xs (b ∷ []) (length xs) refl)) ∙ read-front (length xs) (snoc xs b) (omega (arith, f .head-low)) k ∙ w .1 .read in
+      let r : readHeader xs ≡ Whole x = sym (ap readHeader (take-at xs (b ∷ []) (length xs) refl))
+      ∙ read-front (length xs) (snoc xs b) (omega (arith, f .head-low)) k ∙ w .1 .read in
       ap isWhole (begins-whole xs x (record { read = r; reached = s }))
 
 -- ---- the cut
@@ -177,7 +178,8 @@ cut-snoc (suc f) xs b h = go (past xs) refl (cut-snoc f (drop (size (firstVerdic
     rest : List ℕ
     rest = drop (size (firstVerdict xs)) xs
 
-    go : (p : Bool) → past xs ≡ p → (length rest ≤ f → cutOff (suc f) (snoc rest b) ≡ onward (cutOff f rest) b) → cutOff (suc (suc f)) (snoc xs b) ≡ onward (cutOff (suc f) xs) b
+    go : (p : Bool) → past xs ≡ p → (length rest ≤ f → cutOff (suc f) (snoc rest b) ≡ onward (cutOff f rest) b)
+        → cutOff (suc (suc f)) (snoc xs b) ≡ onward (cutOff (suc f) xs) b
     go true e ih =
         let w = past-whole xs e in
         cut-step (suc f) (snoc xs b) (past-snoc xs b w)

@@ -80,7 +80,8 @@ module _ (image : List ℕ) (n : ℕ) where
       less : goesOn r p ≡ true → length (drop (r .taken) p) < k
       less e =
           let t = ltb-true (r .taken) (length p) (both-second (not (isStop (r .judgement .answer))) (ltb (r .taken) (length p)) e) in
-          let q = call-takes m p (omega arith) (not-true (isStop (r .judgement .answer)) (both-first (not (isStop (r .judgement .answer))) (ltb (r .taken) (length p)) e)) in
+          let q = call-takes m p (omega arith)
+          (not-true (isStop (r .judgement .answer)) (both-first (not (isStop (r .judgement .answer))) (ltb (r .taken) (length p)) e)) in
           omega (arith, length-drop (r .taken) p)
 
       go : (b : Bool) → goesOn r p ≡ b → (length (drop (r .taken) p) < k → Ended d (drop (r .taken) p)) → Ended m p

@@ -29,7 +29,7 @@ use Rattle.sound.proofs.Keep.{empty-sound, connect-sound, own-sound, release-so
 use Rattle.book.specs.Book.{books, tailView}
 use Rattle.book.specs.Lists.{Call, starts, Answer, plain, connected, taken, gone, underImage, modelStep, answers, after, Below}
 use Rattle.book.specs.Lists.{Ran, ran-start, ran-connect, ran-own, ran-release, ran-piece, ran-leave, Run, done, then, Agrees}
-use Rattle.book.proofs.Tails.{sees}
+use Rattle.book.proofs.Tails.{simulates}
 use Rattle.book.proofs.Never.{nevers}
 
 -- ---- a step over the bytes of a sound state
@@ -41,7 +41,8 @@ module _ {R : Type 0} (s : State Tail) (g : Sound s) (refuse : ℕ → R) (step 
   pub on-image : (image : List ℕ) → onImage refuse image (memoryOf s) (step (stateOf (memoryOf s))) ≡ stored (underImage refuse image s (step s))
   on-image image = rw on-memory (go (eqb (imageAnswer image) 0))
     where
-      go : (b : Bool) → cond b (stored (step s)) (unchanged (memoryOf s) (refuse (imageAnswer image))) ≡ stored (cond b (step s) (stays s (refuse (imageAnswer image))))
+      go : (b : Bool) → cond b (stored (step s)) (unchanged (memoryOf s) (refuse (imageAnswer image)))
+          ≡ stored (cond b (step s) (stays s (refuse (imageAnswer image))))
       go true = refl
       go false = refl
 
@@ -64,16 +65,24 @@ module _ {R : Type 0} (say : R → Answer) {m : List ℕ} {b : State (List ℕ)}
   meets-memory : {r : R} {e : List ℕ} → Did (onMemory refuse m (step (stateOf m))) r e → Meets say z r e
   meets-memory d =
       let q = ap (λ (x : List ℕ). onMemory refuse x (step (stateOf x))) (h .bytes) ∙ on-memory (seen tailView b) (h .sound) refuse step ∙ ap stored seen-is in
-      record { answer = ap say (d .result ∙ ap (λ (x : MemoryStep R). x .result) q); holds = record { bytes = d .memory ∙ ap (λ (x : MemoryStep R). x .memory) q; sound = sound-after } }
+      record {
+        answer = ap say (d .result ∙ ap (λ (x : MemoryStep R). x .result) q);
+        holds = record { bytes = d .memory ∙ ap (λ (x : MemoryStep R). x .memory) q; sound = sound-after };
+      }
 
   meets-image : (image : List ℕ) {r : R} {e : List ℕ} → Did (onImage refuse image m (step (stateOf m))) r e → Meets say (underImage refuse image b z) r e
   meets-image image d =
       let no = refuse (imageAnswer image) in
       let c : underImage refuse image (seen tailView b) (step (seen tailView b)) ≡ seenStep tailView (underImage refuse image b z)
       = chosen (seenStep tailView) (eqb (imageAnswer image) 0) z (stays b no) (step (seen tailView b)) (stays (seen tailView b) no) seen-is refl in
-      let q = ap (λ (x : List ℕ). onImage refuse image x (step (stateOf x))) (h .bytes) ∙ on-image (seen tailView b) (h .sound) refuse step image ∙ ap stored c in
-      let k = choice (λ (y : Step (List ℕ) R). Sound (seen tailView (y .state))) (eqb (imageAnswer image) 0) z (stays b no) (λ a. sound-after) (λ a. h .sound) in
-      record { answer = ap say (d .result ∙ ap (λ (x : MemoryStep R). x .result) q); holds = record { bytes = d .memory ∙ ap (λ (x : MemoryStep R). x .memory) q; sound = k } }
+      let q = ap (λ (x : List ℕ). onImage refuse image x (step (stateOf x))) (h .bytes) ∙ on-image (seen tailView b) (h .sound) refuse step image
+      ∙ ap stored c in
+      let k = choice (λ (y : Step (List ℕ) R). Sound (seen tailView (y .state))) (eqb (imageAnswer image) 0) z (stays b no) (λ a. sound-after)
+      (λ a. h .sound) in
+      record {
+        answer = ap say (d .result ∙ ap (λ (x : MemoryStep R). x .result) q);
+        holds = record { bytes = d .memory ∙ ap (λ (x : MemoryStep R). x .memory) q; sound = k };
+      }
 
 -- ---- start
 
@@ -104,14 +113,16 @@ module _ {m : List ℕ} (b : State (List ℕ)) (h : Holds m b) where
       → Meets connected (underImage noConnect image b (connect books image b uid gids)) r e
   unfolding connectOn
   connect-meets image uid gids u w d =
-      meets-image connected h noConnect (λ s. connect tails image s uid gids) (connect books image b uid gids) (connect-seen books tails tailView sees image b uid gids)
+      meets-image connected h noConnect (λ s. connect tails image s uid gids) (connect books image b uid gids)
+      (connect-seen books tails tailView simulates image b uid gids)
       (connect-sound v uid gids (h .sound) u (every-below 4294967296 gids w) image) image d
 
   own-meets : (image : List ℕ) (n : ℕ) (name : List ℕ) {r : ℕ} {e : List ℕ} → Did (ownOn image m n name) r e
       → Meets plain (underImage (λ a. a) image b (own image b n name)) r e
   unfolding ownOn
   own-meets image n name d =
-      meets-image plain h (λ a. a) (λ s. own image s n name) (own image b n name) (own-seen tailView b image n name) (own-sound v (h .sound) image n name) image d
+      meets-image plain h (λ a. a) (λ s. own image s n name) (own image b n name) (own-seen tailView b image n name) (own-sound v (h .sound) image n name)
+      image d
 
   release-meets : (n : ℕ) (name : List ℕ) {r : ℕ} {e : List ℕ} → Did (releaseOn m n name) r e → Meets plain (release b n name) r e
   unfolding releaseOn
@@ -122,13 +133,14 @@ module _ {m : List ℕ} (b : State (List ℕ)) (h : Holds m b) where
       → Meets taken (underImage noPiece image b (piece books image b n bytes)) r e
   unfolding pieceOn
   piece-meets image n bytes w d =
-      meets-image taken h noPiece (λ s. piece tails image s n bytes) (piece books image b n bytes) (piece-seen books tails tailView sees image b n bytes)
+      meets-image taken h noPiece (λ s. piece tails image s n bytes) (piece books image b n bytes) (piece-seen books tails tailView simulates image b n bytes)
       (piece-sound v (h .sound) bytes (every-below 256 bytes w) image n) image d
 
   leave-meets : (n : ℕ) {r : Gone} {e : List ℕ} → Did (disconnectOn m n) r e → Meets gone (disconnect books b n) r e
   unfolding disconnectOn
   leave-meets n d =
-      meets-memory gone h noGone (λ s. disconnect tails s n) (disconnect books b n) (disconnect-seen books tails tailView sees b n) (disconnect-sound v (h .sound) n) d
+      meets-memory gone h noGone (λ s. disconnect tails s n) (disconnect books b n) (disconnect-seen books tails tailView simulates b n)
+      (disconnect-sound v (h .sound) n) d
 
   pub one : {e : List ℕ} {c : Call} {a : Answer} → Ran m e c a → Told b c a e
   unfolding modelStep

@@ -8,7 +8,7 @@ use lib.Dec.{eqb, ltb}
 use lib.ListN.{length, take, drop, length-append, length-drop, take-append-drop}
 use lib.Seq.{drop-at, length-take-le, take-all}
 use borrow.Author.Tests.{eqb-true, lt-ltb, le-ltb, ltb-false}
-use Rattle.wire.proofs.Texts.{both-first, both-second}
+use Rattle.wire.proofs.Texts.{impossible, both-first, both-second}
 use Rattle.header.specs.declared.Reading.{Reading}
 use Rattle.header.specs.declared.Reading.the-variants.{Short, Broken, Whole}
 use Rattle.header.specs.Header.{readHeader}
@@ -19,7 +19,8 @@ use Rattle.stream.proofs.Pushes.{breaks}
 use Rattle.book.specs.Book.{firstVerdict, isWhole, size, past, cutOff, current, books, keptTail, tailView}
 use Rattle.book.specs.Split.{joinedPieces}
 use Rattle.book.specs.Messages.{WholeMessage, Messages, Parted}
-use Rattle.book.proofs.Cut.{snoc, begins-whole, whole-begins, whole-append, whole-some, whole-reached, past-few, front-none, cut-step, cut-stops, cut-enough, current-snoc}
+use Rattle.book.proofs.Cut.{snoc, begins-whole, whole-begins, whole-append, whole-some, whole-reached, past-few, front-none, cut-step, cut-stops}
+use Rattle.book.proofs.Cut.{cut-enough, current-snoc}
 use Rattle.sound.proofs.Numbers.{broken-read}
 
 -- ---- messages one after the other
@@ -177,7 +178,8 @@ tail-behind (m ∷ ms) ys w u = go (joinedPieces ms ++ ys) refl (tail-behind ms 
 -- an open stream that a byte breaks has just so many bytes of the broken message: 16 for 1 to 6, and the head's length for 7 to 9
 pub breaks-where : (xs : List ℕ) (b a : ℕ) → books .closed xs ≡ false → books .judge (snoc xs b) ≡ broken a
     → length (current (snoc xs b)) ≡ brokenAt a (current (snoc xs b))
-breaks-where xs b a c j = subst (λ (y : List ℕ). length y ≡ brokenAt a y) (sym (current-snoc xs b)) (go (isWhole (firstVerdict (current xs))) refl (ap firstVerdict (sym (current-snoc xs b)) ∙ j))
+breaks-where xs b a c j =
+    subst (λ (y : List ℕ). length y ≡ brokenAt a y) (sym (current-snoc xs b)) (go (isWhole (firstVerdict (current xs))) refl (ap firstVerdict (sym (current-snoc xs b)) ∙ j))
   where
     h : List ℕ
     h = current xs
@@ -189,10 +191,9 @@ breaks-where xs b a c j = subst (λ (y : List ℕ). length y ≡ brokenAt a y) (
     short q Short e = e
     short q (Broken n) e = absurd (false≢true (sym c ∙ ap (λ (r : Reading). isBroken (finished (length h) h r)) e))
     short q (Whole x) e =
-        let u : readHeader (snoc h b) ≡ Whole x = read-append h (b ∷ []) (λ s. let v : Whole x ≡ Short = sym e ∙ s in let z : _≡_ {A = ℕ} 0 1 = cc in omega arith) ∙ e in
+        let u : readHeader (snoc h b) ≡ Whole x = read-append h (b ∷ []) (λ s. let v : Whole x ≡ Short = sym e ∙ s in impossible cc) ∙ e in
         let v : Whole x ≡ Broken a = sym u ∙ q in
-        let z : _≡_ {A = ℕ} 0 1 = cc in
-        absurd (omega arith)
+        impossible cc
 
     go : (w : Bool) → isWhole (firstVerdict h) ≡ w → firstVerdict (cond w (b ∷ []) (snoc h b)) ≡ broken a
         → length (cond w (b ∷ []) (snoc h b)) ≡ brokenAt a (cond w (b ∷ []) (snoc h b))

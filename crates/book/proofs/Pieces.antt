@@ -7,6 +7,7 @@ use Prim.Native.Nat.{ℕ, _≤_}
 use native.Mathlib.Omega.{arith}
 use lib.Dec.{eqb}
 use borrow.Author.Tests.{eqb-true, eq-eqb}
+use Rattle.wire.proofs.Texts.{impossible}
 use Rattle.image.specs.Good.{imageAnswer}
 use Rattle.header.specs.declared.Header.{Header}
 use Rattle.stream.specs.Stream.{Verdict, more, broken, whole, Streams, Offer, offer, settled}
@@ -45,7 +46,7 @@ module _ {S : Type 0} (O : Streams S) where
   -- the stream that a broken head leaves is judged so
   offer-breaks : (t : S) (p : List ℕ) (a : ℕ) → offer O t p .verdict ≡ broken a → O .judge (offer O t p .stream) ≡ broken a
   unfolding offer
-  offer-breaks t [] a e = let z : _≡_ {A = ℕ} 0 1 = cc in absurd (omega arith)
+  offer-breaks t [] a e = impossible cc
   offer-breaks t (b ∷ p) a e =
       ap (λ (o : Offer S). O .judge (o .stream)) (offer-step O t b p)
       ∙ go (O .judge (O .push t b)) refl (ap (λ (o : Offer S). o .verdict) (sym (offer-step O t b p)) ∙ e) (offer-breaks (O .push t b) p a)
@@ -55,7 +56,7 @@ module _ {S : Type 0} (O : Streams S) where
           → O .judge (follows v (O .push t b) (offer O (O .push t b) p) .stream) ≡ broken a
       go more q c ih = ih c
       go (broken n) q c ih = q ∙ c
-      go (whole k y) q c ih = let z : _≡_ {A = ℕ} 0 1 = cc in absurd (omega arith)
+      go (whole k y) q c ih = impossible cc
 
   module _ (image : List ℕ) (z : State S) (i : ℕ) (q : Peer S) (k : ℕ) where
     fault-broken : (v : Verdict) (a : ℕ) → offered image z i q k v .result .judgement .answer ≡ a → 1 ≤ a → a ≤ 9 → v ≡ broken a
@@ -126,19 +127,22 @@ module _ {S : Type 0} (O : Streams S) where
         let o = offer O (p .stream) bytes in
         let q = withStream p (settled O (o .verdict) (o .stream)) in
         let c = takes-is t in
-        let v = fault-broken image (putSlot s place (peer q)) place q (o .taken) (o .verdict) a (sym (ap (λ (z : Step S Taken). z .result .judgement .answer) c) ∙ e) l k in
+        let v = fault-broken image (putSlot s place (peer q)) place q (o .taken) (o .verdict) a
+        (sym (ap (λ (z : Step S Taken). z .result .judgement .answer) c) ∙ e) l k in
         record { takes = t; stream = o .stream; reads = offer-breaks (p .stream) bytes a v; state = ap (λ (z : Step S Taken). z .state) (c ∙ ap (comes p) v) }
 
     -- ---- a message that ends
 
-    pub piece-ends : (faults : (t : S) (a : ℕ) → offer O t bytes .verdict ≡ broken a → (1 ≤ a) × (a ≤ 9)) → isJudged (pieceUnder .result .judgement .answer) ≡ true
+    pub piece-ends : (faults : (t : S) (a : ℕ) → offer O t bytes .verdict ≡ broken a → (1 ≤ a) × (a ≤ 9))
+        → isJudged (pieceUnder .result .judgement .answer) ≡ true
         → (t : Takes O s image n) × (h : List ℕ) × (x : Header) × (offer O (t .sender .stream) bytes .verdict ≡ whole h x)
     piece-ends faults j =
         let t = low-takes (judged-few (pieceUnder .result .judgement .answer) j) in
         let p = t .sender in
         let o = offer O (p .stream) bytes in
         let q = withStream p (settled O (o .verdict) (o .stream)) in
-        let w = judged-whole image (putSlot s place (peer q)) place q (o .taken) (o .verdict) (faults (p .stream)) (ap (λ (z : Step S Taken). isJudged (z .result .judgement .answer)) (sym (takes-is t)) ∙ j) in
+        let w = judged-whole image (putSlot s place (peer q)) place q (o .taken) (o .verdict) (faults (p .stream))
+        (ap (λ (z : Step S Taken). isJudged (z .result .judgement .answer)) (sym (takes-is t)) ∙ j) in
         (t, w .0, w .1, w .2)
 
     -- the sender, with its message consumed

@@ -42,7 +42,8 @@ module _ {A B : Type 0} (f : A → B) where
 
   pub awaited-seen : (s : State A) (n : ℕ) (h : List ℕ) (x : Header) → isAwaited (seen f s) n h x ≡ isAwaited s n h x
   awaited-seen s n h x =
-      ap (awaited (seen f s .slots) n (x .«reply_serial»)) (resolve-seen f s (fieldOf h (x .destination))) ∙ go (resolve (s .slots) (fieldOf h (x .destination)))
+      ap (awaited (seen f s .slots) n (x .«reply_serial»)) (resolve-seen f s (fieldOf h (x .destination)))
+      ∙ go (resolve (s .slots) (fieldOf h (x .destination)))
     where
       go : (a : Address) → awaited (seen f s .slots) n (x .«reply_serial») a ≡ awaited (s .slots) n (x .«reply_serial») a
       go undirected = refl

@@ -25,12 +25,13 @@ use Rattle.memory.proofs.Good.{good-is, good-sound}
 use Rattle.memory.proofs.Octets.{every-below}
 use Rattle.sound.proofs.Keep.{piece-sound}
 use Rattle.book.specs.Book.{tailView}
-use Rattle.book.specs.Lists.{Call, starts, offers, Answer, plain, connected, taken, gone, underImage, Below, after, Ran, ran-start, ran-connect, ran-own, ran-release, ran-piece, ran-leave, Run, done, then}
+use Rattle.book.specs.Lists.{Call, starts, offers, Answer, plain, connected, taken, gone, underImage, Below, after, Ran, ran-start, ran-connect}
+use Rattle.book.specs.Lists.{ran-own, ran-release, ran-piece, ran-leave, Run, done, then}
 use Rattle.rules.specs.Places.{isStop}
 use Rattle.book.specs.Split.{said, Offers, ends, again, OffersAll, nothing, next, joinedPieces}
 use Rattle.book.proofs.Images.{Refusal, image-refuses}
 use Rattle.book.proofs.List.{on-image, Holds, started}
-use Rattle.book.proofs.Bytewise.{Heard, Refuses, Laws, idle-refuses, refuses, bytewise, bytewise-none, bytewise-append, call-first, call-last}
+use Rattle.book.proofs.Bytewise.{Offering, Refuses, Laws, idle-refuses, refuses, bytewise, bytewise-none, bytewise-append, call-first, call-last}
 use Rattle.book.proofs.Ways.{stepOf, piece-laws}
 
 -- ---- bytes of parts
@@ -91,7 +92,7 @@ module _ (image : List ℕ) (n : ℕ) where
 
   -- ---- what the calls of an offering come to, from the bytes of a sound state
 
-  record Comes (vs : List Judgement) (e : List ℕ) (a : Heard Tail) : Type 0 where
+  record Comes (vs : List Judgement) (e : List ℕ) (a : Offering Tail) : Type 0 where
     said : vs ≡ a .said
     bytes : e ≡ memoryOf (a .state)
     sound : Sound (a .state)

@@ -18,7 +18,7 @@ use Rattle.header.proofs.Readings.{read-front, whole-fits}
 use Rattle.stream.specs.Stream.{Verdict, more, broken, whole}
 use Rattle.stream.specs.Tail.{finished, isBroken, headEnd, fresh, push, judge, closed, tails}
 use Rattle.stream.proofs.Good.{end-is, fresh-more}
-use Rattle.rules.proofs.Seen.{Sees}
+use Rattle.rules.proofs.Seen.{Simulates}
 use Rattle.book.specs.Book.{firstVerdict, isWhole, current, books, keptTail, tailView}
 use Rattle.book.proofs.Cut.{snoc, length-snoc, current-snoc, current-none}
 
@@ -73,7 +73,8 @@ head-kept c b = go (decLt (length c) 16)
     go : Dec (length c < 16) → joins (take (headEnd c) c) b ≡ take (headEnd (snoc c b)) (snoc c b)
     go (yes h) =
         let e = few-end c h in
-        rw (take-all (headEnd c) c (omega arith), e, lt-ltb (length c) 16 h) (sym (take-all (headEnd (snoc c b)) (snoc c b) (omega (arith, length-snoc c b, end-low (snoc c b)))))
+        rw (take-all (headEnd c) c (omega arith), e, lt-ltb (length c) 16 h)
+        (sym (take-all (headEnd (snoc c b)) (snoc c b) (omega (arith, length-snoc c b, end-low (snoc c b)))))
     go (no h) =
         let l : 16 ≤ length c = omega arith in
         let e = end-is c l in
@@ -128,8 +129,8 @@ fresh-view = go (isWhole (firstVerdict (current []))) ∙ refl
     go false = sym (ap keptTail current-none)
 
 -- the guard's streams answer as the model's do, whatever bytes have come
-pub sees : Sees books tails tailView
-sees =
+pub simulates : Simulates books tails tailView
+simulates =
     record {
       fresh = fresh-view;
       closed = λ xs. closed-view xs (isWhole (firstVerdict (current xs))) refl;

@@ -128,7 +128,8 @@ module _ {S : Type 0} (O : Streams S) (shut : (t : S) → O .closed t ≡ isBrok
           way-whole h x j p =
               let one = at-first (whole h x) j [] in
               let r = withStream q (O .next pushed) in
-              let g = judged-goes (judged image (putSlot s place (peer r)) place r h x .judgement .answer) (judged-proper image (putSlot s place (peer r)) place r x h) in
+              let g = judged-goes (judged image (putSlot s place (peer r)) place r h x .judgement .answer)
+              (judged-proper image (putSlot s place (peer r)) place r x h) in
               decides (at-first (whole h x) j p ∙ sym one) (ap (λ (z : Step S Taken). z .result .taken) one)
               (λ k. absurd (false≢true (sym g ∙ sym (ap (λ (z : Step S Taken). isStop (z .result .judgement .answer)) one) ∙ k)))
 

@@ -20,9 +20,9 @@ use Rattle.book.specs.Split.{isVerdict}
 -- call C (rule 13.1): 6c 01 00 01 00 00 00 00 01 00 00 00 1a 00 00 00, 01 01 6f 00 01 00 00 00 2f 00 .., 03 01 73 00 01 00 00 00 4d 00 ..
 abbrev pub callC : List ℕ
 callC =
-    108 ∷ 1 ∷ 0 ∷ 1 ∷ 0 ∷ 0 ∷ 0 ∷ 0 ∷ 1 ∷ 0 ∷ 0 ∷ 0 ∷ 26 ∷ 0 ∷ 0 ∷ 0
-    ∷ 1 ∷ 1 ∷ 111 ∷ 0 ∷ 1 ∷ 0 ∷ 0 ∷ 0 ∷ 47 ∷ 0 ∷ 0 ∷ 0 ∷ 0 ∷ 0 ∷ 0 ∷ 0
-    ∷ 3 ∷ 1 ∷ 115 ∷ 0 ∷ 1 ∷ 0 ∷ 0 ∷ 0 ∷ 77 ∷ 0 ∷ 0 ∷ 0 ∷ 0 ∷ 0 ∷ 0 ∷ 0 ∷ []
+    byte "l" ∷ 1 ∷ 0 ∷ 1 ∷ 0 ∷ 0 ∷ 0 ∷ 0 ∷ 1 ∷ 0 ∷ 0 ∷ 0 ∷ 26 ∷ 0 ∷ 0 ∷ 0
+    ∷ 1 ∷ 1 ∷ byte "o" ∷ 0 ∷ 1 ∷ 0 ∷ 0 ∷ 0 ∷ byte "/" ∷ 0 ∷ 0 ∷ 0 ∷ 0 ∷ 0 ∷ 0 ∷ 0
+    ∷ 3 ∷ 1 ∷ byte "s" ∷ 0 ∷ 1 ∷ 0 ∷ 0 ∷ 0 ∷ byte "M" ∷ 0 ∷ 0 ∷ 0 ∷ 0 ∷ 0 ∷ 0 ∷ 0 ∷ []
 
 -- C with a destination of seven bytes behind it, and so an array of 48
 abbrev pub callTo : List ℕ → List ℕ
@@ -103,7 +103,8 @@ owning image name = asks (starts ∷ connects image 7 [] ∷ claims image 1 name
 abbrev pub callBetween : List ℕ → List ℕ → WorkedQuestion
 callBetween image name =
     asks
-    (starts ∷ connects image 7 [] ∷ connects image 8 [] ∷ claims image 2 (bytes "org.a.x") ∷ claims image 2 (bytes "org.b.y") ∷ offers image 1 (callTo name) ∷ [])
+    (starts ∷ connects image 7 [] ∷ connects image 8 [] ∷ claims image 2 (bytes "org.a.x") ∷ claims image 2 (bytes "org.b.y") ∷ offers image 1 (callTo name)
+    ∷ [])
 
 -- ---- answers as numbers
 
@@ -153,7 +154,7 @@ workedTable =
     ∷ (sends noRules (take 15 callC), saysRefused 10 15)  -- T2
     ∷ (sends noRules callC, saysRefused 22 48)  -- T3
     ∷ (sends allowAll callC, saysToBus 48)  -- T4
-    ∷ (sends noRules (set callC 0 76), saysRefused 1 16)  -- T5: byte 0 as 4c
+    ∷ (sends noRules (set callC 0 (byte "L")), saysRefused 1 16)  -- T5: byte 0 as 4c
     ∷ (sends noRules (littleFixed 1 0 2032), saysRefused 10 16)  -- T6
     ∷ (sends noRules (littleFixed 1 0 2033), saysRefused 5 16)
     ∷ (sends noRules (littleFixed 5 134217712 0), saysRefused 10 16)  -- T7

@@ -42,7 +42,8 @@ low-word n =
     let a : n % 256 ≡ m % 256 = ap (λ (x : ℕ). x % 256) e ∙ add-mul-mod-self-left m 256 (16777216 * q) in
     let e₁ : n / 256 ≡ m / 256 + 256 * (65536 * q) = ap (λ (x : ℕ). x / 256) e ∙ add-mul-div-left m (16777216 * q) (omega arith) ∙ omega arith in
     let b : n / 256 % 256 ≡ m / 256 % 256 = ap (λ (x : ℕ). x % 256) e₁ ∙ add-mul-mod-self-left (m / 256) 256 (65536 * q) in
-    let e₂ : n / 256 / 256 ≡ m / 256 / 256 + 256 * (256 * q) = ap (λ (x : ℕ). x / 256) e₁ ∙ add-mul-div-left (m / 256) (65536 * q) (omega arith) ∙ omega arith in
+    let e₂ : n / 256 / 256 ≡ m / 256 / 256 + 256 * (256 * q) = ap (λ (x : ℕ). x / 256) e₁ ∙ add-mul-div-left (m / 256) (65536 * q) (omega arith)
+    ∙ omega arith in
     let c : n / 256 / 256 % 256 ≡ m / 256 / 256 % 256 = ap (λ (x : ℕ). x % 256) e₂ ∙ add-mul-mod-self-left (m / 256 / 256) 256 (256 * q) in
     let e₃ : n / 256 / 256 / 256 ≡ m / 256 / 256 / 256 + 256 * q = ap (λ (x : ℕ). x / 256) e₂ ∙ add-mul-div-left (m / 256 / 256) (256 * q) (omega arith) in
     let d : n / 256 / 256 / 256 % 256 ≡ m / 256 / 256 / 256 % 256 = ap (λ (x : ℕ). x % 256) e₃ ∙ add-mul-mod-self-left (m / 256 / 256 / 256) 256 q in
@@ -69,11 +70,13 @@ module _ (t : Taken) (w : ℕ) (e : w ≡ t .taken % 4294967296) where
   unfolding answerPlace
   shows-bus q = record { are = rw q (seven (t .judgement .answer) w 1 0 0 (t .taken) 0 low-taken refl) }
 
-  pub shows-peer : (n : ℕ) → t .judgement .receiver ≡ to.Peer n → Shows (taken t) (record { answer = t .judgement .answer; taken = w; kind = 2; number = n; count = 0 })
+  pub shows-peer : (n : ℕ) → t .judgement .receiver ≡ to.Peer n
+      → Shows (taken t) (record { answer = t .judgement .answer; taken = w; kind = 2; number = n; count = 0 })
   unfolding answerPlace
   shows-peer n q = record { are = rw q (seven (t .judgement .answer) w 2 n 0 (t .taken) 0 low-taken refl) }
 
-  pub shows-slots : (mask n : ℕ) → t .judgement .receiver ≡ to.Slots mask n → Shows (taken t) (record { answer = t .judgement .answer; taken = w; kind = 3; number = mask; count = n })
+  pub shows-slots : (mask n : ℕ) → t .judgement .receiver ≡ to.Slots mask n
+      → Shows (taken t) (record { answer = t .judgement .answer; taken = w; kind = 3; number = mask; count = n })
   unfolding answerPlace
   shows-slots mask n q = record { are = rw q (seven (t .judgement .answer) w 3 mask n (t .taken) n low-taken refl) }
 
@@ -156,7 +159,8 @@ module _ (image m a e : List ℕ) (kind : ℕ) where
       leave-called k g d =
           rw (ne-eqb kind 0 h, ne-eqb kind 1 j, eq-eqb kind 5 k) (record { answer = gone g; ran = ran-leave (rw p at d); shows = record { are = refl } })
 
-      pub peer-called : (r : Report) → (kind ≡ 5 → ⊥) → Reported (peerCall image kind n (take (length a - 4) (drop 4 a))) m r e → Reported (callOf image kind a) m r e
+      pub peer-called : (r : Report) → (kind ≡ 5 → ⊥) → Reported (peerCall image kind n (take (length a - 4) (drop 4 a))) m r e
+          → Reported (callOf image kind a) m r e
       unfolding callOf
       peer-called r k s = rw (ne-eqb kind 0 h, ne-eqb kind 1 j, ne-eqb kind 5 k, ← p) (rw (rest-at 4 a) at s)
 

@@ -58,7 +58,8 @@ size-short s h = record { is = rw (lt-ltb (length s) 8 h); inside = omega arith 
 module _ (s : List ℕ) (h : 8 ≤ length s) (k n : ℕ) (p : k ≡ wordAt Little s 0) (q : n ≡ wordAt Little s 4) (b : Bool) (e : b ≡ wellSized k n) where
   pub size-bad : not b ≡ true → Sized s 0
   unfolding entrySize
-  size-bad t = let w : wellSized (entryKind s) (sizeOf s) ≡ false = rw (← p, ← q) (sym e ∙ not-true b t) in record { is = rw (le-ltb (length s) 8 h, w); inside = omega arith }
+  size-bad t = let w : wellSized (entryKind s) (sizeOf s) ≡ false = rw (← p, ← q) (sym e ∙ not-true b t) in
+      record { is = rw (le-ltb (length s) 8 h, w); inside = omega arith }
 
   module _ (t : not b ≡ false) where
     well : wellSized (entryKind s) (sizeOf s) ≡ true
@@ -140,7 +141,8 @@ module _ {s rest : List ℕ} {n : ℕ} (c : Counting s rest n) where
     pub counting-more : (k ≡ 0 → ⊥) → Counting s (take (length rest - k) (drop k rest)) (n + 1)
     counting-more e = go (c .fuel) (c .enough) (c .same) (c .many)
       where
-        go : (f : ℕ) → length rest ≤ f → layout (length s) s ≡ layout f rest → ((image : List ℕ) → length (scriptCalls image (length s) s) ≡ n + length (scriptCalls image f rest))
+        go : (f : ℕ) → length rest ≤ f → layout (length s) s ≡ layout f rest
+            → ((image : List ℕ) → length (scriptCalls image (length s) s) ≡ n + length (scriptCalls image f rest))
             → Counting s (take (length rest - k) (drop k rest)) (n + 1)
         go zero l q m = absurd (omega arith)
         go (suc f) l q m =

@@ -123,8 +123,10 @@ module _ {image s m₀ x m y rest : List ℕ} {at : ℕ} (g : Going image s m₀
           let lw : length w ≡ 28 = ap length (t .written) ∙ place-length (t .answer) in
           let ty : take at y ≡ o = ap (take at) (g .text) ∙ take-at o (drop at x) at written in
           let dy : drop (at + 28) y ≡ drop (at + 28) x
-          = sym (drop-drop 28 at y) ∙ ap (λ (v : List ℕ). drop 28 (drop at v)) (g .text) ∙ ap (drop 28) (drop-at o (drop at x) at written) ∙ drop-drop 28 at x in
-          let b : cells answerPlace (g .given ++ (t .answer ∷ [])) ≡ o ++ w = cells-snoc answerPlace (g .given) (t .answer) ∙ ap (λ (v : List ℕ). o ++ v) (sym (t .written)) in
+          = sym (drop-drop 28 at y) ∙ ap (λ (v : List ℕ). drop 28 (drop at v)) (g .text) ∙ ap (drop 28) (drop-at o (drop at x) at written)
+          ∙ drop-drop 28 at x in
+          let b : cells answerPlace (g .given ++ (t .answer ∷ [])) ≡ o ++ w = cells-snoc answerPlace (g .given) (t .answer)
+          ∙ ap (λ (v : List ℕ). o ++ v) (sym (t .written)) in
           let text : take at y ++ (w ++ drop (at + 28) y) ≡ cells answerPlace (g .given ++ (t .answer ∷ [])) ++ drop (at + 28) x
           = rw (ty, dy, b) (sym (append-assoc o w (drop (at + 28) x))) in
           let lo : length (cells answerPlace (g .given ++ (t .answer ∷ []))) ≡ at + 28 = ap length b ∙ length-append o w ∙ omega (arith, written) in
@@ -144,7 +146,8 @@ module _ {image s m₀ x m y rest : List ℕ} {at : ℕ} (g : Going image s m₀
             place = omega (arith, g .place, length-append (g .past) (c ∷ []));
             text = text;
             room = omega arith;
-            sized = ap length text ∙ length-append (cells answerPlace (g .given ++ (t .answer ∷ []))) (drop (at + 28) x) ∙ omega (arith, lo, length-drop (at + 28) x);
+            sized = ap length text ∙ length-append (cells answerPlace (g .given ++ (t .answer ∷ []))) (drop (at + 28) x)
+                ∙ omega (arith, lo, length-drop (at + 28) x);
             fits = same ∙ g .fits;
           }
 

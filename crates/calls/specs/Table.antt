@@ -3,6 +3,7 @@ use mathlib.Core.List.{List, [], _∷_, _++_}
 use mathlib.Core.Option.{Option, none, some}
 use Prim.Native.Nat.{ℕ}
 use lib.ListN.{length, take}
+use Rattle.wire.specs.Bytes.{byte}
 use Rattle.wire.specs.Words.{wordBytes}
 use Rattle.rules.specs.declared.Receiver.the-variants as to
 use Rattle.book.specs.Lists.{Call, starts, connects, claims, releases, offers, leaves, Answer, plain, connected, taken, gone}
@@ -54,8 +55,8 @@ scriptTable =
     ∷ (script (entryOf 1 (wordBytes 7 ++ wordBytes 20)), 0 ∷ 1 ∷ 7 ∷ 20 ∷ [])
     ∷ (script (entryOf 1 (wordBytes 7 ++ (20 ∷ []))), 67 ∷ [])  -- gids are whole words
     ∷ (script (entryOf 1 []), 67 ∷ [])
-    ∷ (script (entryOf 2 (wordBytes 9 ++ (97 ∷ []))), 0 ∷ 2 ∷ 9 ∷ 97 ∷ [])
-    ∷ (script (entryOf 3 (wordBytes 9 ++ (97 ∷ []))), 0 ∷ 3 ∷ 9 ∷ 97 ∷ [])
+    ∷ (script (entryOf 2 (wordBytes 9 ++ (byte "a" ∷ []))), 0 ∷ 2 ∷ 9 ∷ byte "a" ∷ [])
+    ∷ (script (entryOf 3 (wordBytes 9 ++ (byte "a" ∷ []))), 0 ∷ 3 ∷ 9 ∷ byte "a" ∷ [])
     ∷ (script (entryOf 4 (wordBytes 9)), 0 ∷ 4 ∷ 9 ∷ [])
     ∷ (script (entryOf 4 (9 ∷ 0 ∷ 0 ∷ [])), 67 ∷ [])  -- a peer's number is a whole word
     ∷ (script (entryOf 5 (wordBytes 9 ++ (0 ∷ []))), 67 ∷ [])  -- a disconnect has nothing behind it

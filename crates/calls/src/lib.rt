@@ -136,7 +136,9 @@ fn connect_as(image: &[u8], memory: &mut [u8], uid: u32, gids: [u32; 17], count:
 
 fn connect(image: &[u8], memory: &mut [u8], argument: &[u8]) -> Report
     requires { ⌜ 4 ≤ length (now argument) ⌝ }
-    ensures { λ r. ⌜ Reported (connects (now (image .entry)) (wordAt Little (now (argument .entry)) 0) (gidsOf (now (argument .entry)))) (now (memory .entry)) r (now (memory .exit)) ⌝ }
+    ensures { λ r.
+        ⌜ Reported (connects (now (image .entry)) (wordAt Little (now (argument .entry)) 0) (gidsOf (now (argument .entry)))) (now (memory .entry)) r
+        (now (memory .exit)) ⌝ }
 {
     let uid = wire::u32_at(Order::Little, argument, 0);
     let gids = read_gids(argument);
@@ -278,7 +280,9 @@ fn replay(image: &[u8], script: &[u8], memory: &mut [u8], answers: &mut [u8])
 
 // Starts a guard in `memory`, makes the script's calls on it and writes each call's answer to its place of 28 bytes. A script that is refused changes nothing.
 pub fn run(image: &[u8], script: &[u8], memory: &mut [u8], answers: &mut [u8]) -> u8
-    ensures { λ r. ⌜ EndsAs (outcome (now (image .entry)) (now (script .entry)) (now (memory .entry)) (now (answers .entry))) r (now (memory .exit)) (now (answers .exit)) ⌝ }
+    ensures { λ r.
+        ⌜ EndsAs (outcome (now (image .entry)) (now (script .entry)) (now (memory .entry)) (now (answers .entry))) r (now (memory .exit))
+        (now (answers .exit)) ⌝ }
 {
     let count = count_calls(script);
     if !count.whole {

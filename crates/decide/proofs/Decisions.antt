@@ -7,7 +7,8 @@ use native.Mathlib.Omega.{arith}
 use lib.Dec.{eqb}
 use lib.ListN.{getD}
 use borrow.Author.Needs.{needs}
-use Rattle.image.specs.Image.{connectCount, connectOffset, ownCount, ownOffset}
+use Rattle.image.specs.Image.{ruleCount, ruleOffset}
+use Rattle.image.specs.declared.Section.the-variants.{Connect, Own}
 use Rattle.image.specs.Rules.{connectRuleAt, ownRuleAt}
 use Rattle.image.specs.Contracts.{GoodImage}
 use Rattle.image.proofs.RuleHolds.{connect-context, own-holds}
@@ -21,10 +22,10 @@ use Rattle.decide.proofs.Section.{Section, section-begins, section-down
 
 abbrev pub Connecting : List ℕ → Uid → List ℕ → ℕ → ℕ → ℕ → ℕ → Type 0
 Connecting image uid gids base end context at =
-    Section image (λ k. connectFits (connectRuleAt image k) uid gids) (connectCount image) 8 (connectOffset image) base end context at
+    Section image (λ k. connectFits (connectRuleAt image k) uid gids) (ruleCount Connect image) 8 (ruleOffset Connect image) base end context at
 
 module _ {image : List ℕ} (uid : Uid) (gids : List ℕ) {base : ℕ} where
-  pub connect-begins : GoodImage image → base ≡ connectOffset image → {n : ℕ} → n ≡ connectCount image
+  pub connect-begins : GoodImage image → base ≡ ruleOffset Connect image → {n : ℕ} → n ≡ ruleCount Connect image
       → Connecting image uid gids base (base + 8 * n) 3 (base + 8 * n)
   connect-begins g s e = section-begins g s (omega arith) (omega (arith, g .header .connects)) (connect-context g) (rw e)
 
@@ -44,15 +45,15 @@ pub ruleset connecting = (connect-begins, connect-over, connect-found, section-d
 
 abbrev pub Owning : List ℕ → Uid → List ℕ → List ℕ → ℕ → ℕ → ℕ → ℕ → Type 0
 Owning image uid gids name base end context at =
-    Section image (λ k. ownFits image (ownRuleAt image k) uid gids name) (ownCount image) 16 (ownOffset image) base end context at
+    Section image (λ k. ownFits image (ownRuleAt image k) uid gids name) (ruleCount Own image) 16 (ruleOffset Own image) base end context at
 
-own-at : {image : List ℕ} → GoodImage image → (k : ℕ) → k < ownCount image → OwnAt image (ownOffset image + 16 * k)
+own-at : {image : List ℕ} → GoodImage image → (k : ℕ) → k < ruleCount Own image → OwnAt image (ruleOffset Own image + 16 * k)
 own-at g k l =
     let h = own-holds g k l in
     record { room = h .place; name = record { header = g .header .low; room = omega (arith, h .place); inside = h .name } }
 
 module _ {image : List ℕ} (uid : Uid) (gids name : List ℕ) {base : ℕ} where
-  pub own-begins : GoodImage image → base ≡ ownOffset image → {n : ℕ} → n ≡ ownCount image
+  pub own-begins : GoodImage image → base ≡ ruleOffset Own image → {n : ℕ} → n ≡ ruleCount Own image
       → Owning image uid gids name base (base + 16 * n) 3 (base + 16 * n)
   own-begins g s e = section-begins g s (omega arith) (omega (arith, g .header .owns)) (λ j l. own-holds g j l .context) (rw e)
 

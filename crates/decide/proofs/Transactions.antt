@@ -10,7 +10,8 @@ use borrow.Author.Needs.{needs}
 use borrow.Author.Tests.{eq-eqb, ne-eqb, eqb-true}
 use Rattle.wire.specs.Bytes.{same}
 use Rattle.wire.proofs.Texts.{both-first, both-second}
-use Rattle.image.specs.Image.{transactionCount, transactionOffset}
+use Rattle.image.specs.Image.{ruleCount, ruleOffset}
+use Rattle.image.specs.declared.Section.the-variants.{Transaction}
 use Rattle.image.specs.Rules.{spanAt, textOf, transactionAt}
 use Rattle.image.specs.Contracts.{GoodImage}
 use Rattle.image.proofs.RuleHolds.{transaction-holds}
@@ -24,7 +25,7 @@ use Rattle.policy.proofs.Cells.{Among, among-begins, among-here, among-more, am
 use Rattle.decide.proofs.Fits.{cited-length}
 use Rattle.decide.proofs.Section.{Section, section-begins, section-down, section-over, section-at, section-pass, section-found}
 
-transaction-at : {image : List ℕ} → GoodImage image → (k : ℕ) → k < transactionCount image → TransactionAt image (transactionOffset image + 40 * k)
+transaction-at : {image : List ℕ} → GoodImage image → (k : ℕ) → k < ruleCount Transaction image → TransactionAt image (ruleOffset Transaction image + 40 * k)
 transaction-at {image} g k l =
     let h = transaction-holds g k l in
     record {
@@ -40,7 +41,7 @@ pub record Deciding (image : List ℕ) (direction : ℕ) (uid : Uid) (gids names
   pub within : Within head m
   pub small : length names < 2 ^ 64
   pub section : Section image (λ k. transactionMatches image (transactionAt image k) direction uid gids (namesIn names) (messageOf head m))
-      (transactionCount image) 40 (transactionOffset image) base end context at
+      (ruleCount Transaction image) 40 (ruleOffset Transaction image) base end context at
 
 -- the rule at `at` matches if its name is one of the names, and among those from cell j on
 pub record Naming (image : List ℕ) (direction : ℕ) (uid : Uid) (gids names head : List ℕ) (m : Header) (base end context at : ℕ) (name : List ℕ) (j : ℕ)
@@ -52,7 +53,7 @@ pub record Naming (image : List ℕ) (direction : ℕ) (uid : Uid) (gids names h
   pub unowned : owns (namesIn names) name ≡ false → Deciding image direction uid gids names head m base end context at
 
 module _ {image : List ℕ} (direction : ℕ) (uid : Uid) (gids names : List ℕ) {head : List ℕ} {m : Header} {base n : ℕ} where
-  pub decide-begins : Asked image head m → length names < 2 ^ 64 → base ≡ transactionOffset image → n ≡ transactionCount image
+  pub decide-begins : Asked image head m → length names < 2 ^ 64 → base ≡ ruleOffset Transaction image → n ≡ ruleCount Transaction image
       → Deciding image direction uid gids names head m base (base + 40 * n) 3 (base + 40 * n)
   decide-begins a f s e =
       record {
@@ -161,5 +162,7 @@ module _ {image : List ℕ} {direction : ℕ} {uid : Uid} {gids names head : Lis
     pub naming-here : b ≡ true → eqb (getD image (at + 1) 0) 1 ≡ mayTransact image direction uid gids (namesIn names) (messageOf head m)
     naming-here t = u .owned (among-here (u .among) h e t)
 
+pub ruleset naming = (naming-ends, naming-more, naming-here)
+
 pub ruleset deciding =
-    (decide-begins, decide-down, decide-over, decide-place, decide-cited, decide-other, decide-miss, decide-any, decide-named, naming-ends, naming-more, naming-here, needs)
+    (decide-begins, decide-down, decide-over, decide-place, decide-cited, decide-other, decide-miss, decide-any, decide-named, naming, needs)

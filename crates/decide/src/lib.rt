@@ -1,6 +1,13 @@
 // Who may connect, own a name, send and receive: rules are searched from the highest precedence down.
 use header::Header;
 use header::Place;
+use image::CONNECT_COUNT;
+use image::CONNECT_OFFSET;
+use image::OWN_COUNT;
+use image::OWN_OFFSET;
+use image::STRING_OFFSET;
+use image::TRANSACTION_COUNT;
+use image::TRANSACTION_OFFSET;
 use image::word;
 use policy::Gid;
 use policy::Uid;
@@ -71,7 +78,7 @@ fn text(image: &[u8], at: usize) -> &[u8]
     requires { ⌜ Cited (now image) at ⌝ }
     ensures { λ r. ⌜ now r ≡ textOf (now (image .entry)) (spanAt (now (image .entry)) at) ⌝ }
 {
-    image::text(image, word(image, 28), at)
+    image::text(image, word(image, STRING_OFFSET), at)
 }
 
 fn connect_fits(image: &[u8], at: usize, uid: Uid, gids: &[u32]) -> bool
@@ -153,7 +160,8 @@ fn parts_fit(image: &[u8], at: usize, head: &[u8], header: Header) -> bool
 // Everything of the rule but its direction and its name.
 fn rule_fits(image: &[u8], at: usize, uid: Uid, gids: &[u32], head: &[u8], header: Header) -> bool
     requires { ⌜ RuleAsked (now image) at (now head) header ⌝ }
-    ensures { λ r. ⌜ r ≡ transactionFits (now (image .entry)) (transactionAt (now (image .entry)) at) uid (now (gids .entry)) (messageOf (now (head .entry)) header) ⌝ }
+    ensures { λ r.
+        ⌜ r ≡ transactionFits (now (image .entry)) (transactionAt (now (image .entry)) at) uid (now (gids .entry)) (messageOf (now (head .entry)) header) ⌝ }
 {
     let of = image[at + 3];
     if (of != 0) & (of != header.kind) {
@@ -173,8 +181,8 @@ pub fn may_connect(image: &[u8], uid: Uid, gids: &[u32]) -> bool
     requires { ⌜ GoodImage (now image) ⌝ }
     ensures { λ r. ⌜ r ≡ mayConnect (now (image .entry)) uid (now (gids .entry)) ⌝ }
 {
-    let base = image::connect_offset(image);
-    let end = base + 8 * image::connect_count(image);
+    let base = word(image, CONNECT_OFFSET);
+    let end = base + 8 * word(image, CONNECT_COUNT);
     let mut context: u8 = 3;
     'search: loop {
         let mut at = end;
@@ -198,8 +206,8 @@ pub fn may_own(image: &[u8], uid: Uid, gids: &[u32], name: &[u8]) -> bool
     requires { ⌜ GoodImage (now image) ⌝ }
     ensures { λ r. ⌜ r ≡ mayOwn (now (image .entry)) uid (now (gids .entry)) (now (name .entry)) ⌝ }
 {
-    let base = image::own_offset(image);
-    let end = base + 16 * image::own_count(image);
+    let base = word(image, OWN_OFFSET);
+    let end = base + 16 * word(image, OWN_COUNT);
     let mut context: u8 = 3;
     'search: loop {
         let mut at = end;
@@ -230,10 +238,11 @@ pub fn may_transact(
     header: Header,
 ) -> bool
     requires { ⌜ Asked (now image) (now head) header ⌝ }
-    ensures { λ r. ⌜ r ≡ mayTransact (now (image .entry)) direction uid (now (gids .entry)) (namesIn (now (names .entry))) (messageOf (now (head .entry)) header) ⌝ }
+    ensures { λ r.
+        ⌜ r ≡ mayTransact (now (image .entry)) direction uid (now (gids .entry)) (namesIn (now (names .entry))) (messageOf (now (head .entry)) header) ⌝ }
 {
-    let base = image::transaction_offset(image);
-    let end = base + 40 * image::transaction_count(image);
+    let base = word(image, TRANSACTION_OFFSET);
+    let end = base + 40 * word(image, TRANSACTION_COUNT);
     let mut context: u8 = 3;
     'search: loop {
         let mut at = end;

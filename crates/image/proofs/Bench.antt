@@ -7,20 +7,22 @@ use Rattle.wire.specs.Lists.{agrees}
 use Rattle.wire.specs.Words.{wordAt, wordBytes}
 use Rattle.names.specs.Names.{startsWith, wellKnown, validName}
 use Rattle.image.specs.Good.{goodCounts, goodSections, goodHeader, goodString, goodOrAny, goodOwned, goodConnectRule, goodOwnRule}
-use Rattle.image.specs.Good.{goodStrings, goodTransactionRule, goodConnect, goodOwn, goodTransaction, goodImage, outcomeOf, imageAnswer}
+use Rattle.image.specs.Good.{goodStrings, goodTransactionRule, goodRule, goodImage, outcomeOf, imageAnswer}
 use Rattle.image.specs.Table.{ImageRow, imageTable, ownRows, transactions}
 
 abbrev Agree : List ImageRow → Type 0
 Agree lines = agrees imageAnswer eqb lines ≡ true
 
 pub table-agrees : Agree imageTable
-unfolding wordAt wordBytes goodCounts goodSections goodHeader goodConnectRule goodConnect goodOrAny goodStrings goodTransactionRule goodTransaction goodImage outcomeOf imageAnswer
+unfolding wordAt wordBytes goodCounts goodSections goodHeader goodConnectRule goodOrAny goodStrings goodTransactionRule goodRule goodImage outcomeOf imageAnswer
 table-agrees = refl
 
 pub owns-agree : Agree ownRows
-unfolding wordAt wordBytes startsWith wellKnown validName goodCounts goodSections goodHeader goodString goodOrAny goodOwned goodOwnRule goodOwn goodImage outcomeOf imageAnswer
+unfolding wordAt wordBytes startsWith wellKnown validName goodCounts goodSections goodHeader goodString goodOrAny goodOwned goodOwnRule goodRule goodImage
+    outcomeOf imageAnswer
 owns-agree = refl
 
 pub transactions-agree : Agree transactions
-unfolding wordAt wordBytes startsWith wellKnown validName goodCounts goodSections goodHeader goodString goodOrAny goodStrings goodTransactionRule goodTransaction goodImage outcomeOf imageAnswer
+unfolding wordAt wordBytes startsWith wellKnown validName goodCounts goodSections goodHeader goodString goodOrAny goodStrings goodTransactionRule goodRule
+    goodImage outcomeOf imageAnswer
 transactions-agree = refl

@@ -3,7 +3,7 @@ use mathlib.Core.Path.{_≡_, refl}
 use mathlib.Core.Logic.{⊎-elim}
 use mathlib.Core.Bool.{Bool, true, false, cond, _&&_, _||_}
 use mathlib.Core.List.{List, [], _∷_}
-use Prim.Native.Nat.{ℕ, _+_, _*_, _≤_, _<_}
+use Prim.Native.Nat.{ℕ, _+_, _≤_, _<_}
 use native.Mathlib.Omega.{arith}
 use lib.Dec.{leb, eqb}
 use lib.ListN.{length}
@@ -13,10 +13,12 @@ use Rattle.wire.proofs.Below.{row-each, below-at}
 use Rattle.names.specs.Names.{validName}
 use Rattle.names.specs.declared.Form.{Form}
 use Rattle.names.specs.declared.Form.the-variants.{Interface, WellKnown, Member, Path}
-use Rattle.image.specs.Image.{connectCount, ownCount, ownOffset, transactionCount, transactionOffset, stringOffset}
+use Rattle.image.specs.Image.{ruleCount, rulePlace, stringOffset}
 use Rattle.image.specs.Rules.{Span, textOf, connectRule, ownRule, transactionRule}
-use Rattle.image.specs.Good.{goodString, goodOrAny, goodOwned, goodSubject, goodMatcher, goodConnectRule, goodOwnRule, goodStrings, goodTransactionRule, goodConnect, goodOwn, goodTransaction}
+use Rattle.image.specs.Good.{goodString, goodOrAny, goodOwned, goodSubject, goodMatcher, goodConnectRule, goodOwnRule, goodStrings}
+use Rattle.image.specs.Good.{goodTransactionRule, goodRule}
 use Rattle.image.specs.Contracts.{GoodImage}
+use Rattle.image.specs.declared.Section.the-variants.{Connect, Own, Transaction}
 use Rattle.image.proofs.Holds.{each-part}
 
 -- ---- strings
@@ -57,8 +59,8 @@ module _ (image : List ℕ) (s : Span) where
 
 -- ---- rules
 
-pub connect-context : {image : List ℕ} → GoodImage image → (i : ℕ) → i < connectCount image → connectRule image i .context ≤ 3
-unfolding goodConnect goodConnectRule
+pub connect-context : {image : List ℕ} → GoodImage image → (i : ℕ) → i < ruleCount Connect image → connectRule image i .context ≤ 3
+unfolding goodRule goodConnectRule
 connect-context {image} g i l =
     let r = connectRule image i in
     let k =
@@ -68,7 +70,7 @@ connect-context {image} g i l =
     ∷ goodMatcher (r .verdict) (r .matcher) (r .reserved)
     ∷ (leb 1 (r .matcher) || eqb (r .id) 0)
     ∷ [])
-    (below-at (goodConnect image) (connectCount image) (each-part image (g .is) 1) i l)
+    (below-at (goodRule Connect image) (ruleCount Connect image) (each-part image (g .is) 1) i l)
     in
     ⊎-elim
     (λ (e : eqb (r .context) 0 ≡ true). omega (arith, eqb-true (r .context) 0 e))
@@ -79,12 +81,12 @@ subject-context : (context subject : ℕ) → goodSubject context subject ≡ tr
 subject-context context subject h = leb-true context 3 (both-first (leb context 3) (eqb context 1 || eqb context 2 || eqb subject 0) h)
 
 pub record OwnHolds (image : List ℕ) (i : ℕ) : Type 0 where
-  pub place : ownOffset image + 16 * i + 16 ≤ length image
+  pub place : rulePlace Own image i + 16 ≤ length image
   pub context : ownRule image i .context ≤ 3
   pub name : Inside image (ownRule image i .name)
 
-pub own-holds : {image : List ℕ} → GoodImage image → (i : ℕ) → i < ownCount image → OwnHolds image i
-unfolding goodOwn goodOwnRule
+pub own-holds : {image : List ℕ} → GoodImage image → (i : ℕ) → i < ruleCount Own image → OwnHolds image i
+unfolding goodRule goodOwnRule
 own-holds {image} g i l =
     let r = ownRule image i in
     let k =
@@ -94,7 +96,7 @@ own-holds {image} g i l =
     ∷ goodMatcher (r .verdict) (r .matcher) (r .reserved)
     ∷ goodOwned image (r .matcher) (r .name)
     ∷ [])
-    (below-at (goodOwn image) (ownCount image) (each-part image (g .is) 2) i l)
+    (below-at (goodRule Own image) (ruleCount Own image) (each-part image (g .is) 2) i l)
     in
     record {
       place = omega arith;
@@ -103,15 +105,15 @@ own-holds {image} g i l =
     }
 
 pub record TransactionHolds (image : List ℕ) (i : ℕ) : Type 0 where
-  pub place : transactionOffset image + 40 * i + 40 ≤ length image
+  pub place : rulePlace Transaction image i + 40 ≤ length image
   pub context : transactionRule image i .context ≤ 3
   pub name : Inside image (transactionRule image i .name)
   pub path : Inside image (transactionRule image i .path)
   pub interface : Inside image (transactionRule image i .interface)
   pub member : Inside image (transactionRule image i .member)
 
-pub transaction-holds : {image : List ℕ} → GoodImage image → (i : ℕ) → i < transactionCount image → TransactionHolds image i
-unfolding goodTransaction goodTransactionRule goodStrings
+pub transaction-holds : {image : List ℕ} → GoodImage image → (i : ℕ) → i < ruleCount Transaction image → TransactionHolds image i
+unfolding goodRule goodTransactionRule goodStrings
 transaction-holds {image} g i l =
     let r = transactionRule image i in
     let k =
@@ -123,7 +125,7 @@ transaction-holds {image} g i l =
     ∷ (eqb (r .type) 0 || eqb (r .type) 1 || eqb (r .type) 4)
     ∷ goodStrings image r
     ∷ [])
-    (below-at (goodTransaction image) (transactionCount image) (each-part image (g .is) 3) i l)
+    (below-at (goodRule Transaction image) (ruleCount Transaction image) (each-part image (g .is) 3) i l)
     in
     let s =
     row-each

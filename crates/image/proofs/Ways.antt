@@ -1,5 +1,5 @@
 -- A law for each way through the tests of an image: what the code has read makes the definition.
-use mathlib.Core.Path.{_≡_, _∙_}
+use mathlib.Core.Path.{_≡_, _∙_, subst}
 use mathlib.Core.Bool.{Bool, true, false, not, _&&_, _||_, and-false}
 use mathlib.Core.List.{List}
 use Prim.Native.Nat.{ℕ, _+_, _-_, _*_, _≤_, _<_}
@@ -7,28 +7,31 @@ use lib.Dec.{leb, eqb}
 use lib.ListN.{length, take, drop, getD}
 use borrow.Author.Needs.{needs}
 use borrow.Author.Tests.{not-true, not-false, le-leb, lt-leb, eq-eqb, ne-eqb}
-use Rattle.wire.specs.Lists.{below}
 use Rattle.wire.specs.Words.{wordAt}
 use Rattle.wire.specs.declared.Order.the-variants.{Little}
 use Rattle.wire.proofs.Words.{cut-at}
 use Rattle.names.specs.Names.{validName}
 use Rattle.names.specs.declared.Form.{Form}
 use Rattle.names.specs.declared.Form.the-variants.{Interface, WellKnown, Member, Path}
-use Rattle.image.specs.Image.{totalLength, connectCount, connectOffset, ownCount, ownOffset, transactionCount, transactionOffset, stringOffset}
+use Rattle.image.specs.Image.{totalLength, ruleCount, ruleOffset, stringOffset}
 use Rattle.image.specs.Rules.{spanAt, textOf, transactionAt}
-use Rattle.image.specs.Good.{goodCounts, goodSections, goodHeader, goodString, goodOrAny, goodOwned, goodStrings, goodSubject, goodMatcher, goodConnectRule, goodOwnRule, goodTransactionRule, goodConnect, goodOwn, goodTransaction, goodImage, outcomeOf}
+use Rattle.image.specs.Good.{goodCounts, goodSections, goodHeader, goodString, goodOrAny, goodOwned, goodStrings, goodSubject, goodMatcher}
+use Rattle.image.specs.Good.{goodConnectRule, goodOwnRule, goodTransactionRule, goodRule, goodSection, goodImage, outcomeOf}
+use Rattle.image.specs.Contracts.{RuleAt}
+use Rattle.image.specs.declared.Section.{Section}
+use Rattle.image.specs.declared.Section.the-variants.{Connect, Own, Transaction}
 use Rattle.image.specs.declared.Outcome.the-variants.{Good, Bad}
 
 module _ (image : List ℕ) where
   -- ---- the header
 
-  pub counts : (t c o n : ℕ) → t ≡ totalLength image → c ≡ connectCount image → o ≡ ownCount image → n ≡ transactionCount image
+  pub counts : (t c o n : ℕ) → t ≡ totalLength image → c ≡ ruleCount Connect image → o ≡ ruleCount Own image → n ≡ ruleCount Transaction image
       → eqb t (length image) && leb c 256 && leb o 256 && leb n 512 ≡ goodCounts image
   unfolding goodCounts
   counts t c o n p q r s = rw (p, q, r, s)
 
-  pub sections : (c o t s a b d : ℕ) → c ≡ connectOffset image → o ≡ ownOffset image → t ≡ transactionOffset image → s ≡ stringOffset image
-      → a ≡ connectCount image → b ≡ ownCount image → d ≡ transactionCount image
+  pub sections : (c o t s a b d : ℕ) → c ≡ ruleOffset Connect image → o ≡ ruleOffset Own image → t ≡ ruleOffset Transaction image → s ≡ stringOffset image
+      → a ≡ ruleCount Connect image → b ≡ ruleCount Own image → d ≡ ruleCount Transaction image
       → eqb c 32 && eqb o (c + 8 * a) && eqb t (o + 16 * b) && eqb s (t + 40 * d) && leb s (length image) ≡ goodSections image
   unfolding goodSections
   sections c o t s a b d p q r u v w x = rw (p, q, r, u, v, w, x)
@@ -83,25 +86,34 @@ module _ (image : List ℕ) where
   -- ---- rules
 
   pub subject : (at a : ℕ) → a ≡ wordAt Little image (at + 4)
-      → leb (getD image at 0) 3 && (eqb (getD image at 0) 1 || eqb (getD image at 0) 2 || eqb a 0) ≡ goodSubject (getD image at 0) (wordAt Little image (at + 4))
+      → leb (getD image at 0) 3 && (eqb (getD image at 0) 1 || eqb (getD image at 0) 2 || eqb a 0)
+      ≡ goodSubject (getD image at 0) (wordAt Little image (at + 4))
   subject at a p = rw p
 
-  pub connect-is : (from i a : ℕ) (m : Bool) → from ≡ connectOffset image
+  -- the section that is asked for
+  module _ {s t : Section} (e : s ≡ t) where
+    pub asked-at : {from i : ℕ} → RuleAt image s from i → RuleAt image t from i
+    asked-at {from} {i} = subst (λ (u : Section). RuleAt image u from i) e
+
+    pub asked-rule : (i : ℕ) {r : Bool} → r ≡ goodRule t image i → r ≡ goodRule s image i
+    asked-rule i h = rw e h
+
+  pub connect-is : (from i a : ℕ) (m : Bool) → from ≡ ruleOffset Connect image
       → m ≡ goodMatcher (getD image (from + 8 * i + 1) 0) (getD image (from + 8 * i + 2) 0) (getD image (from + 8 * i + 3) 0)
       → a ≡ wordAt Little image (from + 8 * i + 4)
       → (eqb (getD image (from + 8 * i) 0) 0 || eqb (getD image (from + 8 * i) 0) 3)
       && m
       && (leb 1 (getD image (from + 8 * i + 2) 0) || eqb a 0)
-      ≡ goodConnect image i
-  unfolding goodConnect goodConnectRule
+      ≡ goodRule Connect image i
+  unfolding goodRule goodConnectRule
   connect-is from i a m p q r = rw (r, q, p)
 
-  pub own-is : (from i : ℕ) (s m o : Bool) → from ≡ ownOffset image
+  pub own-is : (from i : ℕ) (s m o : Bool) → from ≡ ruleOffset Own image
       → s ≡ goodSubject (getD image (from + 16 * i) 0) (wordAt Little image (from + 16 * i + 4))
       → m ≡ goodMatcher (getD image (from + 16 * i + 1) 0) (getD image (from + 16 * i + 2) 0) (getD image (from + 16 * i + 3) 0)
       → o ≡ goodOwned image (getD image (from + 16 * i + 2) 0) (spanAt image (from + 16 * i + 8))
-      → s && m && o ≡ goodOwn image i
-  unfolding goodOwn goodOwnRule
+      → s && m && o ≡ goodRule Own image i
+  unfolding goodRule goodOwnRule
   own-is from i s m o p q r t = rw (q, r, t, p)
 
   pub strings-are : (at : ℕ) (a b c d : Bool)
@@ -121,14 +133,15 @@ module _ (image : List ℕ) where
       && leb (getD image (at + 2) 0) 1
       && (eqb (getD image (at + 3) 0) 0 || eqb (getD image (at + 3) 0) 1 || eqb (getD image (at + 3) 0) 4)
 
-  module _ (from i : ℕ) (s : Bool) (p : from ≡ transactionOffset image)
+  module _ (from i : ℕ) (s : Bool) (p : from ≡ ruleOffset Transaction image)
       (q : s ≡ goodSubject (getD image (from + 40 * i) 0) (wordAt Little image (from + 40 * i + 4))) where
-    pub transaction-bad : numbers (from + 40 * i) s ≡ false → false ≡ goodTransaction image i
-    unfolding goodTransaction goodTransactionRule
+    pub transaction-bad : numbers (from + 40 * i) s ≡ false → false ≡ goodRule Transaction image i
+    unfolding goodRule goodTransactionRule
     transaction-bad e = rw (← p, ← q, e)
 
-    pub transaction-is : numbers (from + 40 * i) s ≡ true → (o : Bool) → o ≡ goodStrings image (transactionAt image (from + 40 * i)) → o ≡ goodTransaction image i
-    unfolding goodTransaction goodTransactionRule
+    pub transaction-is : numbers (from + 40 * i) s ≡ true → (o : Bool) → o ≡ goodStrings image (transactionAt image (from + 40 * i))
+        → o ≡ goodRule Transaction image i
+    unfolding goodRule goodTransactionRule
     transaction-is e o r = r ∙ rw (← p, ← q, e)
 
   -- ---- the image
@@ -139,9 +152,9 @@ module _ (image : List ℕ) where
     no-header n = rw (← e, not-true h n)
 
     module _ (n : not h ≡ false) (a b c : Bool)
-        (p : a ≡ below (goodConnect image) (connectCount image))
-        (q : b ≡ below (goodOwn image) (ownCount image))
-        (r : c ≡ below (goodTransaction image) (transactionCount image)) where
+        (p : a ≡ goodSection Connect image)
+        (q : b ≡ goodSection Own image)
+        (r : c ≡ goodSection Transaction image) where
       pub all-good : a && b && c ≡ true → Good ≡ outcomeOf image
       unfolding outcomeOf goodImage
       all-good t = rw (← e, not-false h n, ← p, ← q, ← r, t)
@@ -150,4 +163,4 @@ module _ (image : List ℕ) where
       unfolding outcomeOf goodImage
       some-bad t = rw (← e, not-false h n, ← p, ← q, ← r, t)
 
-pub ruleset ways = (counts, sections, too-short, too-long, header-is, cited, outside, inside, any, literal, any-name, one-name, subject, connect-is, own-is, strings-are, transaction-bad, transaction-is, no-header, all-good, some-bad, needs)
+pub ruleset asked = (asked-at, asked-rule, needs)

@@ -4,22 +4,24 @@ use mathlib.Core.Bool.{true}
 use mathlib.Core.List.{List}
 use Prim.Native.Nat.{ℕ, _+_, _*_, _≤_}
 use lib.ListN.{length}
-use Rattle.image.specs.Image.{totalLength, connectCount, connectOffset, ownCount, ownOffset, transactionCount, transactionOffset, stringOffset}
+use Rattle.image.specs.Image.{totalLength, ruleCount, ruleOffset, ruleSize, stringOffset}
 use Rattle.image.specs.Rules.{spanAt}
 use Rattle.image.specs.Good.{goodImage}
+use Rattle.image.specs.declared.Section.{Section}
+use Rattle.image.specs.declared.Section.the-variants.{Connect, Own, Transaction}
 
 -- the header is good
 pub record GoodImageHeader (image : List ℕ) : Type 0 where
   pub low : 32 ≤ length image
   pub high : length image ≤ 65536
   pub total : totalLength image ≡ length image
-  pub connects : connectCount image ≤ 256
-  pub owns : ownCount image ≤ 256
-  pub transactions : transactionCount image ≤ 512
-  pub connects-at : connectOffset image ≡ 32
-  pub owns-at : ownOffset image ≡ 32 + 8 * connectCount image
-  pub transactions-at : transactionOffset image ≡ 32 + 8 * connectCount image + 16 * ownCount image
-  pub strings-at : stringOffset image ≡ 32 + 8 * connectCount image + 16 * ownCount image + 40 * transactionCount image
+  pub connects : ruleCount Connect image ≤ 256
+  pub owns : ruleCount Own image ≤ 256
+  pub transactions : ruleCount Transaction image ≤ 512
+  pub connects-at : ruleOffset Connect image ≡ 32
+  pub owns-at : ruleOffset Own image ≡ 32 + 8 * ruleCount Connect image
+  pub transactions-at : ruleOffset Transaction image ≡ 32 + 8 * ruleCount Connect image + 16 * ruleCount Own image
+  pub strings-at : stringOffset image ≡ 32 + 8 * ruleCount Connect image + 16 * ruleCount Own image + 40 * ruleCount Transaction image
   pub strings-inside : stringOffset image ≤ length image
 
 -- the string area starts at `strings`
@@ -33,10 +35,10 @@ pub record Cites (image : List ℕ) (strings at : ℕ) : Type 0 where
   pub inside : at + 8 ≤ length image
   pub text : stringOffset image + spanAt image at .offset + spanAt image at .len ≤ length image
 
--- rule i of a section of rules of a size lies inside the image
-pub record RuleAt (image : List ℕ) (offset size from i : ℕ) : Type 0 where
-  pub start : from ≡ offset
-  pub inside : from + size * i + size ≤ length image
+-- rule i of a section, which starts at `from`, lies inside the image
+pub record RuleAt (image : List ℕ) (s : Section) (from i : ℕ) : Type 0 where
+  pub start : from ≡ ruleOffset s image
+  pub inside : from + ruleSize s * i + ruleSize s ≤ length image
 
 -- the image is good
 pub record GoodImage (image : List ℕ) : Type 0 where

@@ -1,15 +1,17 @@
 -- Which policy images are good.
 use mathlib.Core.Bool.{Bool, cond, _&&_, _||_}
 use mathlib.Core.List.{List}
-use Prim.Native.Nat.{ℕ, _+_, _*_}
+use Prim.Native.Nat.{ℕ, _+_}
 use lib.Dec.{leb, eqb}
 use lib.ListN.{length}
 use Rattle.wire.specs.Lists.{below}
 use Rattle.names.specs.Names.{validName}
 use Rattle.names.specs.declared.Form.{Form}
 use Rattle.names.specs.declared.Form.the-variants.{Interface, WellKnown, Member, Path}
-use Rattle.image.specs.Image.{totalLength, connectCount, connectOffset, ownCount, ownOffset, transactionCount, transactionOffset, stringOffset}
+use Rattle.image.specs.Image.{totalLength, ruleCount, ruleOffset, rulesEnd, stringOffset}
 use Rattle.image.specs.Rules.{Span, textOf, ConnectRule, connectRule, OwnRule, ownRule, TransactionRule, transactionRule}
+use Rattle.image.specs.declared.Section.{Section}
+use Rattle.image.specs.declared.Section.the-variants.{Connect, Own, Transaction}
 use Rattle.image.specs.declared.Outcome.{Outcome}
 use Rattle.image.specs.declared.Outcome.the-variants.{Good, Bad}
 
@@ -19,17 +21,17 @@ use Rattle.image.specs.declared.Outcome.the-variants.{Good, Bad}
 unfoldable pub goodCounts : List ℕ → Bool
 goodCounts image =
     eqb (totalLength image) (length image)
-    && leb (connectCount image) 256
-    && leb (ownCount image) 256
-    && leb (transactionCount image) 512
+    && leb (ruleCount Connect image) 256
+    && leb (ruleCount Own image) 256
+    && leb (ruleCount Transaction image) 512
 
 -- each section begins where the one before it ends, the first at byte 32, and the strings run to the end of the image (rule 5.3)
 unfoldable pub goodSections : List ℕ → Bool
 goodSections image =
-    eqb (connectOffset image) 32
-    && eqb (ownOffset image) (connectOffset image + 8 * connectCount image)
-    && eqb (transactionOffset image) (ownOffset image + 16 * ownCount image)
-    && eqb (stringOffset image) (transactionOffset image + 40 * transactionCount image)
+    eqb (ruleOffset Connect image) 32
+    && eqb (ruleOffset Own image) (rulesEnd Connect image)
+    && eqb (ruleOffset Transaction image) (rulesEnd Own image)
+    && eqb (stringOffset image) (rulesEnd Transaction image)
     && leb (stringOffset image) (length image)
 
 -- an image has 32 bytes at least, its header, and 65,536 at most (rule 5.1)
@@ -91,25 +93,22 @@ goodTransactionRule image r =
     && (eqb (r .type) 0 || eqb (r .type) 1 || eqb (r .type) 4)
     && goodStrings image r
 
--- rule i of its section is a good one
-unfoldable pub goodConnect : List ℕ → ℕ → Bool
-goodConnect image i = goodConnectRule (connectRule image i)
+-- rule i of the section is a good one
+unfoldable pub goodRule : Section → List ℕ → ℕ → Bool
+goodRule Connect image i = goodConnectRule (connectRule image i)
+goodRule Own image i = goodOwnRule image (ownRule image i)
+goodRule Transaction image i = goodTransactionRule image (transactionRule image i)
 
-unfoldable pub goodOwn : List ℕ → ℕ → Bool
-goodOwn image i = goodOwnRule image (ownRule image i)
-
-unfoldable pub goodTransaction : List ℕ → ℕ → Bool
-goodTransaction image i = goodTransactionRule image (transactionRule image i)
+-- every rule of the section is
+abbrev pub goodSection : Section → List ℕ → Bool
+goodSection s image = below (goodRule s image) (ruleCount s image)
 
 -- ---- the image
 
 -- the header and every rule of the three sections (rule 5.9)
 unfoldable pub goodImage : List ℕ → Bool
 goodImage image =
-    goodHeader image
-    && below (goodConnect image) (connectCount image)
-    && below (goodOwn image) (ownCount image)
-    && below (goodTransaction image) (transactionCount image)
+    goodHeader image && goodSection Connect image && goodSection Own image && goodSection Transaction image
 
 -- what the test of an image says (rule 5.9)
 unfoldable pub outcomeOf : List ℕ → Outcome

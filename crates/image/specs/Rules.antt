@@ -1,10 +1,11 @@
 -- The rules of a policy image, each read at its place.
 use mathlib.Core.List.{List}
-use Prim.Native.Nat.{ℕ, _+_, _*_}
+use Prim.Native.Nat.{ℕ, _+_}
 use lib.ListN.{getD}
 use Rattle.wire.specs.Words.{wordAt}
 use Rattle.wire.specs.declared.Order.the-variants.{Little}
-use Rattle.image.specs.Image.{connectOffset, ownOffset, transactionOffset, stringAt}
+use Rattle.image.specs.Image.{rulePlace, stringAt}
+use Rattle.image.specs.declared.Section.the-variants.{Connect, Own, Transaction}
 
 -- where a rule's string stands: an offset into the string area, and a length
 pub record Span : Type 0 where
@@ -36,9 +37,8 @@ connectRuleAt image at =
       id = wordAt Little image (at + 4);
     }
 
--- connect rules have 8 bytes each
 abbrev pub connectRule : List ℕ → ℕ → ConnectRule
-connectRule image i = connectRuleAt image (connectOffset image + 8 * i)
+connectRule image i = connectRuleAt image (rulePlace Connect image i)
 
 -- an own rule: matcher 0 is any name, 1 the name and 2 the prefix that it cites (rule 5.5)
 pub record OwnRule : Type 0 where
@@ -60,9 +60,8 @@ ownRuleAt image at =
       name = spanAt image (at + 8);
     }
 
--- own rules have 16 bytes each
 abbrev pub ownRule : List ℕ → ℕ → OwnRule
-ownRule image i = ownRuleAt image (ownOffset image + 16 * i)
+ownRule image i = ownRuleAt image (rulePlace Own image i)
 
 -- a transaction rule: direction 0 is send and 1 receive; type 0 is any, 1 a method call and 4 a signal (rule 5.6)
 pub record TransactionRule : Type 0 where
@@ -90,6 +89,5 @@ transactionAt image at =
       member = spanAt image (at + 32);
     }
 
--- transaction rules have 40 bytes each
 abbrev pub transactionRule : List ℕ → ℕ → TransactionRule
-transactionRule image i = transactionAt image (transactionOffset image + 40 * i)
+transactionRule image i = transactionAt image (rulePlace Transaction image i)

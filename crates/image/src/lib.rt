@@ -2,19 +2,42 @@
 ghost use mathlib.Core.Path.{_≡_};
 ghost use Prim.Native.Nat.{_+_, _*_, _≤_, _<_};
 ghost use lib.ListN.{length, getD};
-ghost use Rattle.wire.specs.Lists.{below};
 ghost use Rattle.wire.specs.Words.{wordAt};
 ghost use Rattle.wire.specs.declared.Order.the-variants.{Little};
-ghost use Rattle.image.specs.Image.{connectCount, connectOffset, ownCount, ownOffset, transactionCount, transactionOffset};
+ghost use Rattle.image.specs.Image.{ruleCountAt};
 ghost use Rattle.image.specs.Rules.{spanAt, textOf, transactionAt};
-ghost use Rattle.image.specs.Good.{goodCounts, goodSections, goodHeader, goodString, goodOrAny, goodOwned, goodStrings, goodSubject, goodMatcher, goodConnect, goodOwn, goodTransaction, outcomeOf};
+ghost use Rattle.image.specs.Good.{goodCounts, goodSections, goodHeader, goodString, goodOrAny, goodOwned, goodStrings, goodSubject, goodMatcher};
+ghost use Rattle.image.specs.Good.{goodRule, goodSection, outcomeOf};
 ghost use Rattle.image.specs.Contracts.{GoodImageHeader, Strings, RuleAt, Cites};
+ghost use Rattle.image.specs.declared.Section.the-variants.{Connect, Own, Transaction};
 
 // What the test of an image says: a bad one is answered 50 (rule 5.9).
 pub enum Outcome {
     Good,
     Bad,
 }
+
+// The sections of rules, in the order of the image.
+pub enum Section {
+    Connect,
+    Own,
+    Transaction,
+}
+
+// Where the header has the count and the offset of each section, and the offset of the strings.
+pub const CONNECT_COUNT: usize = 4;
+
+pub const CONNECT_OFFSET: usize = 8;
+
+pub const OWN_COUNT: usize = 12;
+
+pub const OWN_OFFSET: usize = 16;
+
+pub const TRANSACTION_COUNT: usize = 20;
+
+pub const TRANSACTION_OFFSET: usize = 24;
+
+pub const STRING_OFFSET: usize = 28;
 
 // The little-endian number in the four bytes at `at`.
 pub fn word(image: &[u8], at: usize) -> usize
@@ -31,23 +54,23 @@ fn counts_fit(image: &[u8]) -> bool
     ensures { λ r. ⌜ r ≡ goodCounts (now (image .entry)) ⌝ }
 {
     (word(image, 0) == image.len())
-        & (word(image, 4) <= 256)
-        & (word(image, 12) <= 256)
-        & (word(image, 20) <= 512)
+        & (word(image, CONNECT_COUNT) <= 256)
+        & (word(image, OWN_COUNT) <= 256)
+        & (word(image, TRANSACTION_COUNT) <= 512)
 }
 
 fn sections_follow(image: &[u8]) -> bool
     requires { ⌜ 32 ≤ length (now image) ⌝ }
     ensures { λ r. ⌜ r ≡ goodSections (now (image .entry)) ⌝ }
 {
-    let connects = word(image, 8);
-    let owns = word(image, 16);
-    let transactions = word(image, 24);
-    let strings = word(image, 28);
+    let connects = word(image, CONNECT_OFFSET);
+    let owns = word(image, OWN_OFFSET);
+    let transactions = word(image, TRANSACTION_OFFSET);
+    let strings = word(image, STRING_OFFSET);
     (connects == 32)
-        & (owns == connects + 8 * word(image, 4))
-        & (transactions == owns + 16 * word(image, 12))
-        & (strings == transactions + 40 * word(image, 20))
+        & (owns == connects + 8 * word(image, CONNECT_COUNT))
+        & (transactions == owns + 16 * word(image, OWN_COUNT))
+        & (strings == transactions + 40 * word(image, TRANSACTION_COUNT))
         & (strings <= image.len())
 }
 
@@ -118,8 +141,8 @@ fn is_matcher(image: &[u8], at: usize) -> bool
 }
 
 fn is_connect(image: &[u8], from: usize, i: usize) -> bool
-    requires { ⌜ RuleAt (now image) (connectOffset (now image)) 8 from i ⌝ }
-    ensures { λ r. ⌜ r ≡ goodConnect (now (image .entry)) i ⌝ }
+    requires { ⌜ RuleAt (now image) Connect from i ⌝ }
+    ensures { λ r. ⌜ r ≡ goodRule Connect (now (image .entry)) i ⌝ }
 {
     let at = from + 8 * i;
     let context = image[at];
@@ -129,8 +152,8 @@ fn is_connect(image: &[u8], from: usize, i: usize) -> bool
 }
 
 fn is_own(image: &[u8], strings: usize, from: usize, i: usize) -> bool
-    requires { ⌜ RuleAt (now image) (ownOffset (now image)) 16 from i × Strings (now image) strings ⌝ }
-    ensures { λ r. ⌜ r ≡ goodOwn (now (image .entry)) i ⌝ }
+    requires { ⌜ RuleAt (now image) Own from i × Strings (now image) strings ⌝ }
+    ensures { λ r. ⌜ r ≡ goodRule Own (now (image .entry)) i ⌝ }
 {
     let at = from + 16 * i;
     is_subject(image, at) & is_matcher(image, at) & is_owned(image, strings, image[at + 2], at + 8)
@@ -148,8 +171,8 @@ fn has_strings(image: &[u8], strings: usize, at: usize) -> bool
 }
 
 fn is_transaction(image: &[u8], strings: usize, from: usize, i: usize) -> bool
-    requires { ⌜ RuleAt (now image) (transactionOffset (now image)) 40 from i × Strings (now image) strings ⌝ }
-    ensures { λ r. ⌜ r ≡ goodTransaction (now (image .entry)) i ⌝ }
+    requires { ⌜ RuleAt (now image) Transaction from i × Strings (now image) strings ⌝ }
+    ensures { λ r. ⌜ r ≡ goodRule Transaction (now (image .entry)) i ⌝ }
 {
     let at = from + 40 * i;
     let of = image[at + 3];
@@ -164,55 +187,16 @@ fn is_transaction(image: &[u8], strings: usize, from: usize, i: usize) -> bool
     }
 }
 
-// ---- readers of a good header
-
-pub fn connect_count(image: &[u8]) -> usize
-    requires { ⌜ GoodImageHeader (now image) ⌝ }
-    ensures { λ r. ⌜ (r ≡ connectCount (now (image .entry))) × (r ≤ 256) ⌝ }
+// Rule i of the section, whose rules stand from `from` on.
+fn is_rule(section: Section, image: &[u8], strings: usize, from: usize, i: usize) -> bool
+    requires { ⌜ RuleAt (now image) section from i × Strings (now image) strings ⌝ }
+    ensures { λ r. ⌜ r ≡ goodRule section (now (image .entry)) i ⌝ }
 {
-    word(image, 4)
-}
-
-pub fn connect_offset(image: &[u8]) -> usize
-    requires { ⌜ GoodImageHeader (now image) ⌝ }
-    ensures { λ r. ⌜ (r ≡ connectOffset (now (image .entry))) × (r ≤ 65536) ⌝ }
-{
-    word(image, 8)
-}
-
-pub fn own_count(image: &[u8]) -> usize
-    requires { ⌜ GoodImageHeader (now image) ⌝ }
-    ensures { λ r. ⌜ (r ≡ ownCount (now (image .entry))) × (r ≤ 256) ⌝ }
-{
-    word(image, 12)
-}
-
-pub fn own_offset(image: &[u8]) -> usize
-    requires { ⌜ GoodImageHeader (now image) ⌝ }
-    ensures { λ r. ⌜ (r ≡ ownOffset (now (image .entry))) × (r ≤ 65536) ⌝ }
-{
-    word(image, 16)
-}
-
-pub fn transaction_count(image: &[u8]) -> usize
-    requires { ⌜ GoodImageHeader (now image) ⌝ }
-    ensures { λ r. ⌜ (r ≡ transactionCount (now (image .entry))) × (r ≤ 512) ⌝ }
-{
-    word(image, 20)
-}
-
-pub fn transaction_offset(image: &[u8]) -> usize
-    requires { ⌜ GoodImageHeader (now image) ⌝ }
-    ensures { λ r. ⌜ (r ≡ transactionOffset (now (image .entry))) × (r ≤ 65536) ⌝ }
-{
-    word(image, 24)
-}
-
-pub fn string_offset(image: &[u8]) -> usize
-    requires { ⌜ GoodImageHeader (now image) ⌝ }
-    ensures { λ r. ⌜ Strings (now (image .entry)) r ⌝ }
-{
-    word(image, 28)
+    match section {
+        Section::Connect => is_connect(image, from, i),
+        Section::Own => is_own(image, strings, from, i),
+        Section::Transaction => is_transaction(image, strings, from, i),
+    }
 }
 
 // The string whose offset and length stand at `at`.
@@ -227,47 +211,29 @@ pub fn text(image: &[u8], strings: usize, at: usize) -> &[u8]
 
 // ---- the image
 
-fn are_connects(image: &[u8]) -> bool
-    requires { ⌜ GoodImageHeader (now image) ⌝ }
-    ensures { λ r. ⌜ r ≡ below (goodConnect (now (image .entry))) (connectCount (now (image .entry))) ⌝ }
+// Where the header has the section's count; behind it stands the section's offset.
+fn count_at(section: Section) -> usize
+    ensures { λ r. ⌜ (r ≡ ruleCountAt section) × (r ≤ 20) ⌝ }
 {
-    let from = connect_offset(image);
-    let mut i = connect_count(image);
-    while 0 < i {
-        i -= 1;
-        if !is_connect(image, from, i) {
-            return false;
-        }
+    match section {
+        Section::Connect => CONNECT_COUNT,
+        Section::Own => OWN_COUNT,
+        Section::Transaction => TRANSACTION_COUNT,
     }
-    true
 }
 
-fn are_owns(image: &[u8]) -> bool
+// Every rule of the section.
+fn are_rules(section: Section, image: &[u8]) -> bool
     requires { ⌜ GoodImageHeader (now image) ⌝ }
-    ensures { λ r. ⌜ r ≡ below (goodOwn (now (image .entry))) (ownCount (now (image .entry))) ⌝ }
+    ensures { λ r. ⌜ r ≡ goodSection section (now (image .entry)) ⌝ }
 {
-    let strings = string_offset(image);
-    let from = own_offset(image);
-    let mut i = own_count(image);
+    let strings = word(image, STRING_OFFSET);
+    let at = count_at(section);
+    let from = word(image, at + 4);
+    let mut i = word(image, at);
     while 0 < i {
         i -= 1;
-        if !is_own(image, strings, from, i) {
-            return false;
-        }
-    }
-    true
-}
-
-fn are_transactions(image: &[u8]) -> bool
-    requires { ⌜ GoodImageHeader (now image) ⌝ }
-    ensures { λ r. ⌜ r ≡ below (goodTransaction (now (image .entry))) (transactionCount (now (image .entry))) ⌝ }
-{
-    let strings = string_offset(image);
-    let from = transaction_offset(image);
-    let mut i = transaction_count(image);
-    while 0 < i {
-        i -= 1;
-        if !is_transaction(image, strings, from, i) {
+        if !is_rule(section, image, strings, from, i) {
             return false;
         }
     }
@@ -281,7 +247,10 @@ pub fn check(image: &[u8]) -> Outcome
     if !has_header(image) {
         return Outcome::Bad;
     }
-    if are_connects(image) & are_owns(image) & are_transactions(image) {
+    if are_rules(Section::Connect, image)
+        & are_rules(Section::Own, image)
+        & are_rules(Section::Transaction, image)
+    {
         Outcome::Good
     } else {
         Outcome::Bad

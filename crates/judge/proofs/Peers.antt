@@ -43,7 +43,8 @@ module _ {m : List ℕ} {i n : ℕ} (h : n ≡ length (peerAt m i .pending)) {c 
 
 -- ---- what changes no state leaves memory as it is
 
-pub left-as-is : {m : List ℕ} {i : ℕ} (p : Seated m i) (b : (j : ℕ) → Fits w8 (getD m j 0)) {r j : Judgement} → r ≡ j → JudgementLeft (record { judgement = j; state = stateOf m }) r m
+pub left-as-is : {m : List ℕ} {i : ℕ} (p : Seated m i) (b : (j : ℕ) → Fits w8 (getD m j 0)) {r j : Judgement} → r ≡ j
+    → JudgementLeft (record { judgement = j; state = stateOf m }) r m
 left-as-is {m} p b e = record { judgement = e; memory = sym (good-is m (λ j. b j .fits) (p .held .held)) }
 
 -- ---- a wait: 25, 26

@@ -11,7 +11,7 @@ use lib.ListN.{length, take, drop, set, length-set, length-drop, drop-of-length-
 use lib.Seq.{sets-eq, drop-cons, drop-at, getD-set-same, drop-set-lt, take-all, length-take-le}
 use borrow.Author.Needs.{needs}
 use borrow.Author.Tests.{ltb-true, lt-ltb, eqb-true, ne-eqb, not-true, not-false}
-use Rattle.wire.specs.Bytes.{front, same}
+use Rattle.wire.specs.Bytes.{byte, front, same}
 use Rattle.wire.proofs.Texts.{both-first, both-second}
 use Rattle.rules.specs.Addresses.{digits, uniqueName}
 use Rattle.judge.specs.declared.address.Text.{Text}
@@ -27,16 +27,16 @@ put-here l i k v e h =
 
 -- the prefix in front of k
 put-prefix : (l : List ℕ) (i k : ℕ) → k ≡ i + 3 → k ≤ length l
-    → drop i (set (set (set l i 58) (i + 1) 49) (i + 2) 46) ≡ 58 ∷ 49 ∷ 46 ∷ drop k l
+    → drop i (set (set (set l i (byte ":")) (i + 1) (byte "1")) (i + 2) (byte ".")) ≡ byte ":" ∷ byte "1" ∷ byte "." ∷ drop k l
 put-prefix l i k e h =
-    let vs : List ℕ = 58 ∷ 49 ∷ 46 ∷ [] in
+    let vs : List ℕ = byte ":" ∷ byte "1" ∷ byte "." ∷ [] in
     let a : i + 1 ≡ suc i = omega arith in
     let b : i + 2 ≡ suc (suc i) = omega arith in
-    let s : set (set (set l i 58) (i + 1) 49) (i + 2) 46 ≡ take i l ++ (vs ++ drop (i + 3) l)
+    let s : set (set (set l i (byte ":")) (i + 1) (byte "1")) (i + 2) (byte ".") ≡ take i l ++ (vs ++ drop (i + 3) l)
     = rw (a, b) (sets-eq vs l i (omega arith) ∙ append-assoc (take i l) vs (drop (i + 3) l)) in
     ap (drop i) s
     ∙ drop-at (take i l) (vs ++ drop (i + 3) l) i (length-take-le i l (omega arith))
-    ∙ ap (λ (z : ℕ). 58 ∷ 49 ∷ 46 ∷ drop z l) (sym e)
+    ∙ ap (λ (z : ℕ). byte ":" ∷ byte "1" ∷ byte "." ∷ drop z l) (sym e)
 
 -- ---- the digits: those from k on are written, and n is left
 
@@ -60,7 +60,7 @@ unfolding digits
 digits-none zero after = refl
 digits-none (suc fuel) after = refl
 
-digits-next : (fuel n : ℕ) (after : List ℕ) → eqb n 0 ≡ false → digits (suc fuel) n after ≡ digits fuel (n / 10) ((48 + n % 10) ∷ after)
+digits-next : (fuel n : ℕ) (after : List ℕ) → eqb n 0 ≡ false → digits (suc fuel) n after ≡ digits fuel (n / 10) ((byte "0" + n % 10) ∷ after)
 unfolding digits
 digits-next fuel n after e = rw (digits, e)
 
@@ -69,19 +69,19 @@ unfolding digits
 digits-over n after = refl
 
 module _ {number : ℕ} {bytes : List ℕ} {k n : ℕ} (s : Spelling number bytes k n) where
-  pub spelling-more : ltb 3 k && not (eqb n 0) ≡ true → Spelling number (set bytes (k - 1) (48 + n % 10)) (k - 1) (n / 10)
+  pub spelling-more : ltb 3 k && not (eqb n 0) ≡ true → Spelling number (set bytes (k - 1) (byte "0" + n % 10)) (k - 1) (n / 10)
   spelling-more t =
       let a : 3 < k = ltb-true 3 k (both-first (ltb 3 k) (not (eqb n 0)) t) in
       let z : eqb n 0 ≡ false = not-true (eqb n 0) (both-second (ltb 3 k) (not (eqb n 0)) t) in
       let l : length bytes ≡ 13 = s .sized in
       let u : k ≤ 13 = s .high in
       let e : k - 3 ≡ suc (k - 1 - 3) = omega arith in
-      let d : drop (k - 1) (set bytes (k - 1) (48 + n % 10)) ≡ (48 + n % 10) ∷ drop k bytes
-      = put-here bytes (k - 1) k (48 + n % 10) (omega arith) (omega arith) in
+      let d : drop (k - 1) (set bytes (k - 1) (byte "0" + n % 10)) ≡ (byte "0" + n % 10) ∷ drop k bytes
+      = put-here bytes (k - 1) k (byte "0" + n % 10) (omega arith) (omega arith) in
       record {
         low = omega arith;
         high = omega arith;
-        sized = length-set bytes (k - 1) (48 + n % 10) ∙ l;
+        sized = length-set bytes (k - 1) (byte "0" + n % 10) ∙ l;
         left =
             s .left
             ∙ ap (λ (f : ℕ). digits f n (drop k bytes)) e
@@ -102,7 +102,7 @@ module _ {number : ℕ} {bytes : List ℕ} {k n : ℕ} (s : Spelling number byte
             let z : k - 3 ≡ 0 = omega arith in
             rw z (digits-over n (drop k bytes))
 
-    pub spelled : Spelled number (record { bytes = set (set (set bytes (k - 3) 58) (k - 3 + 1) 49) (k - 3 + 2) 46; from = k - 3 })
+    pub spelled : Spelled number (record { bytes = set (set (set bytes (k - 3) (byte ":")) (k - 3 + 1) (byte "1")) (k - 3 + 2) (byte "."); from = k - 3 })
     unfolding uniqueName
     spelled =
         let l : length bytes ≡ 13 = s .sized in
@@ -111,23 +111,23 @@ module _ {number : ℕ} {bytes : List ℕ} {k n : ℕ} (s : Spelling number byte
         record {
           inside = omega arith;
           sized =
-              length-set (set (set bytes (k - 3) 58) (k - 3 + 1) 49) (k - 3 + 2) 46
-              ∙ length-set (set bytes (k - 3) 58) (k - 3 + 1) 49
-              ∙ length-set bytes (k - 3) 58
+              length-set (set (set bytes (k - 3) (byte ":")) (k - 3 + 1) (byte "1")) (k - 3 + 2) (byte ".")
+              ∙ length-set (set bytes (k - 3) (byte ":")) (k - 3 + 1) (byte "1")
+              ∙ length-set bytes (k - 3) (byte ":")
               ∙ l;
           is =
               put-prefix bytes (k - 3) k (omega arith) (omega arith)
-              ∙ ap (λ (d : List ℕ). 58 ∷ 49 ∷ 46 ∷ d) (sym (s .left ∙ none-left));
+              ∙ ap (λ (d : List ℕ). byte ":" ∷ byte "1" ∷ byte "." ∷ d) (sym (s .left ∙ none-left));
         }
 
 pub ruleset spelling = (spelling-begins, spelling-more, spelled, needs)
 
 -- ---- a text compared with it
 
-pub unique-not : (text : List ℕ) (number b : ℕ) → b ≡ front (drop 0 text) → (b ≡ 58 → ⊥) → false ≡ same text (uniqueName number)
+pub unique-not : (text : List ℕ) (number b : ℕ) → b ≡ front (drop 0 text) → (b ≡ byte ":" → ⊥) → false ≡ same text (uniqueName number)
 unfolding same uniqueName
 unique-not [] number b e h = refl
-unique-not (x ∷ text) number b e h = rw (ne-eqb x 58 (λ q. h (e ∙ q)))
+unique-not (x ∷ text) number b e h = rw (ne-eqb x (byte ":") (λ q. h (e ∙ q)))
 
 pub unique-is : (text : List ℕ) {number : ℕ} {t : Text} → Spelled number t
     → {r : Bool} → r ≡ same text (take (13 - t .from) (drop (t .from) (t .bytes))) → r ≡ same text (uniqueName number)

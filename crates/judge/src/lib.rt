@@ -50,7 +50,8 @@ fn ask(
     header: Header,
 ) -> bool
     requires { ⌜ (Asked (now image) (now head) header) × (count ≤ gidRoom) ⌝ }
-    ensures { λ r. ⌜ r ≡ mayTransact (now (image .entry)) direction uid (take count gids) (namesIn (now (names .entry))) (messageOf (now (head .entry)) header) ⌝ }
+    ensures { λ r.
+        ⌜ r ≡ mayTransact (now (image .entry)) direction uid (take count gids) (namesIn (now (names .entry))) (messageOf (now (head .entry)) header) ⌝ }
 {
     decide::may_transact(image, direction, uid, &gids[0..count], names, head, header)
 }

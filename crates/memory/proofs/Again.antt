@@ -72,6 +72,7 @@ pendings-back all last ws g l e n =
     let t : Pending → Bool = λ w. any (isPeer (w .callee)) all && leb 1 (w .serial) in
     let u : Pending → Bool = λ w. word32 (w .serial) in
     maps-back (λ w. t w && u w) pendingBytes pendingOf
-    (λ w h. let k : w .callee ≤ last = connected-within all last (w .callee) all g (both-first (any (isPeer (w .callee)) all) (leb 1 (w .serial)) (both-first (t w) (u w) h)) in
+    (λ w h. let k : w .callee ≤ last = connected-within all last (w .callee) all g
+    (both-first (any (isPeer (w .callee)) all) (leb 1 (w .serial)) (both-first (t w) (u w) h)) in
     pending-back w (omega arith) (ltb-true (w .serial) 4294967296 (both-second (t w) (u w) h)))
     ws (every-both t u ws (distinct-every t sameCall ws e) n)

@@ -49,12 +49,14 @@ pub record Ending (c : ℕ) (ws₀ : List Pending) (t : List ℕ) (n j : ℕ) : 
   pub left : Leaving c ws₀ calls j
 
 pub ending-begins : (c : ℕ) (t : List ℕ) (n : ℕ) → length t ≡ pendingLength → ((i : ℕ) → Fits w8 (getD t i 0))
-    → t ≡ tableBytes callWidth callRoom pendingBytes (tableOf callWidth callRoom pendingOf t) → n ≡ wordAt Little t 0 → Ending c (tableOf callWidth callRoom pendingOf t) t n 0
+    → t ≡ tableBytes callWidth callRoom pendingBytes (tableOf callWidth callRoom pendingOf t) → n ≡ wordAt Little t 0
+    → Ending c (tableOf callWidth callRoom pendingOf t) t n 0
 ending-begins c t n l b e en =
     let ws = tableOf callWidth callRoom pendingOf t in
     let k : length ws ≡ min (wordAt Little t 0) callRoom = table-many callWidth callRoom pendingOf t in
     let q : wordAt Little t 0 ≡ length ws
-    = ap (λ (z : List ℕ). wordAt Little z 0) (e ∙ sym (append-nil (tableBytes callWidth callRoom pendingBytes ws))) ∙ table-count callWidth callRoom pendingBytes ws [] (omega arith) in
+    = ap (λ (z : List ℕ). wordAt Little z 0) (e ∙ sym (append-nil (tableBytes callWidth callRoom pendingBytes ws)))
+    ∙ table-count callWidth callRoom pendingBytes ws [] (omega arith) in
     record {
       calls = ws;
       back = table-back t (λ i. b i .fits);
@@ -98,7 +100,8 @@ module _ {c : ℕ} {ws₀ : List Pending} {t : List ℕ} {n j : ℕ} (g : Ending
         let m : n ≡ length ws = g .count in
         let f : n ≤ callRoom = g .few in
         let l : length (without j ws) + 1 ≡ length ws = without-length j ws (omega arith) in
-        let is : t₁ ≡ tableBytes callWidth callRoom pendingBytes (without j ws) = e₁ ∙ sym (table-remove callWidth callRoom pendingBytes pending-length ws j t n (g .is) m f h) in
+        let is : t₁ ≡ tableBytes callWidth callRoom pendingBytes (without j ws) =
+        e₁ ∙ sym (table-remove callWidth callRoom pendingBytes pending-length ws j t n (g .is) m f h) in
         record {
           calls = without j ws;
           back = ap (map pendingOf) (map-without pendingBytes j ws) ∙ map-without pendingOf j (map pendingBytes ws) ∙ ap (without j) (g .back);
@@ -124,7 +127,8 @@ module _ {c : ℕ} {ws₀ : List Pending} {t : List ℕ} {n j : ℕ} (g : Ending
           left = leaving-stays c ws₀ (g .calls) j (g .left) (pendingOf []) (omega arith) (λ z. q (e ∙ sym callee-at ∙ z));
         }
 
-pub ending-ends : {c : ℕ} {ws₀ : List Pending} {t : List ℕ} {n j : ℕ} → Ending c ws₀ t n j → n ≤ j → t ≡ tableBytes callWidth callRoom pendingBytes (endedAll c ws₀)
+pub ending-ends : {c : ℕ} {ws₀ : List Pending} {t : List ℕ} {n j : ℕ} → Ending c ws₀ t n j → n ≤ j
+    → t ≡ tableBytes callWidth callRoom pendingBytes (endedAll c ws₀)
 ending-ends {c} {ws₀} {n = n} {j = j} g h =
     let m : n ≡ length (g .calls) = g .count in
     g .is ∙ ap (tableBytes callWidth callRoom pendingBytes) (leaving-ends c ws₀ (g .calls) j (g .left) (omega arith))

@@ -18,4 +18,4 @@ pub mod Names
 pub mod Newcomer
 pub mod Puts
 pub mod Ending
-pub mod Bereft
+pub mod CallsRemoved

@@ -13,7 +13,8 @@ use Rattle.tables.proofs.Written.{append-written}
 use Rattle.policy.specs.Names.{cellOf}
 use Rattle.stream.specs.Tail.{Tail}
 use Rattle.rules.specs.State.{Pending, Peer, peer, putSlot, withNames, withPending, withStream}
-use Rattle.memory.specs.Layout.{slotLength, slotStart, pendingAt, firstCallee, callWidth, callRoom, pendingLength, namesAt, firstName, nameWidth, nameRoom, namesLength, takenAt, streamLength}
+use Rattle.memory.specs.Layout.{slotLength, slotStart, pendingAt, firstCallee, callWidth, callRoom, pendingLength, namesAt, firstName, nameWidth}
+use Rattle.memory.specs.Layout.{nameRoom, namesLength, takenAt, streamLength}
 use Rattle.memory.specs.Encoding.{pendingBytes, streamBytes, slotBytes, memoryOf, stateOf}
 use Rattle.memory.specs.Sound.{Held}
 use Rattle.memory.proofs.Frame.{pending-length, cell-length}

@@ -124,12 +124,17 @@ pub gid-next : (m : List ℕ) (a j : ℕ) → j < length (peerFrom m a .gids)
 gid-next m a j h =
     let e : a + gidsAt + (4 + gidWidth * j) ≡ a + firstGid + gidWidth * j = omega arith in
     table-next gidWidth gidRoom wordOf (drop (a + gidsAt) m) j h
-    ∙ rw (drop-drop (4 + gidWidth * j) (a + gidsAt) m, word-take (drop (a + gidsAt + (4 + gidWidth * j)) m) gidWidth 0 (omega arith),
-      word-front m (a + gidsAt + (4 + gidWidth * j)), e)
+    ∙ rw (
+      drop-drop (4 + gidWidth * j) (a + gidsAt) m,
+      word-take (drop (a + gidsAt + (4 + gidWidth * j)) m) gidWidth 0 (omega arith),
+      word-front m (a + gidsAt + (4 + gidWidth * j)),
+      e,
+    )
 
 pub pending-next : (m : List ℕ) (a j : ℕ) → j < length (peerFrom m a .pending)
     → drop j (peerFrom m a .pending)
-    ≡ record { callee = wordAt Little m (a + firstCallee + callWidth * j); serial = wordAt Little m (a + firstSerial + callWidth * j) } ∷ drop (j + 1) (peerFrom m a .pending)
+    ≡ record { callee = wordAt Little m (a + firstCallee + callWidth * j); serial = wordAt Little m (a + firstSerial + callWidth * j) }
+    ∷ drop (j + 1) (peerFrom m a .pending)
 pending-next m a j h =
     let e : a + pendingAt + (4 + callWidth * j) ≡ a + firstCallee + callWidth * j = omega arith in
     let f : a + firstCallee + callWidth * j + 4 ≡ a + firstSerial + callWidth * j = omega arith in

@@ -13,14 +13,14 @@ use Rattle.tables.specs.Tables.{tableBytes, tableOf}
 use Rattle.wire.proofs.Parts.{drop-take, drop-past, part-nested, cut-two}
 use Rattle.tables.proofs.Table.{table-take}
 use Rattle.rules.specs.State.{Pending, peer}
-use Rattle.rules.specs.Pending.{endedAll, bereft}
+use Rattle.rules.specs.Pending.{endedAll, removeCallsTo}
 use Rattle.memory.specs.Layout.{memoryLength, slotLength, slotStart, pendingAt, callWidth, callRoom, pendingLength, namesAt, slotsAt}
 use Rattle.memory.specs.Encoding.{pendingBytes, pendingOf, slotBytes, peerOf, slotOf, memoryOf, stateOf}
 use Rattle.memory.specs.Places.{numberAt, changed}
 use Rattle.memory.proofs.Reading.{sixteen, slot-at, part-peer, part-number}
 use Rattle.memory.proofs.Fields.{table-part, pending-in}
 use Rattle.memory.proofs.Frame.{slot-length, memory-at}
-use Rattle.memory.proofs.Bereft.{bereft-free, bereft-peer, pending-of}
+use Rattle.memory.proofs.CallsRemoved.{calls-removed-free, calls-removed-peer, pending-of}
 use Rattle.memory.proofs.Sweep.{Sweeping, sweeping-begins, sweeping-again, sweeping-ends}
 use Rattle.peers.specs.Steps.{PlainSlot, Encoded, endedAt, endedFor}
 use Rattle.peers.proofs.Found.{Octets, below}
@@ -38,17 +38,19 @@ module _ (m : List ℕ) (i : ℕ) (p : PlainSlot m i) (n : ℕ) (e : n ≡ numbe
   pub slot-none : n ≡ 0 → (c : ℕ) → m ≡ endedAt m i c
   unfolding endedAt part
   slot-none z c =
-      let q : part ≡ changed (bereft c) part = bereft-free c part (p .plain) (number ∙ z) in
+      let q : part ≡ changed (removeCallsTo c) part = calls-removed-free c part (p .plain) (number ∙ z) in
       cut-two m (slotStart i) slotLength ∙ ap (λ (y : List ℕ). take (slotStart i) m ++ (y ++ drop (slotStart i + slotLength) m)) q
 
   -- the table of pending calls, as the code cuts it
-  cut-table : take (slotStart i + pendingAt + pendingLength - (slotStart i + pendingAt)) (drop (slotStart i + pendingAt) m) ≡ take pendingLength (drop pendingAt part)
+  cut-table : take (slotStart i + pendingAt + pendingLength - (slotStart i + pendingAt)) (drop (slotStart i + pendingAt) m)
+      ≡ take pendingLength (drop pendingAt part)
   unfolding part
   cut-table =
       let d = drop (slotStart i) m in
       cut-at (slotStart i + pendingAt) pendingLength m
       ∙ ap (take pendingLength) (sym (drop-drop pendingAt (slotStart i) m))
-      ∙ sym (ap (take pendingLength) (drop-take pendingAt (slotLength - pendingAt) d) ∙ take-take pendingLength (slotLength - pendingAt) (drop pendingAt d) (omega arith))
+      ∙ sym (ap (take pendingLength) (drop-take pendingAt (slotLength - pendingAt) d)
+      ∙ take-take pendingLength (slotLength - pendingAt) (drop pendingAt d) (omega arith))
 
   pub slot-length-is : length (take (slotStart i + pendingAt + pendingLength - (slotStart i + pendingAt)) (drop (slotStart i + pendingAt) m)) ≡ pendingLength
   slot-length-is =
@@ -66,7 +68,8 @@ module _ (m : List ℕ) (i : ℕ) (p : PlainSlot m i) (n : ℕ) (e : n ≡ numbe
     taken y = z (sym number ∙ y)
 
     pub slot-table : take (slotStart i + pendingAt + pendingLength - (slotStart i + pendingAt)) (drop (slotStart i + pendingAt) m)
-        ≡ tableBytes callWidth callRoom pendingBytes (tableOf callWidth callRoom pendingOf (take (slotStart i + pendingAt + pendingLength - (slotStart i + pendingAt)) (drop (slotStart i + pendingAt) m)))
+        ≡ tableBytes callWidth callRoom pendingBytes
+        (tableOf callWidth callRoom pendingOf (take (slotStart i + pendingAt + pendingLength - (slotStart i + pendingAt)) (drop (slotStart i + pendingAt) m)))
     unfolding part
     slot-table =
         let s : slotBytes (peer (peerOf part)) ≡ part = ap slotBytes (sym (part-peer part taken)) ∙ p .plain in
@@ -77,8 +80,10 @@ module _ (m : List ℕ) (i : ℕ) (p : PlainSlot m i) (n : ℕ) (e : n ≡ numbe
     pub slot-ended : (c : ℕ) (t : List ℕ)
         → t
         ≡ tableBytes callWidth callRoom pendingBytes
-        (endedAll c (tableOf callWidth callRoom pendingOf (take (slotStart i + pendingAt + pendingLength - (slotStart i + pendingAt)) (drop (slotStart i + pendingAt) m))))
-        → take (slotStart i + pendingAt) m ++ (t ++ drop (slotStart i + pendingAt + pendingLength - (slotStart i + pendingAt)) (drop (slotStart i + pendingAt) m)) ≡ endedAt m i c
+        (endedAll c
+        (tableOf callWidth callRoom pendingOf (take (slotStart i + pendingAt + pendingLength - (slotStart i + pendingAt)) (drop (slotStart i + pendingAt) m))))
+        → take (slotStart i + pendingAt) m
+        ++ (t ++ drop (slotStart i + pendingAt + pendingLength - (slotStart i + pendingAt)) (drop (slotStart i + pendingAt) m)) ≡ endedAt m i c
     unfolding endedAt part
     slot-ended c t et =
         let f : t ≡ tableBytes callWidth callRoom pendingBytes (endedAll c (peerOf part .pending))
@@ -87,29 +92,29 @@ module _ (m : List ℕ) (i : ℕ) (p : PlainSlot m i) (n : ℕ) (e : n ≡ numbe
         put-at (slotStart i + pendingAt) pendingLength m t
         ∙ sym (part-nested m t (slotStart i) pendingAt pendingLength slotLength (omega arith))
         ∙ ap (λ (y : List ℕ). take (slotStart i) m ++ ((take pendingAt part ++ (y ++ drop namesAt part)) ++ drop (slotStart i + slotLength) m)) f
-        ∙ ap (λ (y : List ℕ). take (slotStart i) m ++ (y ++ drop (slotStart i + slotLength) m)) (bereft-peer c part (p .plain) taken)
+        ∙ ap (λ (y : List ℕ). take (slotStart i) m ++ (y ++ drop (slotStart i + slotLength) m)) (calls-removed-peer c part (p .plain) taken)
 
 pub ruleset slot-calls = (slot-none, slot-length-is, slot-table, slot-ended, needs)
 
 -- ---- in every slot: those before slot i are done, and the others are as they were
 
-pub record Bereaving (m₀ m : List ℕ) (c i : ℕ) : Type 0 where
-  pub sweeping : Sweeping (bereft c) m₀ m i
+pub record RemovalInvariant (m₀ m : List ℕ) (c i : ℕ) : Type 0 where
+  pub sweeping : Sweeping (removeCallsTo c) m₀ m i
   pub whole : memoryOf (stateOf m₀) ≡ m₀
   pub rest : drop (slotStart i) m ≡ drop (slotStart i) m₀
 
-pub bereaving-begins : (m : List ℕ) (c : ℕ) → Octets m → Encoded m → Bereaving m m c 0
-bereaving-begins m c f g =
+pub removal-begins : (m : List ℕ) (c : ℕ) → Octets m → Encoded m → RemovalInvariant m m c 0
+removal-begins m c f g =
     record {
-      sweeping = sweeping-begins (bereft c) m (below m f) (g .sized);
+      sweeping = sweeping-begins (removeCallsTo c) m (below m f) (g .sized);
       whole = g .is;
       rest = refl;
     }
 
-module _ {m₀ m : List ℕ} {c i : ℕ} (b : Bereaving m₀ m c i) where
+module _ {m₀ m : List ℕ} {c i : ℕ} (b : RemovalInvariant m₀ m c i) where
   module _ (h : i < 16) where
-    pub bereaving-slot : PlainSlot m i
-    bereaving-slot =
+    pub removal-slot : PlainSlot m i
+    removal-slot =
         let a = slotStart i in
         let q : take slotLength (drop a m₀) ≡ slotBytes (slotOf (take slotLength (drop a m₀)))
         = ap (λ (y : List ℕ). take slotLength (drop a y)) (sym (b .whole))
@@ -117,14 +122,14 @@ module _ {m₀ m : List ℕ} {c i : ℕ} (b : Bereaving m₀ m c i) where
         ∙ ap slotBytes (slot-at m₀ i h) in
         record { sized = b .sweeping .sized; below = h; plain = rw (b .rest) (sym q) }
 
-    pub bereaving-more : (u : List ℕ) → u ≡ endedAt m i c → Bereaving m₀ u c (i + 1)
+    pub removal-more : (u : List ℕ) → u ≡ endedAt m i c → RemovalInvariant m₀ u c (i + 1)
     unfolding endedAt
-    bereaving-more u e =
+    removal-more u e =
         let a = slotStart i in
         let l : length m ≡ memoryLength = b .sweeping .sized in
-        let y = changed (bereft c) (take slotLength (drop a m)) in
-        let ly : length y ≡ slotLength = slot-length (bereft c (slotOf (take slotLength (drop a m)))) in
-        let s = sweeping-again (bereft c) m₀ m u y i (b .sweeping) h e refl in
+        let y = changed (removeCallsTo c) (take slotLength (drop a m)) in
+        let ly : length y ≡ slotLength = slot-length (removeCallsTo c (slotOf (take slotLength (drop a m)))) in
+        let s = sweeping-again (removeCallsTo c) m₀ m u y i (b .sweeping) h e refl in
         let n : slotsAt + slotLength * (i + 1) ≡ a + slotLength = omega arith in
         let r : drop (a + slotLength) u ≡ drop (a + slotLength) m₀
         = ap (drop (a + slotLength)) e
@@ -135,8 +140,8 @@ module _ {m₀ m : List ℕ} {c i : ℕ} (b : Bereaving m₀ m c i) where
         ∙ drop-drop slotLength a m₀ in
         record { sweeping = s; whole = b .whole; rest = rw n r }
 
-  pub bereaving-ends : 16 ≤ i → m ≡ endedFor m₀ c
+  pub removal-ends : 16 ≤ i → m ≡ endedFor m₀ c
   unfolding endedFor
-  bereaving-ends h = sweeping-ends (bereft c) m₀ m i (b .sweeping) h
+  removal-ends h = sweeping-ends (removeCallsTo c) m₀ m i (b .sweeping) h
 
-pub ruleset bereaving = (bereaving-begins, bereaving-slot, bereaving-more, bereaving-ends, needs)
+pub ruleset removal = (removal-begins, removal-slot, removal-more, removal-ends, needs)

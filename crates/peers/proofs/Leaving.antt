@@ -11,7 +11,7 @@ use Rattle.wire.specs.declared.Order.the-variants.{Little}
 use Rattle.wire.proofs.Words.{cut-at, put-at}
 use Rattle.stream.specs.Tail.{tails}
 use Rattle.rules.specs.State.{free, putSlot, isPeer}
-use Rattle.rules.specs.Pending.{bereft}
+use Rattle.rules.specs.Pending.{removeCallsTo}
 use Rattle.rules.specs.Calls.{disconnect, noGone}
 use Rattle.rules.specs.declared.Gone.{Gone}
 use Rattle.memory.specs.Layout.{memoryLength, slotLength, slotStart, takenAt}
@@ -58,7 +58,7 @@ module _ (m : List ℕ) (g : Held m) (i : ℕ) (h : i < 16) (z : List ℕ)
       → m₂ ≡ endedFor (take (slotStart i) m ++ (z ++ drop (slotStart i + slotLength - (slotStart i)) (drop (slotStart i) m))) c → m₂ ≡ slotsWithout m i c
   unfolding endedFor slotsWithout
   leave-gone c m₂ q =
-      swept-freed (bereft c) m (take (slotStart i) m ++ (z ++ drop (slotStart i + slotLength - (slotStart i)) (drop (slotStart i) m))) m₂
+      swept-freed (removeCallsTo c) m (take (slotStart i) m ++ (z ++ drop (slotStart i + slotLength - (slotStart i)) (drop (slotStart i) m))) m₂
       (slotBytes free) i h (g .sized) refl wiped q
 
 pub ruleset leaving = (leave-encoded, leave-gone, needs)

@@ -8,7 +8,7 @@ use lib.ListN.{length, take, drop, set}
 use Rattle.policy.specs.Names.{owns}
 use Rattle.stream.specs.Tail.{Tail, tails}
 use Rattle.rules.specs.State.{free, peer, isFree, firstBy, putSlot, withNames}
-use Rattle.rules.specs.Pending.{bereft}
+use Rattle.rules.specs.Pending.{removeCallsTo}
 use Rattle.rules.specs.Calls.{Step, stays, newcomer, connectAt, ownNew, released}
 use Rattle.rules.specs.declared.Connected.{Connected}
 use Rattle.memory.specs.Layout.{slotStart, memoryLength, slotLength, gidRoom}
@@ -51,15 +51,15 @@ pub record Encoded (m : List ℕ) : Type 0 where
 
 -- the calls to the callee that the peer of slot i awaits ended
 unfoldable pub endedAt : List ℕ → ℕ → ℕ → List ℕ
-endedAt m i callee = putAt m i (changed (bereft callee) (take slotLength (drop (slotStart i) m)))
+endedAt m i callee = putAt m i (changed (removeCallsTo callee) (take slotLength (drop (slotStart i) m)))
 
 -- every call to the callee ended
 unfoldable pub endedFor : List ℕ → ℕ → List ℕ
-endedFor m callee = memoryOf (mapped (bereft callee) (stateOf m))
+endedFor m callee = memoryOf (mapped (removeCallsTo callee) (stateOf m))
 
 -- the same after the peer of slot i is gone
 unfoldable pub slotsWithout : List ℕ → ℕ → ℕ → List ℕ
-slotsWithout m i callee = memoryOf (record { last = stateOf m .last; slots = map (bereft callee) (set (stateOf m .slots) i free) })
+slotsWithout m i callee = memoryOf (record { last = stateOf m .last; slots = map (removeCallsTo callee) (set (stateOf m .slots) i free) })
 
 -- ---- own and release
 

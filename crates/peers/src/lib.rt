@@ -42,7 +42,9 @@ ghost use Rattle.peers.specs.Steps.{Free, admitted, entered, PlainSlot, 
 // Writes a peer's number, uid and gids in slot i, where zeros stand.
 fn seat(memory: &mut [u8], i: usize, number: u32, uid: u32, gids: &[u32])
     requires { ⌜ (At (now memory) i) × (length (now gids) ≤ gidRoom) ⌝ }
-    ensures { λ r. ⌜ now (memory .exit) ≡ take (slotStart i) (now (memory .entry)) ++ (newBytes number uid (now (gids .entry)) ++ drop (slotStart i + (firstGid + gidWidth * length (now (gids .entry)))) (now (memory .entry))) ⌝ }
+    ensures { λ r.
+        ⌜ now (memory .exit) ≡ take (slotStart i) (now (memory .entry))
+        ++ (newBytes number uid (now (gids .entry)) ++ drop (slotStart i + (firstGid + gidWidth * length (now (gids .entry)))) (now (memory .entry))) ⌝ }
 {
     let at = SLOTS_AT + SLOT_LENGTH * i;
     wire::put_u32(memory, at, number);
@@ -99,8 +101,10 @@ pub fn connect(image: &[u8], memory: &mut [u8], uid: u32, gids: &[u32]) -> Conne
 
 // Ends every call to the callee in a table of pending calls.
 fn end_calls(table: &mut [u8], callee: u32)
-    requires { ⌜ (length (now table) ≡ pendingLength) × (now table ≡ tableBytes callWidth callRoom pendingBytes (tableOf callWidth callRoom pendingOf (now table))) ⌝ }
-    ensures { λ r. ⌜ now (table .exit) ≡ tableBytes callWidth callRoom pendingBytes (endedAll callee (tableOf callWidth callRoom pendingOf (now (table .entry)))) ⌝ }
+    requires { ⌜ (length (now table) ≡ pendingLength)
+        × (now table ≡ tableBytes callWidth callRoom pendingBytes (tableOf callWidth callRoom pendingOf (now table))) ⌝ }
+    ensures { λ r.
+        ⌜ now (table .exit) ≡ tableBytes callWidth callRoom pendingBytes (endedAll callee (tableOf callWidth callRoom pendingOf (now (table .entry)))) ⌝ }
 {
     let mut n = wire::u32_at(Order::Little, table, 0);
     let mut j: u32 = 0;
@@ -178,7 +182,8 @@ fn may_own_as(image: &[u8], uid: Uid, gids: [u32; GID_ROOM], count: usize, name:
 // The policy lets the peer of slot i own the name.
 fn may_own_at(image: &[u8], memory: &[u8], i: usize, name: &[u8]) -> bool
     requires { ⌜ (GoodImage (now image)) × (length (now memory) ≡ memoryLength) × (i < 16) ⌝ }
-    ensures { λ r. ⌜ r ≡ mayOwn (now (image .entry)) (record { 0 = peerAt (now (memory .entry)) i .uid }) (peerAt (now (memory .entry)) i .gids) (now (name .entry)) ⌝ }
+    ensures { λ r.
+        ⌜ r ≡ mayOwn (now (image .entry)) (record { 0 = peerAt (now (memory .entry)) i .uid }) (peerAt (now (memory .entry)) i .gids) (now (name .entry)) ⌝ }
 {
     let uid = Uid(slots::word_at(memory, i, UID_AT));
     let gids = slots::gids_at(memory, i);
@@ -190,7 +195,9 @@ fn may_own_at(image: &[u8], memory: &[u8], i: usize, name: &[u8]) -> bool
 // Writes a name behind its length at `at`.
 fn put_name(memory: &mut [u8], at: usize, name: &[u8])
     requires { ⌜ Naming (now memory) at (now name) ⌝ }
-    ensures { λ r. ⌜ now (memory .exit) ≡ take at (now (memory .entry)) ++ (nameBytes (now (name .entry)) ++ drop (at + (1 + length (now (name .entry)))) (now (memory .entry))) ⌝ }
+    ensures { λ r.
+        ⌜ now (memory .exit) ≡ take at (now (memory .entry))
+        ++ (nameBytes (now (name .entry)) ++ drop (at + (1 + length (now (name .entry)))) (now (memory .entry))) ⌝ }
 {
     memory[at] = name.len() as u8;
     let from = at + 1;

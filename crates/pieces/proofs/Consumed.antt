@@ -10,7 +10,7 @@ use mir.Syntax.{w8}
 use mir.Val.{Fits}
 use Rattle.wire.specs.Bytes.{pad}
 use Rattle.wire.specs.Words.{wordBytes}
-use Rattle.wire.proofs.Texts.{pad-length}
+use Rattle.wire.proofs.Texts.{impossible, pad-length}
 use Rattle.wire.proofs.Words.{word-length}
 use Rattle.header.specs.Header.{readHeader}
 use Rattle.header.specs.declared.Header.{Header}
@@ -73,7 +73,8 @@ module _ (m : List ℕ) (i : ℕ) (l : length m ≡ memoryLength) (h : i < 16) (
       ∙ drop-at v (d ++ r) 4 (word-length (length (t .head))))
 
   module _ (n : ℕ) (k : n ≤ headRoom) where
-    pub head-put : headIn (take (slotStart i + takenAt) m ++ (streamBytes t ++ drop (slotStart i + takenAt + streamLength) m)) i n ≡ take n (pad headRoom (t .head))
+    pub head-put : headIn (take (slotStart i + takenAt) m ++ (streamBytes t ++ drop (slotStart i + takenAt + streamLength) m)) i n
+        ≡ take n (pad headRoom (t .head))
     head-put =
         ap (take n) room-put
         ∙ take-append-le n (pad headRoom (t .head)) (drop (slotStart i + takenAt + streamLength) m) (omega (arith, pad-length headRoom (t .head)))
@@ -114,7 +115,7 @@ module _ (m : List ℕ) (f : (j : ℕ) → Fits w8 (getD m j 0)) (i : ℕ) (s : 
   consumed-slot = ap (λ (z : State Tail). getD (z .slots) i free) consumed-again ∙ consumed-at
 
   peer-not-free : (q : Peer Tail) → peer q ≡ free → ⊥
-  peer-not-free q e = let z : _≡_ {A = ℕ} 0 1 = cc in omega arith
+  peer-not-free q e = impossible cc
 
   consumed-some : numberAt (memoryOf consumed) i ≡ 0 → ⊥
   consumed-some z = peer-not-free (withStream (peerAt m i) fresh) (sym consumed-slot ∙ slot-free (memoryOf consumed) i (s .below) z)
@@ -139,8 +140,10 @@ module _ (m : List ℕ) (f : (j : ℕ) → Fits w8 (getD m j 0)) (i : ℕ) (s : 
 
   -- what the bytes of a whole message leave, where `after` is memory with them
   module _ (image piece after : List ℕ) (x : Header) (g : GoodImage image) (o : closed (peerAt m i .stream) ≡ false)
-      (e : after ≡ take (slotStart i + takenAt) m ++ (streamBytes (offer tails (peerAt m i .stream) piece .stream) ++ drop (slotStart i + takenAt + streamLength) m))
-      (v : whole (take (x .head) (pad headRoom (offer tails (peerAt m i .stream) piece .stream .head))) x ≡ offer tails (peerAt m i .stream) piece .verdict) where
+      (e : after ≡ take (slotStart i + takenAt) m
+      ++ (streamBytes (offer tails (peerAt m i .stream) piece .stream) ++ drop (slotStart i + takenAt + streamLength) m))
+      (v : whole (take (x .head) (pad headRoom (offer tails (peerAt m i .stream) piece .stream .head))) x
+      ≡ offer tails (peerAt m i .stream) piece .verdict) where
     pub consumed-clear : cleared after i ≡ memoryOf consumed
     consumed-clear =
         ap (λ (z : List ℕ). cleared z i) e
@@ -169,7 +172,14 @@ module _ (m : List ℕ) (f : (j : ℕ) → Fits w8 (getD m j 0)) (i : ℕ) (s : 
         let k : length m ≡ memoryLength = s .sized in
         ap length e
         ∙ length-append (take b m) (q ++ drop (b + streamLength) m)
-        ∙ omega (arith, before m i (s .sized) (s .below) (offer tails (peerAt m i .stream) piece .stream), length-append q (drop (b + streamLength) m), stream-length (offer tails (peerAt m i .stream) piece .stream), length-drop (b + streamLength) m, s .below)
+        ∙ omega (
+          arith,
+          before m i (s .sized) (s .below) (offer tails (peerAt m i .stream) piece .stream),
+          length-append q (drop (b + streamLength) m),
+          stream-length (offer tails (peerAt m i .stream) piece .stream),
+          length-drop (b + streamLength) m,
+          s .below,
+        )
 
     pub completed : Completed image after i x
     completed =

@@ -55,7 +55,8 @@ module _ (image m d head : List ℕ) (i : ℕ) (x : Header) (c : Completed image
         long = head-length m i (x .head) (c .sized) (c .below) (c .small);
       })
 
-  pub judge-left : (r : Judgement) (after : List ℕ) → Judges image d i (take (x .head - 0) head) x r after → Judges image (cleared m i) i (headIn m i (x .head)) x r after
+  pub judge-left : (r : Judgement) (after : List ℕ) → Judges image d i (take (x .head - 0) head) x r after
+      → Judges image (cleared m i) i (headIn m i (x .head)) x r after
   judge-left r after j = rw (head-is, e) at j
 
 pub ruleset judging = (judge-ready, judge-left, needs)
@@ -72,14 +73,16 @@ module _ (image : List ℕ) (s : State Tail) (i : ℕ) (p : Peer Tail) (o : Offe
   broken-step a e = rw e
 
   -- over the state z in which the message is consumed, and its peer q
-  pub whole-step : (h : List ℕ) (x : Header) → o .verdict ≡ whole h x → (z : State Tail) (q : Peer Tail) → z ≡ putSlot s i (peer (withStream p fresh)) → q ≡ withStream p fresh
+  pub whole-step : (h : List ℕ) (x : Header) → o .verdict ≡ whole h x → (z : State Tail) (q : Peer Tail) → z ≡ putSlot s i (peer (withStream p fresh))
+      → q ≡ withStream p fresh
       → offeredTo tails image s i p o
       ≡ record { state = judged image z i q h x .state; result = record { judgement = judged image z i q h x .judgement; taken = o .taken } }
   whole-step h x e z q a b = rw (e, a, b)
 
 module _ (image m bytes after : List ℕ) (f : (j : ℕ) → Fits w8 (getD m j 0)) (i : ℕ) (s : Seated m i) (r : Advance)
     (d : FedAt m i (offer tails (peerAt m i .stream) bytes) r after) where
-  verdict-is : (e : Event) → r .event ≡ e → verdictOf (pad headRoom (offer tails (peerAt m i .stream) bytes .stream .head)) e ≡ offer tails (peerAt m i .stream) bytes .verdict
+  verdict-is : (e : Event) → r .event ≡ e
+      → verdictOf (pad headRoom (offer tails (peerAt m i .stream) bytes .stream .head)) e ≡ offer tails (peerAt m i .stream) bytes .verdict
   verdict-is e q = ap (verdictOf (pad headRoom (offer tails (peerAt m i .stream) bytes .stream .head))) (sym q) ∙ d .verdict
 
   pub offered-more : r .event ≡ event.More

@@ -81,7 +81,8 @@ module _ (image m bytes : List ℕ) (f : (j : ℕ) → Fits w8 (getD m j 0)) (i 
         let o = offer tails (peerAt m i .stream) bytes in
         let e = ap (λ (t : Tail). offer tails t bytes) stream-is ∙ offer-once bytes x read-is (rw (← k) l) in
         let u : Judges image m i (take (x .head) bytes) x j end = rw head-is at d in
-        rw (whole-step image (stateOf m) i (peerAt m i) o (take (x .head) bytes) x (ap (λ (z : Offer Tail). z .verdict) e) (stateOf m) (peerAt m i) same-state same-peer)
+        rw (whole-step image (stateOf m) i (peerAt m i) o (take (x .head) bytes) x (ap (λ (z : Offer Tail). z .verdict) e) (stateOf m) (peerAt m i)
+        same-state same-peer)
         (record { result = rw (u .judgement, k, ap (λ (z : Offer Tail). z .taken) e); memory = u .memory })
 
 pub ruleset once = (once-small, once-open, once-ready, once-judged, needs)

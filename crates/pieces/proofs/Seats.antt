@@ -64,11 +64,19 @@ module _ (m : List ℕ) (f : (j : ℕ) → Fits w8 (getD m j 0)) (i : ℕ) (s : 
       let q : b + headOffset ≡ slotStart i + headAt = omega arith in
       let r : b + byteOffset ≡ slotStart i + firstByte = omega arith in
       let n = min (wordAt Little m (slotStart i + headAt)) headRoom in
-      rw (word-part m b streamLength 0 (omega arith), p, word-part m b streamLength headOffset (omega arith), q, drop-take byteOffset headRoom (drop b m),
-      drop-drop byteOffset b m, r)
+      rw (
+        word-part m b streamLength 0 (omega arith),
+        p,
+        word-part m b streamLength headOffset (omega arith),
+        q,
+        drop-take byteOffset headRoom (drop b m),
+        drop-drop byteOffset b m,
+        r,
+      )
       (ap (λ (h : List ℕ). record { taken = wordAt Little m (slotStart i + takenAt); head = h }) (take-take n headRoom (drop (slotStart i + firstByte) m) (omega arith)))
 
-  pub opens-at : closed (peerAt m i .stream) ≡ false → Opens (take (slotStart i + takenAt + streamLength - (slotStart i + takenAt)) (drop (slotStart i + takenAt) m))
+  pub opens-at : closed (peerAt m i .stream) ≡ false
+      → Opens (take (slotStart i + takenAt + streamLength - (slotStart i + takenAt)) (drop (slotStart i + takenAt) m))
   opens-at c =
       rw (cut-at (slotStart i + takenAt) streamLength m)
       (record {
@@ -103,14 +111,18 @@ module _ (m : List ℕ) (f : (j : ℕ) → Fits w8 (getD m j 0)) (i : ℕ) (s : 
   tail-at t n p q =
       let k : n ≤ headRoom = rw (← q) at (counts .small) in
       let e : min (wordAt Little m (slotStart i + headAt)) headRoom ≡ n = omega arith in
-      rw (cut-at (slotStart i + firstByte) headRoom m, e, ← p) (ap (λ (h : List ℕ). record { taken = t; head = h }) (take-take n headRoom (drop (slotStart i + firstByte) m) k))
+      rw (cut-at (slotStart i + firstByte) headRoom m, e, ← p)
+      (ap (λ (h : List ℕ). record { taken = t; head = h }) (take-take n headRoom (drop (slotStart i + firstByte) m) k))
 
   pub closed-at : (t n : ℕ) → t ≡ wordAt Little m (slotStart i + takenAt) → n ≡ wordAt Little m (slotStart i + headAt)
       → GoodTail (take (slotStart i + firstByte + headRoom - (slotStart i + firstByte)) (drop (slotStart i + firstByte) m)) (record { taken = t; stored = n })
   closed-at t n p q =
       record {
         inside =
-            rw (cut-at (slotStart i + firstByte) headRoom m, length-take-le headRoom (drop (slotStart i + firstByte) m) (omega (arith, length-drop (slotStart i + firstByte) m, s .sized, s .below)))
+            rw (
+              cut-at (slotStart i + firstByte) headRoom m,
+              length-take-le headRoom (drop (slotStart i + firstByte) m) (omega (arith, length-drop (slotStart i + firstByte) m, s .sized, s .below)),
+            )
             (rw (← q) at (counts .small));
         good = ap goodTail (tail-at t n p q) ∙ fine .tail;
       }

@@ -99,7 +99,8 @@ fn head_of(memory: &[u8], i: usize, n: usize) -> [u8; HEAD_ROOM]
 // A whole message of slot i is consumed, and judged over what is left.
 fn judge_at(image: &[u8], memory: &mut [u8], i: usize, header: Header) -> Judgement
     requires { ⌜ Completed (now image) (now memory) i header ⌝ }
-    ensures { λ r. ⌜ Judges (now (image .entry)) (cleared (now (memory .entry)) i) i (headIn (now (memory .entry)) i (header .head)) header r (now (memory .exit)) ⌝ }
+    ensures { λ r.
+        ⌜ Judges (now (image .entry)) (cleared (now (memory .entry)) i) i (headIn (now (memory .entry)) i (header .head)) header r (now (memory .exit)) ⌝ }
 {
     let n = header.head;
     let head = head_of(memory, i, n);
@@ -110,7 +111,10 @@ fn judge_at(image: &[u8], memory: &mut [u8], i: usize, header: Header) -> Judgem
 // The piece is offered to the open stream of slot i, and a whole message is judged.
 fn piece_at(image: &[u8], memory: &mut [u8], i: usize, bytes: &[u8]) -> Taken
     requires { ⌜ (GoodImage (now image)) × (Seated (now memory) i) × (closed (peerAt (now memory) i .stream) ≡ false) ⌝ }
-    ensures { λ r. ⌜ Did (stored (offeredTo tails (now (image .entry)) (stateOf (now (memory .entry))) i (peerAt (now (memory .entry)) i) (offer tails (peerAt (now (memory .entry)) i .stream) (now (bytes .entry))))) r (now (memory .exit)) ⌝ }
+    ensures { λ r.
+        ⌜ Did (stored
+        (offeredTo tails (now (image .entry)) (stateOf (now (memory .entry))) i (peerAt (now (memory .entry)) i)
+        (offer tails (peerAt (now (memory .entry)) i .stream) (now (bytes .entry))))) r (now (memory .exit)) ⌝ }
 {
     let a = feed_at(memory, i, bytes);
     let taken = a.taken;
@@ -148,7 +152,10 @@ fn length_of(header: Header) -> usize
 // The piece is offered to the stream of slot i, which is between two messages: one that is whole in the piece is judged where it stands.
 fn fresh_at(image: &[u8], memory: &mut [u8], i: usize, bytes: &[u8]) -> Taken
     requires { ⌜ (GoodImage (now image)) × (Seated (now memory) i) × (peerAt (now memory) i .stream .taken ≡ 0) ⌝ }
-    ensures { λ r. ⌜ Did (stored (offeredTo tails (now (image .entry)) (stateOf (now (memory .entry))) i (peerAt (now (memory .entry)) i) (offer tails (peerAt (now (memory .entry)) i .stream) (now (bytes .entry))))) r (now (memory .exit)) ⌝ }
+    ensures { λ r.
+        ⌜ Did (stored
+        (offeredTo tails (now (image .entry)) (stateOf (now (memory .entry))) i (peerAt (now (memory .entry)) i)
+        (offer tails (peerAt (now (memory .entry)) i .stream) (now (bytes .entry))))) r (now (memory .exit)) ⌝ }
 {
     match reader::read(bytes) {
         Reading::Short => piece_at(image, memory, i, bytes),

@@ -10,7 +10,8 @@ use native.Mathlib.Nat.{eq-or-lt-of-le}
 use native.Mathlib.Omega.{arith}
 use lib.Dec.{eqb}
 use borrow.Author.Tests.{leb-true, leb-false, ltb-true, ltb-false, eqb-true, eqb-false}
-use Rattle.image.specs.Image.{connectCount, ownCount, transactionCount}
+use Rattle.image.specs.Image.{ruleCount}
+use Rattle.image.specs.declared.Section.the-variants.{Connect, Own, Transaction}
 use Rattle.policy.specs.Precedence.{givesWay, takeOver, heard, deciding, Beats, Decides, NoneMatches}
 use Rattle.policy.specs.Matching.{Message}
 use Rattle.policy.specs.Decisions.{connectContext, connectHits, connectDecides, ownContext, ownHits, ownDecides}
@@ -134,33 +135,33 @@ module _ (contextOf : ℕ → ℕ) (matches : ℕ → Bool) where
 
 module _ (image : List ℕ) (uid : Uid) (gids : List ℕ) where
   pub connect-exactly : (i : ℕ)
-      → (connectDecides image uid gids ≡ some i) ↔ Decides (connectContext image) (connectHits image uid gids) (connectCount image) i
+      → (connectDecides image uid gids ≡ some i) ↔ Decides (connectContext image) (connectHits image uid gids) (ruleCount Connect image) i
   unfolding connectDecides
-  connect-exactly i = decides-exactly (connectContext image) (connectHits image uid gids) (connectCount image) i
+  connect-exactly i = decides-exactly (connectContext image) (connectHits image uid gids) (ruleCount Connect image) i
 
-  pub connect-undecided : (connectDecides image uid gids ≡ none) ↔ NoneMatches (connectHits image uid gids) (connectCount image)
+  pub connect-undecided : (connectDecides image uid gids ≡ none) ↔ NoneMatches (connectHits image uid gids) (ruleCount Connect image)
   unfolding connectDecides
-  connect-undecided = undecided-exactly (connectContext image) (connectHits image uid gids) (connectCount image)
+  connect-undecided = undecided-exactly (connectContext image) (connectHits image uid gids) (ruleCount Connect image)
 
   module _ (name : List ℕ) where
     pub own-exactly : (i : ℕ)
-        → (ownDecides image uid gids name ≡ some i) ↔ Decides (ownContext image) (ownHits image uid gids name) (ownCount image) i
+        → (ownDecides image uid gids name ≡ some i) ↔ Decides (ownContext image) (ownHits image uid gids name) (ruleCount Own image) i
     unfolding ownDecides
-    own-exactly i = decides-exactly (ownContext image) (ownHits image uid gids name) (ownCount image) i
+    own-exactly i = decides-exactly (ownContext image) (ownHits image uid gids name) (ruleCount Own image) i
 
-    pub own-undecided : (ownDecides image uid gids name ≡ none) ↔ NoneMatches (ownHits image uid gids name) (ownCount image)
+    pub own-undecided : (ownDecides image uid gids name ≡ none) ↔ NoneMatches (ownHits image uid gids name) (ruleCount Own image)
     unfolding ownDecides
-    own-undecided = undecided-exactly (ownContext image) (ownHits image uid gids name) (ownCount image)
+    own-undecided = undecided-exactly (ownContext image) (ownHits image uid gids name) (ruleCount Own image)
 
   -- send and receive
   module _ (direction : ℕ) (names : List (List ℕ)) (m : Message) where
     pub transaction-exactly : (i : ℕ)
         → (transactionDecides image direction uid gids names m ≡ some i)
-        ↔ Decides (transactionContext image) (transactionHits image direction uid gids names m) (transactionCount image) i
+        ↔ Decides (transactionContext image) (transactionHits image direction uid gids names m) (ruleCount Transaction image) i
     unfolding transactionDecides
-    transaction-exactly i = decides-exactly (transactionContext image) (transactionHits image direction uid gids names m) (transactionCount image) i
+    transaction-exactly i = decides-exactly (transactionContext image) (transactionHits image direction uid gids names m) (ruleCount Transaction image) i
 
     pub transaction-undecided : (transactionDecides image direction uid gids names m ≡ none)
-        ↔ NoneMatches (transactionHits image direction uid gids names m) (transactionCount image)
+        ↔ NoneMatches (transactionHits image direction uid gids names m) (ruleCount Transaction image)
     unfolding transactionDecides
-    transaction-undecided = undecided-exactly (transactionContext image) (transactionHits image direction uid gids names m) (transactionCount image)
+    transaction-undecided = undecided-exactly (transactionContext image) (transactionHits image direction uid gids names m) (ruleCount Transaction image)

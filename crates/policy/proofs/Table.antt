@@ -5,7 +5,6 @@ use mathlib.Core.List.{List}
 use Rattle.wire.specs.Lists.{agrees}
 use Rattle.wire.specs.Bytes.{same}
 use Rattle.wire.specs.Words.{wordAt, wordBytes}
-use Rattle.names.specs.Namespace.{inNamespace}
 use Rattle.policy.specs.Precedence.{deciding}
 use Rattle.policy.specs.Names.{owns}
 use Rattle.policy.specs.Subjects.{inGroups, subjectFits}
@@ -17,7 +16,8 @@ abbrev Agree : List DecisionRow → Type 0
 Agree lines = agrees (λ (given : Bool). given) Bool·beq lines ≡ true
 
 pub table-agrees : Agree decisionTable
-unfolding same wordAt wordBytes inNamespace deciding owns inGroups subjectFits connectFits ownedFits ownFits partFits interfaceFits partsFit nameFits transactionFits transactionMatches connectDecides mayConnect ownDecides mayOwn transactionDecides mayTransact
+unfolding same wordAt wordBytes deciding owns inGroups subjectFits connectFits partFits interfaceFits partsFit nameFits transactionFits
+    transactionMatches connectDecides mayConnect ownDecides mayOwn transactionDecides mayTransact
 table-agrees = refl
 
 pub people-agree : Agree people
@@ -25,5 +25,6 @@ unfolding same wordAt wordBytes deciding inGroups subjectFits connectFits ownedF
 people-agree = refl
 
 pub messages-agree : Agree messageRows
-unfolding same wordAt wordBytes deciding owns subjectFits partFits interfaceFits partsFit nameFits transactionFits transactionMatches transactionDecides mayTransact
+unfolding same wordAt wordBytes deciding owns subjectFits partFits interfaceFits partsFit nameFits transactionFits transactionMatches transactionDecides
+    mayTransact
 messages-agree = refl

@@ -4,7 +4,8 @@ use mathlib.Core.List.{List}
 use mathlib.Core.Option.{Option}
 use Prim.Native.Nat.{ℕ}
 use lib.Dec.{eqb}
-use Rattle.image.specs.Image.{connectCount, ownCount, transactionCount}
+use Rattle.image.specs.Image.{ruleCount}
+use Rattle.image.specs.declared.Section.the-variants.{Connect, Own, Transaction}
 use Rattle.image.specs.Rules.{connectRule, ownRule, transactionRule}
 use Rattle.policy.specs.Precedence.{deciding, ruleVerdict}
 use Rattle.policy.specs.Matching.{connectFits, ownFits, Message, transactionMatches}
@@ -20,7 +21,7 @@ abbrev pub connectHits : List ℕ → Uid → List ℕ → ℕ → Bool
 connectHits image uid gids i = connectFits (connectRule image i) uid gids
 
 unfoldable pub connectDecides : List ℕ → Uid → List ℕ → Option ℕ
-connectDecides image uid gids = deciding (connectContext image) (connectHits image uid gids) (connectCount image)
+connectDecides image uid gids = deciding (connectContext image) (connectHits image uid gids) (ruleCount Connect image)
 
 unfoldable pub mayConnect : List ℕ → Uid → List ℕ → Bool
 mayConnect image uid gids = ruleVerdict (λ i. eqb (connectRule image i .verdict) 1) (connectDecides image uid gids)
@@ -35,7 +36,7 @@ abbrev pub ownHits : List ℕ → Uid → List ℕ → List ℕ → ℕ → Bool
 ownHits image uid gids name i = ownFits image (ownRule image i) uid gids name
 
 unfoldable pub ownDecides : List ℕ → Uid → List ℕ → List ℕ → Option ℕ
-ownDecides image uid gids name = deciding (ownContext image) (ownHits image uid gids name) (ownCount image)
+ownDecides image uid gids name = deciding (ownContext image) (ownHits image uid gids name) (ruleCount Own image)
 
 unfoldable pub mayOwn : List ℕ → Uid → List ℕ → List ℕ → Bool
 mayOwn image uid gids name = ruleVerdict (λ i. eqb (ownRule image i .verdict) 1) (ownDecides image uid gids name)
@@ -58,7 +59,7 @@ transactionHits image direction uid gids names m i = transactionMatches image (t
 
 unfoldable pub transactionDecides : List ℕ → ℕ → Uid → List ℕ → List (List ℕ) → Message → Option ℕ
 transactionDecides image direction uid gids names m =
-    deciding (transactionContext image) (transactionHits image direction uid gids names m) (transactionCount image)
+    deciding (transactionContext image) (transactionHits image direction uid gids names m) (ruleCount Transaction image)
 
 unfoldable pub mayTransact : List ℕ → ℕ → Uid → List ℕ → List (List ℕ) → Message → Bool
 mayTransact image direction uid gids names m =

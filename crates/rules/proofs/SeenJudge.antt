@@ -45,7 +45,8 @@ module _ {A B : Type 0} (f : A → B) (image : List ℕ) (s : State A) (sender :
       (cond full (refused z 26) b) refl
       (chosen (seenJudged f) full (refused s 26) a (refused z 26) b refl (put-passed i (withPending sender ws) r))
 
-  peer-seen : (i : ℕ) (receiver : Peer A) (m : Message) → toPeer image z i sender′ (seenPeer f receiver) m x ≡ seenJudged f (toPeer image s i sender receiver m x)
+  peer-seen : (i : ℕ) (receiver : Peer A) (m : Message)
+      → toPeer image z i sender′ (seenPeer f receiver) m x ≡ seenJudged f (toPeer image s i sender receiver m x)
   peer-seen i receiver m =
       let r = to.Peer (receiver .number) in
       let may = mayReceive image receiver (sender .names) m in
@@ -101,7 +102,8 @@ module _ {A B : Type 0} (f : A → B) (image : List ℕ) (s : State A) (sender :
           cond (ltb 4 (x .kind)) (refused z 20) (cond (isReply x) (reply z sender′ a x)
           (directed image z i sender′ a (messageOf h x) x))
 
-      same-address : (a : Address) → at a ≡ seenJudged f (cond (ltb 4 (x .kind)) (refused s 20) (cond (isReply x) (reply s sender a x) (directed image s i sender a (messageOf h x) x)))
+      same-address : (a : Address)
+          → at a ≡ seenJudged f (cond (ltb 4 (x .kind)) (refused s 20) (cond (isReply x) (reply s sender a x) (directed image s i sender a (messageOf h x) x)))
       same-address a =
           let m = messageOf h x in
           chosen (seenJudged f) (ltb 4 (x .kind)) (refused s 20) (cond (isReply x) (reply s sender a x) (directed image s i sender a m x)) (refused z 20)

@@ -9,7 +9,7 @@ use Rattle.wire.specs.Bytes.{same}
 use Rattle.policy.specs.Names.{busName}
 use Rattle.rules.specs.State.{Slot, free, peer, Peer, State, isFree, isPeer, firstBy, putSlot}
 use Rattle.rules.specs.Addresses.{Address, answersTo, found, resolve}
-use Rattle.rules.specs.Pending.{bereft}
+use Rattle.rules.specs.Pending.{removeCallsTo}
 use Rattle.rules.specs.Calls.{isOwner}
 use Rattle.rules.specs.View.{seenSlot, seen}
 
@@ -57,9 +57,9 @@ module _ {A B : Type 0} (f : A → B) where
   answers-seen text free = refl
   answers-seen text (peer p) = refl
 
-  pub bereft-seen : (n : ℕ) (x : Slot A) → bereft n (seenSlot f x) ≡ seenSlot f (bereft n x)
-  bereft-seen n free = refl
-  bereft-seen n (peer p) = refl
+  pub calls-removed-seen : (n : ℕ) (x : Slot A) → removeCallsTo n (seenSlot f x) ≡ seenSlot f (removeCallsTo n x)
+  calls-removed-seen n free = refl
+  calls-removed-seen n (peer p) = refl
 
   -- ---- what is found
 

@@ -5,7 +5,7 @@ use mathlib.Core.Option.{Option, none, some}
 use Prim.Native.Nat.{ℕ, zero, suc, _+_, _/_, _%_}
 use lib.Dec.{eqb, ltb}
 use lib.ListN.{length}
-use Rattle.wire.specs.Bytes.{bytes, same}
+use Rattle.wire.specs.Bytes.{byte, bytes, same}
 use Rattle.names.specs.Names.{wellKnown}
 use Rattle.policy.specs.Names.{busName, owns}
 use Rattle.rules.specs.State.{Slot, free, peer, firstBy}
@@ -17,7 +17,7 @@ ownable name = wellKnown name && not (same name busName)
 -- the decimal digits of n before `after`, the first of them not 0; ten are enough for a number of 32 bits (rule 7.2)
 unfoldable pub digits : ℕ → ℕ → List ℕ → List ℕ
 digits zero n after = after
-digits (suc fuel) n after = elim (eqb n 0) [ true ↦ after | false ↦ digits fuel (n / 10) ((48 + n % 10) ∷ after) ]
+digits (suc fuel) n after = elim (eqb n 0) [ true ↦ after | false ↦ digits fuel (n / 10) ((byte "0" + n % 10) ∷ after) ]
 
 -- the unique name of the peer with number n (rule 7.2)
 unfoldable pub uniqueName : ℕ → List ℕ

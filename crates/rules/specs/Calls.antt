@@ -11,7 +11,7 @@ use Rattle.policy.specs.Decisions.{mayConnect, mayOwn}
 use Rattle.stream.specs.Stream.{Verdict, more, broken, whole, verdictAnswer, Streams, Offer, offer, settled}
 use Rattle.rules.specs.State.{Slot, free, peer, Peer, State, isFree, isPeer, firstBy, dropFirst, putSlot, withNames, withStream}
 use Rattle.rules.specs.Addresses.{ownable}
-use Rattle.rules.specs.Pending.{bereft}
+use Rattle.rules.specs.Pending.{removeCallsTo}
 use Rattle.rules.specs.Judge.{refusal, judged}
 use Rattle.rules.specs.declared.Connected.{Connected}
 use Rattle.rules.specs.declared.Taken.{Taken}
@@ -152,7 +152,7 @@ abbrev pub disconnectAt : {S : Type 0} → Streams S → State S → ℕ → Slo
 disconnectAt O s i free = stays s (noGone 30)
 disconnectAt O s i (peer p) =
     record {
-      state = record { last = s .last; slots = map (bereft (p .number)) (set (s .slots) i free) };
+      state = record { last = s .last; slots = map (removeCallsTo (p .number)) (set (s .slots) i free) };
       result = record { answer = 0; bytes = O .count (p .stream) };
     }
 

@@ -28,6 +28,6 @@ endedAll callee [] = []
 endedAll callee (w ∷ ws) = cond (eqb (w .callee) callee) (endedAll callee ws) (w ∷ endedAll callee ws)
 
 -- a slot after the callee has gone (rule 8.7)
-abbrev pub bereft : {S : Type 0} → ℕ → Slot S → Slot S
-bereft callee free = free
-bereft callee (peer p) = peer (withPending p (endedAll callee (p .pending)))
+abbrev pub removeCallsTo : {S : Type 0} → ℕ → Slot S → Slot S
+removeCallsTo callee free = free
+removeCallsTo callee (peer p) = peer (withPending p (endedAll callee (p .pending)))

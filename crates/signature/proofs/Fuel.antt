@@ -75,7 +75,8 @@ mutual
   row-shorter : (f a p : ℕ) (s : List ℕ) → NoLonger s (row f a p s)
   row-shorter zero a p s = tt
   row-shorter (suc f) a p [] = omega arith
-  row-shorter (suc f) a p (b ∷ s) = row-step f (λ a p s. one-shorter f a p s) (λ a p s. row-shorter f a p s) a p b s (oneOf false ")}" b) refl (one f a p (b ∷ s)) refl
+  row-shorter (suc f) a p (b ∷ s) =
+      row-step f (λ a p s. one-shorter f a p s) (λ a p s. row-shorter f a p s) a p b s (oneOf false ")}" b) refl (one f a p (b ∷ s)) refl
 
 -- ---- two amounts of fuel that are enough
 
@@ -111,11 +112,13 @@ mutual
   one-enough (suc f) zero a p [] h k = refl
   one-enough (suc f) zero a p (b ∷ s) h k = absurd (omega arith)
   one-enough (suc f) (suc g) a p [] h k = refl
-  one-enough (suc f) (suc g) a p (b ∷ s) h k = one-same f g (λ a p s h k. one-enough f g a p s h k) (λ a p s h k. row-enough f g a p s h k) a p b s (headOf a p (b ∷ s)) refl h k
+  one-enough (suc f) (suc g) a p (b ∷ s) h k =
+      one-same f g (λ a p s h k. one-enough f g a p s h k) (λ a p s h k. row-enough f g a p s h k) a p b s (headOf a p (b ∷ s)) refl h k
 
   pub row-enough : (f g a p : ℕ) (s : List ℕ) → 2 * length s + 1 ≤ f → 2 * length s + 1 ≤ g → row f a p s ≡ row g a p s
   row-enough zero g a p s h k = absurd (omega arith)
   row-enough (suc f) zero a p s h k = absurd (omega arith)
   row-enough (suc f) (suc g) a p [] h k = refl
   row-enough (suc f) (suc g) a p (b ∷ s) h k =
-      row-same f g (λ a p s h k. one-enough f g a p s h k) (λ a p s h k. row-enough f g a p s h k) a p b s (oneOf false ")}" b) refl (one g a p (b ∷ s)) refl h k
+      row-same f g (λ a p s h k. one-enough f g a p s h k) (λ a p s h k. row-enough f g a p s h k) a p b s (oneOf false ")}" b) refl (one g a p (b ∷ s))
+      refl h k

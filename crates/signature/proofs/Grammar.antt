@@ -164,13 +164,13 @@ going-begin {s} {at} {arrays} {parens} = record { low = omega arith; few = omega
     same run.Bad w = w
 
 -- the byte at i is a letter that is a type
-letter-head : {s : List ℕ} {i arrays parens : ℕ} → i < length s → basic (getD s i 0) || eqb (getD s i 0) 118 ≡ true → HeadAt s i arrays parens head.Plain
+letter-head : {s : List ℕ} {i arrays parens : ℕ} → i < length s → basic (getD s i 0) || eqb (getD s i 0) (byte "v") ≡ true → HeadAt s i arrays parens head.Plain
 unfolding headOf
 letter-head {s} {i} h t = record { is = rw (next s i h, t); fits = h }
 
 -- such a letter closes nothing
-letter-open : (b : ℕ) → basic b || eqb b 118 ≡ true → eqb b (byte ")") || eqb b (byte "}") ≡ false
-letter-open b t = rw (ne-eqb b 41 (λ e. false≢true (rw e at t)), ne-eqb b 125 (λ e. false≢true (rw e at t)))
+letter-open : (b : ℕ) → basic b || eqb b (byte "v") ≡ true → eqb b (byte ")") || eqb b (byte "}") ≡ false
+letter-open b t = rw (ne-eqb b (byte ")") (λ e. false≢true (rw e at t)), ne-eqb b (byte "}") (λ e. false≢true (rw e at t)))
 
 module _ {s : List ℕ} {at arrays parens i n : ℕ} (g : Going s at arrays parens i n) where
   pub going-end : length s ≤ i → RowAt s at arrays parens (run.Types n i)
@@ -193,9 +193,9 @@ module _ {s : List ℕ} {at arrays parens i n : ℕ} (g : Going s at arrays pare
               rw q at (g .rest (run.Types (m + 1) end) (more h t o e w refl))
           one-more run.Bad w = g .rest run.Bad (more-bad h t o e w refl)
 
-    pub going-letter : {k : Bool} → k ≡ basic (getD s i 0) → k || eqb (getD s i 0) 118 ≡ true → Going s at arrays parens (i + 1) (n + 1)
+    pub going-letter : {k : Bool} → k ≡ basic (getD s i 0) → k || eqb (getD s i 0) (byte "v") ≡ true → Going s at arrays parens (i + 1) (n + 1)
     going-letter e p =
-        let t : basic (getD s i 0) || eqb (getD s i 0) 118 ≡ true = rw e at p in
+        let t : basic (getD s i 0) || eqb (getD s i 0) (byte "v") ≡ true = rw e at p in
         going-on (letter-open (getD s i 0) t) (plain (letter-head h t) refl) refl
 
 -- what answers each need of `list` and `one` that is not of numbers alone

@@ -37,7 +37,10 @@ names-next m i j h b = name-next m (slotStart i) j h ∙ rw (cell-name m (slotSt
 -- a pending call, as the code reads it
 pub calls-next : (m : List ℕ) (i j : ℕ) → j < length (peerAt m i .pending)
     → drop j (peerAt m i .pending)
-    ≡ record { callee = wordAt Little m (slotStart i + (firstCallee + callWidth * j)); serial = wordAt Little m (slotStart i + (firstSerial + callWidth * j)) } ∷ drop (j + 1) (peerAt m i .pending)
+    ≡ record {
+      callee = wordAt Little m (slotStart i + (firstCallee + callWidth * j));
+      serial = wordAt Little m (slotStart i + (firstSerial + callWidth * j));
+    } ∷ drop (j + 1) (peerAt m i .pending)
 calls-next m i j h =
     let k : slotStart i + firstCallee + callWidth * j ≡ slotStart i + (firstCallee + callWidth * j) = omega arith in
     let o : slotStart i + firstSerial + callWidth * j ≡ slotStart i + (firstSerial + callWidth * j) = omega arith in

@@ -32,21 +32,22 @@ pub looking-begins : {m : List ℕ} {i from : ℕ} {name : List ℕ} {count : �
 looking-begins e h = record { few = h; counted = e; left = refl }
 
 module _ {m : List ℕ} {i from : ℕ} {name : List ℕ} {count j : ℕ} (l : Looking m i name from count j) where
-  module _ (h : j < count) (b : getD m (slotStart i + firstName + nameWidth * j) 0 < 256) {r : Bool} (e : r ≡ same (nameAt m i j) name) where
+  module _ (h : j < count) (b : getD m (slotStart i + firstName + nameWidth * j) 0 < 256) {x : List ℕ} (is : x ≡ nameAt m i j) {r : Bool}
+      (e : r ≡ same x name) where
     -- name j, and those after it
     here : drop j (peerAt m i .names) ≡ nameAt m i j ∷ drop (j + 1) (peerAt m i .names)
     here = names-next m i j (omega (arith, l .counted)) b
 
     pub looking-hit : r ≡ true → j ≡ namePlace m i name from
     unfolding firstBy
-    looking-hit q = sym (l .left ∙ rw (here, ← e, q, add-zero))
+    looking-hit q = sym (l .left ∙ rw (here, ← is, ← e, q, add-zero))
 
     pub looking-miss : r ≡ false → Looking m i name from count (j + 1)
     unfolding firstBy
     looking-miss q =
         let t : List ℕ → Bool = λ x. same x name in
         let k : j + suc (firstBy t (drop (j + 1) (peerAt m i .names))) ≡ namePlace m i name (j + 1) = omega arith in
-        record { few = l .few; counted = l .counted; left = l .left ∙ rw (here, ← e, q, k) }
+        record { few = l .few; counted = l .counted; left = l .left ∙ rw (here, ← is, ← e, q, k) }
 
   pub looking-ends : count ≤ j → j ≡ namePlace m i name from
   unfolding firstBy
@@ -64,9 +65,8 @@ owns-found m i from name count j e q =
 pub ruleset owned = (owns-found, needs)
 
 -- name j as the code cuts it: its length is the byte at `at`
-pub name-is : (m name : List ℕ) (at b : ℕ) (r : Bool) → b ≡ getD m at 0 → r ≡ same (take (at + 1 + b - (at + 1)) (drop (at + 1) m)) name
-    → r ≡ same (take (getD m at 0) (drop (at + 1) m)) name
-name-is m name at b r e q = q ∙ rw (cut-at (at + 1) b m, e)
+pub name-is : (m : List ℕ) (at b : ℕ) → b ≡ getD m at 0 → take (at + 1 + b - (at + 1)) (drop (at + 1) m) ≡ take (getD m at 0) (drop (at + 1) m)
+name-is m at b e = cut-at (at + 1) b m ∙ rw e
 
 pub ruleset naming = (name-is, name-byte, needs)
 

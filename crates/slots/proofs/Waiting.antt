@@ -54,6 +54,10 @@ module _ {m : List ℕ} {i callee serial from count j : ℕ} (s : Seeking m i ca
 
   pub seeking-ends : count ≤ j → CallAt m i callee serial from j
   unfolding firstBy
-  seeking-ends h = record { inside = omega (arith, s .long, s .inside); is = sym (s .left ∙ rw (drop-of-length-le (peerAt m i .pending) {i = j} (omega (arith, s .long)), add-zero)) }
+  seeking-ends h =
+      record {
+        inside = omega (arith, s .long, s .inside);
+        is = sym (s .left ∙ rw (drop-of-length-le (peerAt m i .pending) {i = j} (omega (arith, s .long)), add-zero));
+      }
 
 pub ruleset seeking = (seeking-begins, seeking-hit, seeking-miss, seeking-ends, needs)

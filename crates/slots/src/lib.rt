@@ -22,7 +22,6 @@ ghost use Rattle.wire.specs.Words.{wordAt};
 ghost use Rattle.wire.specs.declared.Order.the-variants.{Little};
 ghost use Rattle.rules.specs.State.{isFree, isPeer};
 ghost use Rattle.rules.specs.Calls.{slotAt, isOwner};
-ghost use Rattle.wire.specs.Bytes.{same};
 ghost use Rattle.policy.specs.Names.{owns};
 ghost use Rattle.memory.specs.Layout.{memoryLength, slotLength, slotStart, callRoom, firstName, nameWidth, nameRoom};
 ghost use Rattle.memory.specs.Encoding.{stateOf};
@@ -123,15 +122,15 @@ pub fn count_pending(memory: &[u8], i: usize) -> usize
     wire::least(word_at(memory, i, PENDING_AT) as usize, CALL_ROOM)
 }
 
-// Name j of slot i is this one.
-fn is_name(memory: &[u8], i: usize, j: usize, name: &[u8]) -> bool
+// Name j of slot i.
+pub fn name_at(memory: &[u8], i: usize, j: usize) -> &[u8]
     requires { ⌜ (length (now memory) ≡ memoryLength) × (i < 16) × (j < nameRoom) ⌝ }
-    ensures { λ r. ⌜ (r ≡ same (nameAt (now (memory .entry)) i j) (now (name .entry))) × (getD (now (memory .entry)) (slotStart i + firstName + nameWidth * j) 0 < 256) ⌝ }
+    ensures { λ r. ⌜ (now r ≡ nameAt (now (memory .entry)) i j) × (getD (now (memory .entry)) (slotStart i + firstName + nameWidth * j) 0 < 256) ⌝ }
 {
     let at = SLOTS_AT + SLOT_LENGTH * i + FIRST_NAME + NAME_WIDTH * j;
     let from = at + 1;
     let to = from + wire::wide(memory[at]) as usize;
-    wire::equal(&memory[from..to], name)
+    &memory[from..to]
 }
 
 // The first of the names of slot i from `from` on that is this one, or how many there are.
@@ -142,7 +141,7 @@ pub fn find_name(memory: &[u8], i: usize, name: &[u8], from: usize) -> usize
     let count = count_names(memory, i);
     let mut j = from;
     while j < count {
-        if is_name(memory, i, j, name) {
+        if wire::equal(name_at(memory, i, j), name) {
             return j;
         }
         j += 1;

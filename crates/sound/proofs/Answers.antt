@@ -7,6 +7,7 @@ use Prim.Native.Nat.{ℕ, _≤_, _<_}
 use native.Mathlib.Omega.{arith}
 use lib.Dec.{ltb, leb}
 use lib.ListN.{length}
+use Rattle.wire.proofs.Texts.{impossible}
 use Rattle.policy.specs.Names.{owns}
 use Rattle.policy.specs.Decisions.{mayConnect, mayOwn}
 use Rattle.stream.specs.Stream.{Verdict, more, broken, whole, Streams, Offer, offer, settled}
@@ -115,7 +116,7 @@ module _ {S : Type 0} (s : State S) where
 module _ {S : Type 0} (O : Streams S) (faults : (t : S) (a : ℕ) → O .judge t ≡ broken a → (1 ≤ a) × (a ≤ 9)) where
   pub offer-faults : (t : S) (p : List ℕ) (a : ℕ) → offer O t p .verdict ≡ broken a → (1 ≤ a) × (a ≤ 9)
   unfolding offer
-  offer-faults t [] a e = let z : _≡_ {A = ℕ} 0 1 = cc in absurd (omega arith)
+  offer-faults t [] a e = impossible cc
   offer-faults t (b ∷ p) a e =
       go (O .judge (O .push t b)) refl (ap (λ (o : Offer S). o .verdict) (sym (offer-step O t b p)) ∙ e) (offer-faults (O .push t b) p a)
     where
@@ -123,7 +124,7 @@ module _ {S : Type 0} (O : Streams S) (faults : (t : S) (a : ℕ) → O .judge t
           → (offer O (O .push t b) p .verdict ≡ broken a → (1 ≤ a) × (a ≤ 9)) → (1 ≤ a) × (a ≤ 9)
       go more q c ih = ih c
       go (broken n) q c ih = faults (O .push t b) a (q ∙ c)
-      go (whole k y) q c ih = let z : _≡_ {A = ℕ} 0 1 = cc in absurd (omega arith)
+      go (whole k y) q c ih = impossible cc
 
   module _ (s : State S) where
     abbrev Takes : Step S Taken → Type 0

@@ -16,7 +16,7 @@ use Rattle.stream.proofs.Good.{fresh-good}
 use Rattle.stream.specs.Tail.{Tail, closed, tails}
 use Rattle.rules.specs.State.{Peer, Slot, free, peer, State, isFree, isPeer, firstBy, putSlot, withNames, withStream}
 use Rattle.rules.specs.Addresses.{ownable}
-use Rattle.rules.specs.Pending.{awaits, bereft}
+use Rattle.rules.specs.Pending.{awaits, removeCallsTo}
 use Rattle.rules.specs.Calls.{Step, stays, empty, noConnect, newcomer, seated, connectAt, connect, isOwner, ownNew, ownAt, slotAt, own, released}
 use Rattle.rules.specs.Calls.{releaseAt, release, noPiece, offered, offeredTo, pieceAt, piece, disconnectAt, disconnect}
 use Rattle.memory.specs.Good.{goodSlots}
@@ -132,7 +132,7 @@ disconnect-at : (s : State Tail) → Sound s → (i : ℕ) (x : Slot Tail) → g
 disconnect-at s g i free e = g
 disconnect-at s g i (peer p) e =
     kept-sound (disconnectAt tails s i (peer p) .state)
-    (length-map (set (s .slots) i free) (bereft (p .number)) ∙ length-set (s .slots) i free ∙ g .sixteen) (g .fits)
+    (length-map (set (s .slots) i free) (removeCallsTo (p .number)) ∙ length-set (s .slots) i free ∙ g .sixteen) (g .fits)
     (gone-kept (s .last) (s .slots) i (p .number) (taken-below (s .slots) i p e) (sound-kept g) (rw e (eq-eqb (p .number) (p .number) refl)))
 
 pub disconnect-sound : (s : State Tail) → Sound s → (n : ℕ) → Sound (disconnect tails s n .state)

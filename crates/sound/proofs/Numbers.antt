@@ -8,7 +8,7 @@ use native.Mathlib.Omega.{arith}
 use lib.Dec.{eqb, ltb, leb}
 use lib.ListN.{length, take, getD}
 use borrow.Author.Tests.{eqb-true, leb-true}
-use Rattle.wire.proofs.Texts.{both-first, both-second, either}
+use Rattle.wire.proofs.Texts.{impossible, both-first, both-second, either}
 use Rattle.header.specs.declared.Header.{Header}
 use Rattle.header.specs.declared.Reading.{Reading}
 use Rattle.header.specs.declared.Reading.the-variants.{Short, Broken, Whole}
@@ -117,11 +117,11 @@ pub broken-read : (n : ℕ) (h : List ℕ) (a : ℕ) → finished n h (readHeade
 broken-read n h a e = go (readHeader h) e
   where
     last : (x : Header) (b : Bool) → cond b more (whole (take (x .head) h) x) ≡ broken a → Whole x ≡ Broken a
-    last x true q = let z : _≡_ {A = ℕ} 0 1 = cc in absurd (omega arith)
-    last x false q = let z : _≡_ {A = ℕ} 0 1 = cc in absurd (omega arith)
+    last x true q = impossible cc
+    last x false q = impossible cc
 
     go : (r : Reading) → finished n h r ≡ broken a → r ≡ Broken a
-    go Short q = let z : _≡_ {A = ℕ} 0 1 = cc in absurd (omega arith)
+    go Short q = impossible cc
     go (Broken c) q = let z : c ≡ a = cc in ap Broken z
     go (Whole x) q = last x (ltb n (x .head + x .body)) q
 

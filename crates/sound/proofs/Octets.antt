@@ -3,11 +3,10 @@ use mathlib.Core.Path.{_≡_, refl, sym, ap, _∙_}
 use mathlib.Core.Bool.{Bool, true, false, cond}
 use mathlib.Core.List.{List, [], _∷_, _++_}
 use Prim.Native.Nat.{ℕ, _+_}
-use native.Mathlib.Omega.{arith}
 use lib.Dec.{ltb}
 use lib.ListN.{length, take}
 use Rattle.wire.specs.Lists.{every}
-use Rattle.wire.proofs.Texts.{both-first, both-second}
+use Rattle.wire.proofs.Texts.{impossible, both-first, both-second}
 use Rattle.header.specs.Header.{readHeader}
 use Rattle.header.specs.declared.Header.{Header}
 use Rattle.header.specs.declared.Reading.{Reading}
@@ -53,7 +52,7 @@ offer-octets t p e h = go (offer tails t p .verdict) (taken-octets t p e h)
 pub offer-judge : {S : Type 0} (O : Streams S) (s : S) (p h : List ℕ) (x : Header) → offer O s p .verdict ≡ whole h x
     → O .judge (offer O s p .stream) ≡ whole h x
 unfolding offer
-offer-judge O s [] h x e = let z : _≡_ {A = ℕ} 0 1 = cc in absurd (omega arith)
+offer-judge O s [] h x e = impossible cc
 offer-judge {S} O s (b ∷ p) h x e =
     rw (offer-step O s b p) (go (O .judge (O .push s b)) refl (ap (λ (o : Offer S). o .verdict) (sym (offer-step O s b p)) ∙ e)
     (offer-judge O (O .push s b) p h x))
@@ -62,19 +61,19 @@ offer-judge {S} O s (b ∷ p) h x e =
         → (offer O (O .push s b) p .verdict ≡ whole h x → O .judge (offer O (O .push s b) p .stream) ≡ whole h x)
         → O .judge (follows v (O .push s b) (offer O (O .push s b) p) .stream) ≡ whole h x
     go more q a ih = ih a
-    go (broken n) q a ih = let z : _≡_ {A = ℕ} 0 1 = cc in absurd (omega arith)
+    go (broken n) q a ih = impossible cc
     go (whole k y) q a ih = q ∙ a
 
 judge-read : (t : Tail) (h : List ℕ) (x : Header) → judge t ≡ whole h x → readHeader (t .head) ≡ Whole x
 judge-read t h x e = go (readHeader (t .head)) e
   where
     last : (b : Bool) (y : Header) → cond b more (whole (take (y .head) (t .head)) y) ≡ whole h x → Whole y ≡ Whole x
-    last true y a = let z : _≡_ {A = ℕ} 0 1 = cc in absurd (omega arith)
+    last true y a = impossible cc
     last false y a = cc
 
     go : (r : Reading) → finished (t .taken) (t .head) r ≡ whole h x → r ≡ Whole x
-    go Short a = let z : _≡_ {A = ℕ} 0 1 = cc in absurd (omega arith)
-    go (Broken n) a = let z : _≡_ {A = ℕ} 0 1 = cc in absurd (omega arith)
+    go Short a = impossible cc
+    go (Broken n) a = impossible cc
     go (Whole y) a = last (ltb (t .taken) (y .head + y .body)) y a
 
 pub whole-read : (t : Tail) (p h : List ℕ) (x : Header) → offer tails t p .verdict ≡ whole h x → readHeader (offer tails t p .stream .head) ≡ Whole x

@@ -13,7 +13,7 @@ use Rattle.wire.specs.Lists.{any}
 use Rattle.policy.specs.Names.{owns}
 use Rattle.stream.specs.Tail.{Tail}
 use Rattle.rules.specs.State.{Peer, Slot, free, peer, State, isFree, isPeer, putSlot}
-use Rattle.rules.specs.Pending.{sameCall, awaits, endedAll, bereft}
+use Rattle.rules.specs.Pending.{sameCall, awaits, endedAll, removeCallsTo}
 use Rattle.rules.specs.Calls.{isOwner}
 use Rattle.memory.specs.Good.{nobody}
 use Rattle.memory.specs.Sound.{Sound}
@@ -161,9 +161,9 @@ new-kept last l i q h f k w =
 
 -- ---- a peer gone
 
-bereft-fine : (last n : ℕ) (x : Slot Tail) → Alone last x → Alone last (bereft n x)
-bereft-fine last n free a = tt
-bereft-fine last n (peer p) a =
+calls-removed-fine : (last n : ℕ) (x : Slot Tail) → Alone last x → Alone last (removeCallsTo n x)
+calls-removed-fine last n free a = tt
+calls-removed-fine last n (peer p) a =
     let f = ended-all-fewer n (p .pending) in
     record {
       low = a .low;
@@ -180,18 +180,18 @@ bereft-fine last n (peer p) a =
       bytes = a .bytes;
     }
 
-bereft-peer : (m n : ℕ) (x : Slot Tail) → isPeer m (bereft n x) ≡ isPeer m x
-bereft-peer m n free = refl
-bereft-peer m n (peer p) = refl
+calls-removed-peer : (m n : ℕ) (x : Slot Tail) → isPeer m (removeCallsTo n x) ≡ isPeer m x
+calls-removed-peer m n free = refl
+calls-removed-peer m n (peer p) = refl
 
-bereft-owner : (y : List ℕ) (n : ℕ) (x : Slot Tail) → isOwner y (bereft n x) ≡ isOwner y x
-bereft-owner y n free = refl
-bereft-owner y n (peer p) = refl
+calls-removed-owner : (y : List ℕ) (n : ℕ) (x : Slot Tail) → isOwner y (removeCallsTo n x) ≡ isOwner y x
+calls-removed-owner y n free = refl
+calls-removed-owner y n (peer p) = refl
 
 -- whoever waits still, waited, and for another
-bereft-waiting : (c s n : ℕ) (x : Slot Tail) → isWaiting c s (bereft n x) ≡ true → (isWaiting c s x ≡ true) × (c ≡ n → ⊥)
-bereft-waiting c s n free h = absurd (false≢true h)
-bereft-waiting c s n (peer p) h = (
+calls-removed-waiting : (c s n : ℕ) (x : Slot Tail) → isWaiting c s (removeCallsTo n x) ≡ true → (isWaiting c s x ≡ true) × (c ≡ n → ⊥)
+calls-removed-waiting c s n free h = absurd (false≢true h)
+calls-removed-waiting c s n (peer p) h = (
   awaits-fewer (ended-all-fewer n (p .pending)) c s h,
   λ e. clash h (subst (λ (m : ℕ). awaits c s (endedAll m (p .pending)) ≡ false) e (ended-all-ends c s (p .pending))),
 )
@@ -204,10 +204,10 @@ module _ (last : ℕ) (l : List (Slot Tail)) (i n : ℕ) (h : i < length l) (k :
   abbrev left : List (Slot Tail)
   left = set l i free
 
-  left-at : (j : ℕ) → getD (map (bereft n) left) j free ≡ bereft n (getD left j free)
-  left-at j = List·getD-map (bereft n) left j free
+  left-at : (j : ℕ) → getD (map (removeCallsTo n) left) j free ≡ removeCallsTo n (getD left j free)
+  left-at j = List·getD-map (removeCallsTo n) left j free
 
-  left-single : (t : Slot Tail → Bool) → t free ≡ false → ((x : Slot Tail) → t (bereft n x) ≡ t x) → Single t l → Single t (map (bereft n) left)
+  left-single : (t : Slot Tail → Bool) → t free ≡ false → ((x : Slot Tail) → t (removeCallsTo n x) ≡ t x) → Single t l → Single t (map (removeCallsTo n) left)
   left-single t f b s a c p q =
       single-set t l i free h s (λ j z w. absurd (clash z f)) a c (sym (b (getD left a free)) ∙ (rw (left-at a) at p))
       (sym (b (getD left c free)) ∙ (rw (left-at c) at q))
@@ -217,21 +217,21 @@ module _ (last : ℕ) (l : List (Slot Tail)) (i n : ℕ) (h : i < length l) (k :
   other c s j (inr u) = k .callees j c s (u .1)
 
   -- its callee is another than the one gone, and so stands where it stood
-  there : (c : ℕ) → (c ≡ n → ⊥) → (m : ℕ) × (isPeer c (getD l m free) ≡ true) → (m : ℕ) × (isPeer c (getD (map (bereft n) left) m free) ≡ true)
+  there : (c : ℕ) → (c ≡ n → ⊥) → (m : ℕ) × (isPeer c (getD l m free) ≡ true) → (m : ℕ) × (isPeer c (getD (map (removeCallsTo n) left) m free) ≡ true)
   there c d r = (
     r .0,
-    rw (left-at (r .0), bereft-peer c n (getD left (r .0) free))
+    rw (left-at (r .0), calls-removed-peer c n (getD left (r .0) free))
         (put-cases (λ y. isPeer c y ≡ true) l i free h (r .0)
         (λ z. absurd (d (one-number n c (getD l i free) e (subst (λ (m : ℕ). isPeer c (getD l m free) ≡ true) z (r .1))))) (λ z. r .1)),
   )
 
-  pub gone-kept : Kept last (map (bereft n) left)
+  pub gone-kept : Kept last (map (removeCallsTo n) left)
   gone-kept =
       record {
-        each = λ j. rw (left-at j) (bereft-fine last n (getD left j free) (put-cases (Alone last) l i free h j (λ z. tt) (λ z. k .each j)));
-        numbers = λ m. left-single (isPeer m) refl (bereft-peer m n) (k .numbers m);
-        names = λ y. left-single (isOwner y) refl (bereft-owner y n) (k .names y);
+        each = λ j. rw (left-at j) (calls-removed-fine last n (getD left j free) (put-cases (Alone last) l i free h j (λ z. tt) (λ z. k .each j)));
+        numbers = λ m. left-single (isPeer m) refl (calls-removed-peer m n) (k .numbers m);
+        names = λ y. left-single (isOwner y) refl (calls-removed-owner y n) (k .names y);
         callees =
-            λ j c s a. let w = bereft-waiting c s n (getD left j free) (rw (left-at j) at a) in there c (w .1)
+            λ j c s a. let w = calls-removed-waiting c s n (getD left j free) (rw (left-at j) at a) in there c (w .1)
             (other c s j (put-passes (isWaiting c s) l i free h j (w .0)));
       }

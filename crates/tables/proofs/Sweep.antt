@@ -36,7 +36,8 @@ module _ (f : List ℕ → List ℕ) (w n : ℕ) where
       let d : n - i ≡ suc (n - (i + 1)) = omega arith in
       let s : w * (i + 1) ≡ w * i + w = omega arith in
       let k : length (take (w * i) m ++ y) ≡ w * i + w = length-append (take (w * i) m) y ∙ omega (arith, length-take-le (w * i) m (omega arith)) in
-      let a : take (w * i) m ++ (y ++ drop (w * i + w) m) ≡ (take (w * i) m ++ y) ++ drop (w * i + w) m = sym (append-assoc (take (w * i) m) y (drop (w * i + w) m)) in
+      let a : take (w * i) m ++ (y ++ drop (w * i + w) m) ≡ (take (w * i) m ++ y) ++ drop (w * i + w) m =
+      sym (append-assoc (take (w * i) m) y (drop (w * i + w) m)) in
       let u : swept f w n i m ≡ (take (w * i) m ++ y) ++ sweep f w (n - (i + 1)) (drop (w * i + w) m)
       = rw (d, ← e, drop-drop w (w * i) m) (sym (append-assoc (take (w * i) m) y (sweep f w (n - (i + 1)) (drop (w * i + w) m)))) in
       q ∙ u ∙ rw (s, a, take-at (take (w * i) m ++ y) (drop (w * i + w) m) (w * i + w) k, drop-at (take (w * i) m ++ y) (drop (w * i + w) m) (w * i + w) k)

@@ -42,7 +42,8 @@ pub fn remove(table: &mut [u8], at: usize, w: usize, end: usize, left: u32)
 // Writes the words one after the other from `at` on.
 pub fn put_words(s: &mut [u8], at: usize, words: &[u32])
     requires { ⌜ at + 4 * length (now words) ≤ length (now s) ⌝ }
-    ensures { λ r. ⌜ now (s .exit) ≡ take at (now (s .entry)) ++ (cells wordBytes (now (words .entry)) ++ drop (at + 4 * length (now (words .entry))) (now (s .entry))) ⌝ }
+    ensures { λ r.
+        ⌜ now (s .exit) ≡ take at (now (s .entry)) ++ (cells wordBytes (now (words .entry)) ++ drop (at + 4 * length (now (words .entry))) (now (s .entry))) ⌝ }
 {
     let mut k = 0;
     while k < words.len() {

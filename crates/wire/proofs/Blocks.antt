@@ -103,7 +103,14 @@ module _ {s : List ℕ} {at n i : ℕ} {clear : Bool} (z : Seen s at n i clear) 
         high = omega arith;
         inside = z .inside;
         so-far =
-            rw (z .so-far, take-add i 1 (drop at s), zero-append (take i (drop at s)) (take 1 (drop i (drop at s))), drop-drop i at s, next s (at + i) (omega arith), and-true);
+            rw (
+              z .so-far,
+              take-add i 1 (drop at s),
+              zero-append (take i (drop at s)) (take 1 (drop i (drop at s))),
+              drop-drop i at s,
+              next s (at + i) (omega arith),
+              and-true,
+            );
       }
 
   pub seen-end : n ≤ i → clear ≡ allZero (take n (drop at s))

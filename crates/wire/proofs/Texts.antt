@@ -10,6 +10,12 @@ use lib.ListN.{length, replicate, length-append, length-take, length-replicate}
 use borrow.Author.Tests.{eq-eqb, eqb-true}
 use Rattle.wire.specs.Bytes.{allZero, same, pad}
 
+-- ---- what cannot be
+
+-- two different cases are equal: `cc` finds them among what is known, and anything follows
+pub impossible : {A : Type 0} → _≡_ {A = ℕ} 0 1 → A
+impossible e = absurd (omega arith)
+
 -- ---- tests joined
 
 pub both-first : (a b : Bool) → a && b ≡ true → a ≡ true

@@ -1,11 +1,11 @@
 -- `audit::are_cells_plain` meets its contract.
 use Prim.Native.Nat.{_-_}
-use Rattle.audit.proofs.Shape.{Celling, celling}
+use Rattle.audit.proofs.Shape.{CellsInvariant, cells}
 use Rattle.audit.proofs.are_cells_plain.Statement.{statement}
 use Rattle.audit.proofs.are_cells_plain.Tie as tie
 
 abbrev Inv-loop : tie.InvT-loop
-Inv-loop memory i n j₀ j = Celling memory i n j
+Inv-loop memory i n j₀ j = CellsInvariant memory i n j
 
 abbrev μ-loop : tie.MeasureT-loop
 μ-loop memory i n j₀ j = n - j
@@ -16,22 +16,22 @@ are-cells-plain-spec =
     (tie.spec
     Inv-loop
     μ-loop
-    (λ c κs. search celling)
-    (λ c. search celling)
-    (λ c. search celling)
-    (λ c. search celling)
-    (λ c κs. search celling)
-    (λ c. search celling)
-    (λ c. search celling)
-    (λ c. search celling)
-    (λ c. search celling)
-    (λ c. search celling)
-    (λ c. search celling)
-    (λ c. search celling)
-    (λ c. search celling)
-    (λ c. search celling)
-    (λ c. search celling)
-    (λ c. search celling)
-    (λ c. search celling)
-    (λ c κs. search celling)
-    (λ c. search celling))
+    (λ c κs. search cells)
+    (λ c. search cells)
+    (λ c. search cells)
+    (λ c. search cells)
+    (λ c κs. search cells)
+    (λ c. search cells)
+    (λ c. search cells)
+    (λ c. search cells)
+    (λ c. search cells)
+    (λ c. search cells)
+    (λ c. search cells)
+    (λ c. search cells)
+    (λ c. search cells)
+    (λ c. search cells)
+    (λ c. search cells)
+    (λ c. search cells)
+    (λ c. search cells)
+    (λ c κs. search cells)
+    (λ c. search cells))

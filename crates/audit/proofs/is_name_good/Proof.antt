@@ -7,19 +7,7 @@ pub is-name-good-spec : {M : Type 1} → statement M
 is-name-good-spec =
     tie.close
     (tie.spec
-    (λ c. search name-tests)
-    (λ c. search name-tests)
-    (λ c. search name-tests)
-    (λ c. search name-tests)
-    (λ c. search name-tests)
-    (λ c. search name-tests)
-    (λ c. search name-tests)
     (λ c κs. search name-tests)
-    (λ c. search name-tests)
-    (λ c. search name-tests)
-    (λ c. search name-tests)
-    (λ c. search name-tests)
-    (λ c. search name-tests)
     (λ c κs. search name-tests)
     (λ c. search name-tests)
     (λ c. search name-tests)

@@ -6,4 +6,10 @@ use Rattle.calls.proofs.connect_as.Tie as tie
 pub connect-as-spec : {M : Type 1} → statement M
 connect-as-spec =
     tie.close
-    (tie.spec (λ c. search connecting) (λ c. search connecting) (λ c. search connecting) (λ c κs. search connecting) (λ c. search connecting) (λ c. search connecting))
+    (tie.spec
+    (λ c. search connecting)
+    (λ c. search connecting)
+    (λ c. search connecting)
+    (λ c κs. search connecting)
+    (λ c. search connecting)
+    (λ c. search connecting))

@@ -7,7 +7,8 @@ use Rattle.decide.proofs.may_transact.Statement.{statement}
 use Rattle.decide.proofs.may_transact.Tie as tie
 
 abbrev Inv-loop2 : tie.InvT-loop2
-Inv-loop2 image direction uid gids names head header base end context at name j₀ j = Naming image direction uid gids names head header base end context at name j
+Inv-loop2 image direction uid gids names head header base end context at name j₀ j =
+    Naming image direction uid gids names head header base end context at name j
 
 abbrev μ-loop2 : tie.MeasureT-loop2
 μ-loop2 image direction uid gids names head header base end context at name j₀ j = length names / 256 - j
@@ -49,7 +50,11 @@ may-transact-spec =
     (λ c κs. search deciding)
     (λ c. search deciding)
     (λ c. search deciding)
-    (λ c. decide-named (c .before .before .before .before .before .before .before .before .loop .inv) (c .before .before .before .before .before .before .before .loop-test .taken) (c .before .before .before .before .if1 .taken) (c .before .before .before .rule-fits .ensures) (c .before .before .if2 .taken) (c .before .text .ensures) (c .if3 .left))
+    (λ c.
+    decide-named (c .before .before .before .before .before .before .before .before .loop .inv)
+    (c .before .before .before .before .before .before .before .loop-test .taken)
+    (c .before .before .before .before .if1 .taken) (c .before .before .before .rule-fits .ensures) (c .before .before .if2 .taken)
+    (c .before .text .ensures) (c .if3 .left))
     (λ c. search deciding)
     (λ c. search deciding)
     (λ c κs. search deciding)

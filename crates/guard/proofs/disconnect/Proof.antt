@@ -8,4 +8,11 @@ pub disconnect-spec : {M : Type 1} → statement M
 unfolding disconnectOn
 disconnect-spec =
     tie.close
-    (tie.spec (λ c κs. search calls) (λ c κs. search calls) (λ c. search calls) (λ c. search calls) (λ c κs. search calls) (λ c. search calls) (λ c. search calls))
+    (tie.spec
+    (λ c κs. search calls)
+    (λ c κs. search calls)
+    (λ c. search calls)
+    (λ c. search calls)
+    (λ c κs. search calls)
+    (λ c. search calls)
+    (λ c. search calls))

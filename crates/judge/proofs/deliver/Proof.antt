@@ -6,4 +6,10 @@ use Rattle.judge.proofs.deliver.Tie as tie
 pub deliver-spec : {M : Type 1} → statement M
 deliver-spec =
     tie.close
-    (tie.spec (λ c κs. search delivering) (λ c κs. search delivering) (λ c. search delivering) (λ c. search delivering) (λ c. search delivering) (λ c. search delivering))
+    (tie.spec
+    (λ c κs. search delivering)
+    (λ c κs. search delivering)
+    (λ c. search delivering)
+    (λ c. search delivering)
+    (λ c. search delivering)
+    (λ c. search delivering))

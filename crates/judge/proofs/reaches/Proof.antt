@@ -5,4 +5,11 @@ use Rattle.judge.proofs.reaches.Tie as tie
 
 pub reaches-spec : {M : Type 1} → statement M
 reaches-spec =
-    tie.close (tie.spec (λ c κs. search reaching) (λ c. search reaching) (λ c κs. search reaching) (λ c. search reaching) (λ c κs. search reaching) (λ c. search reaching))
+    tie.close
+    (tie.spec
+    (λ c κs. search reaching)
+    (λ c. search reaching)
+    (λ c κs. search reaching)
+    (λ c. search reaching)
+    (λ c κs. search reaching)
+    (λ c. search reaching))

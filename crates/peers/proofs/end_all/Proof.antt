@@ -1,11 +1,11 @@
 -- `peers::end_all` meets its contract.
 use Prim.Native.Nat.{_-_}
-use Rattle.peers.proofs.Calls.{Bereaving, bereaving}
+use Rattle.peers.proofs.Calls.{RemovalInvariant, removal}
 use Rattle.peers.proofs.end_all.Statement.{statement}
 use Rattle.peers.proofs.end_all.Tie as tie
 
 abbrev Inv-loop : tie.InvT-loop
-Inv-loop memory₀ callee i₀ memory i = Bereaving memory₀ memory callee i
+Inv-loop memory₀ callee i₀ memory i = RemovalInvariant memory₀ memory callee i
 
 abbrev μ-loop : tie.MeasureT-loop
 μ-loop memory₀ callee i₀ memory i = 16 - i
@@ -16,10 +16,10 @@ end-all-spec =
     (tie.spec
     Inv-loop
     μ-loop
-    (λ c. search bereaving)
-    (λ c κs. search bereaving)
-    (λ c. search bereaving)
-    (λ c. search bereaving)
-    (λ c. search bereaving)
-    (λ c. search bereaving)
-    (λ c. search bereaving))
+    (λ c. search removal)
+    (λ c κs. search removal)
+    (λ c. search removal)
+    (λ c. search removal)
+    (λ c. search removal)
+    (λ c. search removal)
+    (λ c. search removal))

@@ -32,7 +32,13 @@ end-calls-spec =
     (λ c κs. search ending)
     (λ c. search ending)
     (λ c. search ending)
-    (λ c. search (ending-out (c .before .before .before .before .before .before .before .before .loop .inv), c .before .before .before .before .before .u32-at2 .ensures, c .before .before .before .before .if1 .taken, c .before .before .remove .ensures, needs))
+    (λ c. search (
+      ending-out (c .before .before .before .before .before .before .before .before .loop .inv),
+      c .before .before .before .before .before .u32-at2 .ensures,
+      c .before .before .before .before .if1 .taken,
+      c .before .before .remove .ensures,
+      needs,
+    ))
     (λ c. search ending)
     (λ c. search ending)
     (λ c. search ending)

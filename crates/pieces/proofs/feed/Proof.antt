@@ -21,4 +21,11 @@ feed-spec =
     (λ c. search feeding)
     (λ c κs. search feeding)
     (λ c. search feeding)
-    (λ c. fed _ (c .before .before .before .before .before .before .before .before .before .before .before .before .before .before .before .before .before .before .before .before .before .pre) _ (c .before .before .before .before .before .before .before .before .before .before .before .before .before .before .before .before .before .u32-at .ensures .0) (c .before .before .before .before .before .before .before .before .before .before .before .before .before .before .before .u32-at2 .ensures .0) _ _ _ _ _ _ (c .before .before .before .before .before .before .before .before .before .before .before .before .before .advance .ensures) refl (c .before .before .before .before .before .before .before .put-u32 .ensures) (c .before .before .put-u322 .ensures)))
+    (λ c. fed _
+    (c .before .before .before .before .before .before .before .before .before .before .before .before .before .before .before .before .before .before
+    .before .before .before .pre) _
+    (c .before .before .before .before .before .before .before .before .before .before .before .before .before .before .before .before .before .u32-at
+    .ensures .0)
+    (c .before .before .before .before .before .before .before .before .before .before .before .before .before .before .before .u32-at2 .ensures .0) _ _ _ _
+    _ _ (c .before .before .before .before .before .before .before .before .before .before .before .before .before .advance .ensures) refl
+    (c .before .before .before .before .before .before .before .put-u32 .ensures) (c .before .before .put-u322 .ensures)))

@@ -19,6 +19,7 @@ find-name-spec =
     (λ c κs. search looking)
     (λ c. search looking)
     (λ c κs. search looking)
+    (λ c κs. search looking)
     (λ c. search looking)
     (λ c. search looking)
     (λ c. search looking)

@@ -8,7 +8,7 @@ use Rattle.wire.specs.declared.Order.the-variants.{Little}
 use Rattle.tables.specs.Tables.{tableBytes, tableOf}
 use Rattle.stream.specs.Tail.{Tail}
 use Rattle.rules.specs.State.{Slot, peer}
-use Rattle.rules.specs.Pending.{endedAll, bereft}
+use Rattle.rules.specs.Pending.{endedAll, removeCallsTo}
 use Rattle.memory.specs.Layout.{pendingAt, callWidth, callRoom, namesAt}
 use Rattle.memory.specs.Encoding.{pendingBytes, pendingOf, slotBytes, peerOf, slotOf}
 use Rattle.memory.proofs.Reading.{part-free, part-peer}
@@ -16,19 +16,19 @@ use Rattle.memory.proofs.Fields.{put-pending}
 use Rattle.memory.specs.Places.{changed}
 
 -- b is a slot's bytes, and is plain
-pub bereft-free : (c : ℕ) (b : List ℕ) → slotBytes (slotOf b) ≡ b → wordAt Little b 0 ≡ 0 → b ≡ changed (bereft c) b
-bereft-free c b p e =
+pub calls-removed-free : (c : ℕ) (b : List ℕ) → slotBytes (slotOf b) ≡ b → wordAt Little b 0 ≡ 0 → b ≡ changed (removeCallsTo c) b
+calls-removed-free c b p e =
     let q = part-free b e in
-    sym p ∙ ap slotBytes q ∙ sym (ap (λ (x : Slot Tail). slotBytes (bereft c x)) q)
+    sym p ∙ ap slotBytes q ∙ sym (ap (λ (x : Slot Tail). slotBytes (removeCallsTo c x)) q)
 
-pub bereft-peer : (c : ℕ) (b : List ℕ) → slotBytes (slotOf b) ≡ b → (wordAt Little b 0 ≡ 0 → ⊥)
-    → take pendingAt b ++ (tableBytes callWidth callRoom pendingBytes (endedAll c (peerOf b .pending)) ++ drop namesAt b) ≡ changed (bereft c) b
-bereft-peer c b p e =
+pub calls-removed-peer : (c : ℕ) (b : List ℕ) → slotBytes (slotOf b) ≡ b → (wordAt Little b 0 ≡ 0 → ⊥)
+    → take pendingAt b ++ (tableBytes callWidth callRoom pendingBytes (endedAll c (peerOf b .pending)) ++ drop namesAt b) ≡ changed (removeCallsTo c) b
+calls-removed-peer c b p e =
     let x = peerOf b in
     let q = part-peer b e in
     let s : slotBytes (peer x) ≡ b = ap slotBytes (sym q) ∙ p in
     sym
-    (ap (λ (y : Slot Tail). slotBytes (bereft c y)) q
+    (ap (λ (y : Slot Tail). slotBytes (removeCallsTo c y)) q
     ∙ put-pending x (endedAll c (x .pending))
     ∙ ap (λ (z : List ℕ). take pendingAt z ++ (tableBytes callWidth callRoom pendingBytes (endedAll c (x .pending)) ++ drop namesAt z)) s)
 

@@ -1,10 +1,10 @@
--- `slots::is_name` meets its contract.
+-- `slots::name_at` meets its contract.
 use Rattle.slots.proofs.Owned.{naming}
-use Rattle.slots.proofs.is_name.Statement.{statement}
-use Rattle.slots.proofs.is_name.Tie as tie
+use Rattle.slots.proofs.name_at.Statement.{statement}
+use Rattle.slots.proofs.name_at.Tie as tie
 
-pub is-name-spec : {M : Type 1} → statement M
-is-name-spec =
+pub name-at-spec : {M : Type 1} → statement M
+name-at-spec =
     tie.close
     (tie.spec
     (λ c. search naming)
@@ -20,5 +20,4 @@ is-name-spec =
     (λ c. search naming)
     (λ c. search naming)
     (λ c. search naming)
-    (λ c κs. search naming)
     (λ c. search naming))
