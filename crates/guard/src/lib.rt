@@ -57,7 +57,7 @@ pub fn own(image: &[u8], memory: &mut [u8], peer: u32, name: &[u8]) -> u8
     if !audit::is_good(memory) {
         return 51;
     }
-    peers::own(image, memory, peer, name)
+    owners::own(image, memory, peer, name)
 }
 
 // A peer gives a name up (rule 8.5).
@@ -67,7 +67,7 @@ pub fn release(memory: &mut [u8], peer: u32, name: &[u8]) -> u8
     if !audit::is_good(memory) {
         return 51;
     }
-    peers::release(memory, peer, name)
+    owners::release(memory, peer, name)
 }
 
 // A piece of a peer's stream: at most one message of it is taken and judged (rules 8.6 and 9.2).

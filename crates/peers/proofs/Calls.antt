@@ -23,7 +23,7 @@ use Rattle.memory.proofs.Frame.{slot-length, memory-at}
 use Rattle.memory.proofs.CallsRemoved.{calls-removed-free, calls-removed-peer, pending-of}
 use Rattle.memory.proofs.Sweep.{Sweeping, sweeping-begins, sweeping-again, sweeping-ends}
 use Rattle.peers.specs.Steps.{PlainSlot, Encoded, endedAt, endedFor}
-use Rattle.peers.proofs.Found.{Octets, below}
+use Rattle.slots.proofs.Found.{Octets, below}
 
 -- ---- in slot i
 

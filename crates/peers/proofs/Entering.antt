@@ -26,8 +26,8 @@ use Rattle.memory.proofs.Good.{seated}
 use Rattle.rules.specs.declared.Connected.{Connected}
 use Rattle.peers.specs.Writes.{newBytes}
 use Rattle.peers.specs.Steps.{Free, admitted, entered}
-use Rattle.peers.proofs.Zeros.{zero-rest}
-use Rattle.peers.proofs.Found.{Octets, below, did-stay, free-part}
+use Rattle.slots.proofs.Zeros.{zero-rest}
+use Rattle.slots.proofs.Found.{Octets, below, did-stay, free-part}
 
 -- a newcomer's bytes are what was written, and the zeros of the slot
 seat-bytes : (m gids : List ℕ) (a n u : ℕ) → length gids ≤ gidRoom → take slotLength (drop a m) ≡ replicate slotLength 0

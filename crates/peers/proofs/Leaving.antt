@@ -25,7 +25,7 @@ use Rattle.memory.proofs.Slots.{free-back}
 use Rattle.memory.proofs.Good.{framed}
 use Rattle.memory.proofs.Sweep.{put-again, put-length, swept-freed}
 use Rattle.peers.specs.Steps.{Encoded, endedFor, slotsWithout}
-use Rattle.peers.proofs.Found.{Octets, below, did-stay, peer-none, found-below, peer-place, peer-some}
+use Rattle.slots.proofs.Found.{Octets, below, did-stay, peer-none, found-below, peer-place, peer-some}
 
 -- ---- a slot wiped
 

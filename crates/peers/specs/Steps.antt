@@ -1,21 +1,17 @@
 -- The steps of the calls over memory: what each function is asked, and what it leaves.
 use mathlib.Core.Path.{_≡_}
-use mathlib.Core.Bool.{cond}
-use mathlib.Core.List.{List, [], _∷_, _++_, map}
+use mathlib.Core.List.{List, map}
 use Prim.Native.Nat.{ℕ, _≤_, _<_}
-use lib.Dec.{leb}
 use lib.ListN.{length, take, drop, set}
-use Rattle.policy.specs.Names.{owns}
 use Rattle.stream.specs.Tail.{Tail, tails}
-use Rattle.rules.specs.State.{free, peer, isFree, firstBy, putSlot, withNames}
+use Rattle.rules.specs.State.{free, peer, isFree, firstBy}
 use Rattle.rules.specs.Pending.{removeCallsTo}
-use Rattle.rules.specs.Calls.{Step, stays, newcomer, connectAt, ownNew, released}
+use Rattle.rules.specs.Calls.{Step, newcomer, connectAt}
 use Rattle.rules.specs.declared.Connected.{Connected}
 use Rattle.memory.specs.Layout.{slotStart, memoryLength, slotLength, gidRoom}
 use Rattle.memory.specs.Encoding.{slotBytes, slotOf, memoryOf, stateOf}
 use Rattle.memory.specs.Sound.{Held}
 use Rattle.memory.specs.Places.{putAt, changed, mapped}
-use Rattle.slots.specs.Slots.{peerAt}
 
 -- ---- connect
 
@@ -60,22 +56,3 @@ endedFor m callee = memoryOf (mapped (removeCallsTo callee) (stateOf m))
 -- the same after the peer of slot i is gone
 unfoldable pub slotsWithout : List ℕ → ℕ → ℕ → List ℕ
 slotsWithout m i callee = memoryOf (record { last = stateOf m .last; slots = map (removeCallsTo callee) (set (stateOf m .slots) i free) })
-
--- ---- own and release
-
--- own's last test, and its change
-unfoldable pub granted : List ℕ → ℕ → List ℕ → Step Tail ℕ
-granted m i name =
-    cond (leb 4 (length (peerAt m i .names))) (stays (stateOf m) 34)
-    (stays (putSlot (stateOf m) i (peer (withNames (peerAt m i) (peerAt m i .names ++ (name ∷ []))))) 0)
-
--- own's last two tests, and its change
-unfoldable pub claimed : List ℕ → ℕ → List ℕ → Step Tail ℕ
-claimed m i name = ownNew (stateOf m) i (peerAt m i) name
-
--- release's last test, and its change
-unfoldable pub givenUp : List ℕ → ℕ → List ℕ → Step Tail ℕ
-givenUp m i name =
-    cond (owns (peerAt m i .names) name)
-    (stays (putSlot (stateOf m) i (peer (withNames (peerAt m i) (released name (peerAt m i .names))))) 0)
-    (stays (stateOf m) 35)

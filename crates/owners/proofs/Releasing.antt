@@ -28,8 +28,8 @@ use Rattle.memory.proofs.Removal.{released-without}
 use Rattle.memory.proofs.Puts.{names-stand, names-put}
 use Rattle.slots.specs.Slots.{peerAt, Seated, namePlace}
 use Rattle.slots.proofs.Cells.{owns-first}
-use Rattle.peers.specs.Steps.{givenUp}
-use Rattle.peers.proofs.Found.{Octets, below, did-stay, peer-none, peer-place, peer-some, peer-seated, counted}
+use Rattle.owners.specs.Steps.{givenUp}
+use Rattle.slots.proofs.Found.{Octets, below, did-stay, peer-none, peer-place, peer-some, peer-seated, counted}
 
 -- ---- 35, and the name taken out: j is its place, n how many names there are
 

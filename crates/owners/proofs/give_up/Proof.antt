@@ -1,7 +1,7 @@
--- `peers::give_up` meets its contract.
-use Rattle.peers.proofs.Releasing.{giving}
-use Rattle.peers.proofs.give_up.Statement.{statement}
-use Rattle.peers.proofs.give_up.Tie as tie
+-- `owners::give_up` meets its contract.
+use Rattle.owners.proofs.Releasing.{giving}
+use Rattle.owners.proofs.give_up.Statement.{statement}
+use Rattle.owners.proofs.give_up.Tie as tie
 
 pub give-up-spec : {M : Type 1} → statement M
 give-up-spec =

@@ -1,7 +1,7 @@
--- `peers::grant` meets its contract.
-use Rattle.peers.proofs.Owning.{granting}
-use Rattle.peers.proofs.grant.Statement.{statement}
-use Rattle.peers.proofs.grant.Tie as tie
+-- `owners::grant` meets its contract.
+use Rattle.owners.proofs.Owning.{granting}
+use Rattle.owners.proofs.grant.Statement.{statement}
+use Rattle.owners.proofs.grant.Tie as tie
 
 pub grant-spec : {M : Type 1} → statement M
 grant-spec =

@@ -33,10 +33,10 @@ use Rattle.memory.proofs.Again.{ownable-short}
 use Rattle.memory.proofs.Puts.{names-stand, name-appended}
 use Rattle.slots.specs.Slots.{peerAt, Seated, GidsOf}
 use Rattle.slots.specs.declared.Gids.{Gids}
-use Rattle.peers.specs.Writes.{nameBytes, Naming}
-use Rattle.peers.specs.Steps.{granted, claimed}
-use Rattle.peers.proofs.Found.{Octets, below, did-stay, peer-none, peer-place, peer-some, peer-seated, counted}
-use Rattle.peers.proofs.Zeros.{zero-rest}
+use Rattle.owners.specs.Writes.{nameBytes, Naming}
+use Rattle.owners.specs.Steps.{granted, claimed}
+use Rattle.slots.proofs.Found.{Octets, below, did-stay, peer-none, peer-place, peer-some, peer-seated, counted}
+use Rattle.slots.proofs.Zeros.{zero-rest}
 
 -- ---- what the policy is asked
 

@@ -1,7 +1,7 @@
--- `peers::release` meets its contract.
-use Rattle.peers.proofs.Releasing.{releasing}
-use Rattle.peers.proofs.release.Statement.{statement}
-use Rattle.peers.proofs.release.Tie as tie
+-- `owners::release` meets its contract.
+use Rattle.owners.proofs.Releasing.{releasing}
+use Rattle.owners.proofs.release.Statement.{statement}
+use Rattle.owners.proofs.release.Tie as tie
 
 pub release-spec : {M : Type 1} → statement M
 release-spec =

@@ -1,0 +1,2 @@
+mod Owning
+mod Releasing
