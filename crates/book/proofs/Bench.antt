@@ -20,7 +20,7 @@ use Rattle.policy.specs.Subjects.{inGroups, subjectFits}
 use Rattle.policy.specs.Names.{owns}
 use Rattle.policy.specs.Precedence.{deciding}
 use Rattle.policy.specs.Matching.{connectFits, ownedFits, ownFits, messageOf, partFits, interfaceFits, partsFit, nameFits, transactionFits, transactionMatches}
-use Rattle.policy.specs.Decisions.{connectDecides, mayConnect, ownDecides, mayOwn, transactionDecides, mayTransact}
+use Rattle.policy.specs.Decisions.{decidesIn, mayConnect, mayOwn, mayTransact}
 use Rattle.stream.specs.Stream.{offer}
 use Rattle.rules.specs.State.{firstBy}
 use Rattle.rules.specs.Addresses.{digits, uniqueName, answersTo, resolve}
@@ -36,8 +36,8 @@ unfolding allZero same wordAt wordBytes startsWith wellKnown unique validName in
     messageLength sizesOf fixedPart letterOf textIn valueAt framed elementAt walk fieldsOf numberIn goodValue goodField goodValues hasRequired headerOf
     judgedHead readHead readHeader goodCounts goodSections goodHeader goodString goodOrAny goodOwned goodConnectRule goodOwnRule goodStrings
     goodTransactionRule goodRule goodImage outcomeOf imageAnswer inGroups subjectFits owns deciding connectFits ownedFits ownFits messageOf partFits
-    interfaceFits partsFit nameFits transactionFits transactionMatches connectDecides mayConnect ownDecides mayOwn transactionDecides mayTransact offer
-    firstBy digits uniqueName answersTo resolve awaits maskOf countOf judged connect own piece cutOff modelStep answers
+    interfaceFits partsFit nameFits transactionFits transactionMatches decidesIn mayConnect mayOwn mayTransact offer firstBy digits uniqueName answersTo
+    resolve awaits maskOf countOf judged connect own piece cutOff modelStep answers
 both-agree = (refl, refl)
 
 pub table-agrees : agrees workedAnswer same workedTable ≡ true

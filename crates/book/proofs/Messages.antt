@@ -111,7 +111,8 @@ unfolding cutOff
 cut-done zero xs l = past-few xs (omega arith)
 cut-done (suc f) xs l = go (past xs) refl (cut-done f (drop (size (firstVerdict xs)) xs))
   where
-    go : (p : Bool) → past xs ≡ p → (length (drop (size (firstVerdict xs)) xs) ≤ f → past (cutOff f (drop (size (firstVerdict xs)) xs)) ≡ false) → past (cutOff (suc f) xs) ≡ false
+    go : (p : Bool) → past xs ≡ p → (length (drop (size (firstVerdict xs)) xs) ≤ f → past (cutOff f (drop (size (firstVerdict xs)) xs)) ≡ false)
+        → past (cutOff (suc f) xs) ≡ false
     go true e ih =
         let w = whole-some xs (both-first (isWhole (firstVerdict xs)) (ltb (size (firstVerdict xs)) (length xs)) e) in
         rw (cut-step f xs e) (ih (omega (arith, length-drop (size (firstVerdict xs)) xs)))
@@ -151,7 +152,8 @@ message-whole m w = ap isWhole (begins-whole m (w .header) (record { read = w .r
 
 message-alone : (m : List ℕ) → WholeMessage m → past m ≡ false
 message-alone m w =
-    let s : size (firstVerdict m) ≡ length m = ap size (begins-whole m (w .header) (record { read = w .read; reached = omega (arith, w .sized) })) ∙ sym (w .sized) in
+    let s : size (firstVerdict m) ≡ length m = ap size (begins-whole m (w .header) (record { read = w .read; reached = omega (arith, w .sized) }))
+    ∙ sym (w .sized) in
     rw (message-whole m w, s, le-ltb (length m) (length m) (omega arith))
 
 -- and of that one the guard has the count and the head, however the stream is parted so
@@ -179,7 +181,8 @@ tail-behind (m ∷ ms) ys w u = go (joinedPieces ms ++ ys) refl (tail-behind ms 
 pub breaks-where : (xs : List ℕ) (b a : ℕ) → books .closed xs ≡ false → books .judge (snoc xs b) ≡ broken a
     → length (current (snoc xs b)) ≡ brokenAt a (current (snoc xs b))
 breaks-where xs b a c j =
-    subst (λ (y : List ℕ). length y ≡ brokenAt a y) (sym (current-snoc xs b)) (go (isWhole (firstVerdict (current xs))) refl (ap firstVerdict (sym (current-snoc xs b)) ∙ j))
+    subst (λ (y : List ℕ). length y ≡ brokenAt a y) (sym (current-snoc xs b))
+    (go (isWhole (firstVerdict (current xs))) refl (ap firstVerdict (sym (current-snoc xs b)) ∙ j))
   where
     h : List ℕ
     h = current xs

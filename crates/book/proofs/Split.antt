@@ -127,7 +127,8 @@ module _ (image : List ℕ) (n : ℕ) where
   piece-bad m p g = rw g (go (eqb (imageAnswer image) 0) (image-refuses image))
     where
       go : (b : Bool) → (b ≡ false → Refusal (imageAnswer image))
-          → (a : ℕ) × (isStop a ≡ true) × (said (noPiece a) ≡ []) × (cond b (unchanged m (noPiece 51)) (unchanged m (noPiece (imageAnswer image))) ≡ unchanged m (noPiece a))
+          → (a : ℕ) × (isStop a ≡ true) × (said (noPiece a) ≡ [])
+          × (cond b (unchanged m (noPiece 51)) (unchanged m (noPiece (imageAnswer image))) ≡ unchanged m (noPiece a))
       go true f = (51, refl, refl, refl)
       go false f = (imageAnswer image, f refl .stops, no-verdict (f refl), refl)
 

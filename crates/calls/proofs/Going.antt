@@ -131,7 +131,8 @@ module _ {image s m₀ x m y rest : List ℕ} {at : ℕ} (g : Going image s m₀
           = rw (ty, dy, b) (sym (append-assoc o w (drop (at + 28) x))) in
           let lo : length (cells answerPlace (g .given ++ (t .answer ∷ []))) ≡ at + 28 = ap length b ∙ length-append o w ∙ omega (arith, written) in
           let d : length (drop (entrySize rest) rest) ≡ length rest - entrySize rest = length-drop (entrySize rest) rest in
-          let cs : length (scriptCalls image (suc f) rest) ≡ suc (length (scriptCalls image f (drop (entrySize rest) rest))) = ap length (calls-step image f rest h) in
+          let cs : length (scriptCalls image (suc f) rest) ≡ suc (length (scriptCalls image f (drop (entrySize rest) rest))) =
+          ap length (calls-step image f rest h) in
           record {
             fuel = f;
             enough = omega (arith, d);
@@ -162,7 +163,8 @@ module _ {image s m₀ x m y rest : List ℕ} {at : ℕ} (g : Going image s m₀
 
   pub going-ends : length rest ≤ 0 → Replayed image s x m y
   going-ends h =
-      let c : scriptCalls image (length s) s ≡ g .past = g .all ∙ ap (λ (v : List Call). g .past ++ v) (calls-end image (g .fuel) rest h) ∙ append-nil (g .past) in
+      let c : scriptCalls image (length s) s ≡ g .past = g .all ∙ ap (λ (v : List Call). g .past ++ v) (calls-end image (g .fuel) rest h)
+      ∙ append-nil (g .past) in
       let a = empty-claim (g .ran) in
       record { memory = rw c (a .memory); room = rw (c, ← a .answered, ← g .place) (g .text) }
 

@@ -9,12 +9,12 @@ use lib.ListN.{getD}
 use borrow.Author.Needs.{needs}
 use Rattle.image.specs.Image.{ruleCount, ruleOffset}
 use Rattle.image.specs.declared.Section.the-variants.{Connect, Own}
-use Rattle.image.specs.Rules.{connectRuleAt, ownRuleAt}
+use Rattle.image.specs.Rules.{ruleFrom}
 use Rattle.image.specs.Contracts.{GoodImage}
 use Rattle.image.proofs.RuleHolds.{connect-context, own-holds}
 use Rattle.policy.specs.Matching.{connectFits, ownFits}
 use Rattle.decide.specs.Contracts.{OwnAt}
-use Rattle.policy.specs.Decisions.{connectDecides, mayConnect, ownDecides, mayOwn}
+use Rattle.policy.specs.Decisions.{decidesIn, mayConnect, mayOwn}
 use Rattle.policy.specs.declared.Uid.{Uid}
 use Rattle.decide.proofs.Section.{Section, section-begins, section-down, section-over, section-at, section-other, section-miss, section-found}
 
@@ -22,7 +22,7 @@ use Rattle.decide.proofs.Section.{Section, section-begins, section-down
 
 abbrev pub Connecting : List ℕ → Uid → List ℕ → ℕ → ℕ → ℕ → ℕ → Type 0
 Connecting image uid gids base end context at =
-    Section image (λ k. connectFits (connectRuleAt image k) uid gids) (ruleCount Connect image) 8 (ruleOffset Connect image) base end context at
+    Section image (λ k. connectFits (ruleFrom image k) uid gids) (ruleCount Connect image) 8 (ruleOffset Connect image) base end context at
 
 module _ {image : List ℕ} (uid : Uid) (gids : List ℕ) {base : ℕ} where
   pub connect-begins : GoodImage image → base ≡ ruleOffset Connect image → {n : ℕ} → n ≡ ruleCount Connect image
@@ -31,12 +31,12 @@ module _ {image : List ℕ} (uid : Uid) (gids : List ℕ) {base : ℕ} where
 
   module _ {end context at : ℕ} (u : Connecting image uid gids base end context at) where
     pub connect-over : at ≡ base → context ≡ 0 → false ≡ mayConnect image uid gids
-    unfolding mayConnect connectDecides
+    unfolding mayConnect decidesIn
     connect-over z h = section-over u z h
 
-    pub connect-found : (at ≡ base → ⊥) → getD image (at - 8) 0 ≡ context → {r : Bool} → r ≡ connectFits (connectRuleAt image (at - 8)) uid gids → r ≡ true
+    pub connect-found : (at ≡ base → ⊥) → getD image (at - 8) 0 ≡ context → {r : Bool} → r ≡ connectFits (ruleFrom image (at - 8)) uid gids → r ≡ true
         → eqb (getD image (at - 8 + 1) 0) 1 ≡ mayConnect image uid gids
-    unfolding mayConnect connectDecides
+    unfolding mayConnect decidesIn
     connect-found z e f t = section-found u z e (sym f ∙ t)
 
 pub ruleset connecting = (connect-begins, connect-over, connect-found, section-down, section-other, section-miss, needs)
@@ -45,7 +45,7 @@ pub ruleset connecting = (connect-begins, connect-over, connect-found, section-d
 
 abbrev pub Owning : List ℕ → Uid → List ℕ → List ℕ → ℕ → ℕ → ℕ → ℕ → Type 0
 Owning image uid gids name base end context at =
-    Section image (λ k. ownFits image (ownRuleAt image k) uid gids name) (ruleCount Own image) 16 (ruleOffset Own image) base end context at
+    Section image (λ k. ownFits image (ruleFrom image k) uid gids name) (ruleCount Own image) 16 (ruleOffset Own image) base end context at
 
 own-at : {image : List ℕ} → GoodImage image → (k : ℕ) → k < ruleCount Own image → OwnAt image (ruleOffset Own image + 16 * k)
 own-at g k l =
@@ -59,15 +59,15 @@ module _ {image : List ℕ} (uid : Uid) (gids name : List ℕ) {base : ℕ} wher
 
   module _ {end context at : ℕ} (u : Owning image uid gids name base end context at) where
     pub own-over : at ≡ base → context ≡ 0 → false ≡ mayOwn image uid gids name
-    unfolding mayOwn ownDecides
+    unfolding mayOwn decidesIn
     own-over z h = section-over u z h
 
     pub own-place : (at ≡ base → ⊥) → OwnAt image (at - 16)
     own-place z = section-at u z (OwnAt image) (own-at (u .good))
 
-    pub own-found : (at ≡ base → ⊥) → getD image (at - 16) 0 ≡ context → {r : Bool} → r ≡ ownFits image (ownRuleAt image (at - 16)) uid gids name → r ≡ true
+    pub own-found : (at ≡ base → ⊥) → getD image (at - 16) 0 ≡ context → {r : Bool} → r ≡ ownFits image (ruleFrom image (at - 16)) uid gids name → r ≡ true
         → eqb (getD image (at - 16 + 1) 0) 1 ≡ mayOwn image uid gids name
-    unfolding mayOwn ownDecides
+    unfolding mayOwn decidesIn
     own-found z e f t = section-found u z e (sym f ∙ t)
 
 pub ruleset owning = (own-begins, own-over, own-place, own-found, section-down, section-other, section-miss, needs)

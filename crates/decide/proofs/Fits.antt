@@ -17,7 +17,7 @@ use Rattle.wire.proofs.Texts.{same-length}
 use Rattle.wire.proofs.Words.{cut-at}
 use Rattle.names.specs.Namespace.{inNamespace}
 use Rattle.image.specs.Image.{stringOffset}
-use Rattle.image.specs.Rules.{spanAt, textOf, connectRuleAt, ownRuleAt, transactionAt}
+use Rattle.image.specs.Rules.{spanAt, textOf, ruleFrom}
 use Rattle.header.specs.Fields.{textAt}
 use Rattle.header.specs.declared.Place.{Place}
 use Rattle.header.specs.declared.Header.{Header}
@@ -39,43 +39,43 @@ pub ruleset cuts = (cell-same, cut-at, needs)
 -- ---- connect
 
 module _ (image : List ℕ) (at : ℕ) (uid : Uid) (gids : List ℕ) where
-  pub connect-any : getD image (at + 2) 0 ≡ 0 → true ≡ connectFits (connectRuleAt image at) uid gids
+  pub connect-any : getD image (at + 2) 0 ≡ 0 → true ≡ connectFits (ruleFrom image at) uid gids
   unfolding connectFits
   connect-any e = rw e
 
   module _ {id : ℕ} (g : id ≡ wordAt Little image (at + 4)) (n : getD image (at + 2) 0 ≡ 0 → ⊥) where
-    pub connect-user : getD image (at + 2) 0 ≡ 1 → {r : Bool} → r ≡ sameUser uid (record { 0 = id }) → r ≡ connectFits (connectRuleAt image at) uid gids
+    pub connect-user : getD image (at + 2) 0 ≡ 1 → {r : Bool} → r ≡ sameUser uid (record { 0 = id }) → r ≡ connectFits (ruleFrom image at) uid gids
     unfolding connectFits
     connect-user e h = rw (e, ← g) h
 
     pub connect-group : (getD image (at + 2) 0 ≡ 1 → ⊥) → {r : Bool} → r ≡ inGroups gids (record { 0 = id })
-        → r ≡ connectFits (connectRuleAt image at) uid gids
+        → r ≡ connectFits (ruleFrom image at) uid gids
     unfolding connectFits
     connect-group m h = rw (ne-eqb (getD image (at + 2) 0) 0 n, ne-eqb (getD image (at + 2) 0) 1 m, ← g) h
 
 -- ---- own
 
 module _ (image : List ℕ) (at : ℕ) (name : List ℕ) where
-  pub owned-any : getD image (at + 2) 0 ≡ 0 → true ≡ ownedFits image (ownRuleAt image at) name
+  pub owned-any : getD image (at + 2) 0 ≡ 0 → true ≡ ownedFits image (ruleFrom image at) name
   unfolding ownedFits
   owned-any e = rw e
 
   module _ {own : List ℕ} (g : own ≡ textOf image (spanAt image (at + 8))) (n : getD image (at + 2) 0 ≡ 0 → ⊥) where
-    pub owned-same : getD image (at + 2) 0 ≡ 1 → {r : Bool} → r ≡ same own name → r ≡ ownedFits image (ownRuleAt image at) name
+    pub owned-same : getD image (at + 2) 0 ≡ 1 → {r : Bool} → r ≡ same own name → r ≡ ownedFits image (ruleFrom image at) name
     unfolding ownedFits
     owned-same e h = rw (e, ← g) h
 
-    pub owned-under : (getD image (at + 2) 0 ≡ 1 → ⊥) → {r : Bool} → r ≡ inNamespace own name → r ≡ ownedFits image (ownRuleAt image at) name
+    pub owned-under : (getD image (at + 2) 0 ≡ 1 → ⊥) → {r : Bool} → r ≡ inNamespace own name → r ≡ ownedFits image (ruleFrom image at) name
     unfolding ownedFits
     owned-under m h = rw (ne-eqb (getD image (at + 2) 0) 0 n, ne-eqb (getD image (at + 2) 0) 1 m, ← g) h
 
   module _ (uid : Uid) (gids : List ℕ) {subject : ℕ} (g : subject ≡ wordAt Little image (at + 4)) {s : Bool}
       (e : s ≡ subjectFits (getD image at 0) subject uid gids) where
-    pub own-other : not s ≡ true → false ≡ ownFits image (ownRuleAt image at) uid gids name
+    pub own-other : not s ≡ true → false ≡ ownFits image (ruleFrom image at) uid gids name
     unfolding ownFits
     own-other t = rw (← (rw g at e), not-true s t)
 
-    pub own-fits : not s ≡ false → {r : Bool} → r ≡ ownedFits image (ownRuleAt image at) name → r ≡ ownFits image (ownRuleAt image at) uid gids name
+    pub own-fits : not s ≡ false → {r : Bool} → r ≡ ownedFits image (ruleFrom image at) name → r ≡ ownFits image (ruleFrom image at) uid gids name
     unfolding ownFits
     own-fits t h = rw (← (rw g at e), not-false s t) h
 
@@ -120,13 +120,13 @@ module _ (image : List ℕ) (at : ℕ) (head : List ℕ) (p : Place) (k : PartAs
 
 module _ (image : List ℕ) (at : ℕ) (head : List ℕ) where
   pub interface-fits : (p : Place) {r : Bool} → r ≡ partFits image (spanAt image (at + 24)) (fieldOf head p)
-      → r ≡ interfaceFits image (transactionAt image at) (fieldOf head p)
+      → r ≡ interfaceFits image (ruleFrom image at) (fieldOf head p)
   unfolding interfaceFits
   interface-fits p h = h
 
   pub parts-fit : (m : Header) {a b c : Bool} → a ≡ partFits image (spanAt image (at + 16)) (fieldOf head (m .path))
-      → b ≡ interfaceFits image (transactionAt image at) (fieldOf head (m .interface))
-      → c ≡ partFits image (spanAt image (at + 32)) (fieldOf head (m .member)) → a && b && c ≡ partsFit image (transactionAt image at) (messageOf head m)
+      → b ≡ interfaceFits image (ruleFrom image at) (fieldOf head (m .interface))
+      → c ≡ partFits image (spanAt image (at + 32)) (fieldOf head (m .member)) → a && b && c ≡ partsFit image (ruleFrom image at) (messageOf head m)
   unfolding partsFit messageOf
   parts-fit m e f g = rw (e, f, g)
 
@@ -143,7 +143,7 @@ this-type false false h = sym h
 
 module _ (image : List ℕ) (at : ℕ) (uid : Uid) (gids head : List ℕ) (m : Header) where
   abbrev Fits : Bool
-  Fits = transactionFits image (transactionAt image at) uid gids (messageOf head m)
+  Fits = transactionFits image (ruleFrom image at) uid gids (messageOf head m)
 
   pub rule-type : not (eqb (getD image (at + 3) 0) 0) && not (eqb (getD image (at + 3) 0) (m .kind)) ≡ true → false ≡ Fits
   unfolding transactionFits messageOf
@@ -155,7 +155,7 @@ module _ (image : List ℕ) (at : ℕ) (uid : Uid) (gids head : List ℕ) (m : H
     unfolding transactionFits messageOf
     rule-other u = rw (this-type (eqb (getD image (at + 3) 0) 0) (eqb (getD image (at + 3) 0) (m .kind)) t, ← (rw g at e), not-true s u)
 
-    pub rule-parts : not s ≡ false → {r : Bool} → r ≡ partsFit image (transactionAt image at) (messageOf head m) → r ≡ Fits
+    pub rule-parts : not s ≡ false → {r : Bool} → r ≡ partsFit image (ruleFrom image at) (messageOf head m) → r ≡ Fits
     unfolding transactionFits messageOf
     rule-parts u h = rw (this-type (eqb (getD image (at + 3) 0) 0) (eqb (getD image (at + 3) 0) (m .kind)) t, ← (rw g at e), not-false s u) h
 

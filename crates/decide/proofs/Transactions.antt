@@ -12,14 +12,14 @@ use Rattle.wire.specs.Bytes.{same}
 use Rattle.wire.proofs.Texts.{both-first, both-second}
 use Rattle.image.specs.Image.{ruleCount, ruleOffset}
 use Rattle.image.specs.declared.Section.the-variants.{Transaction}
-use Rattle.image.specs.Rules.{spanAt, textOf, transactionAt}
+use Rattle.image.specs.Rules.{spanAt, textOf, ruleFrom}
 use Rattle.image.specs.Contracts.{GoodImage}
 use Rattle.image.proofs.RuleHolds.{transaction-holds}
 use Rattle.header.specs.declared.Header.{Header}
 use Rattle.policy.specs.Names.{nameOf, namesIn, owns}
 use Rattle.policy.specs.Matching.{messageOf, nameFits, transactionFits, transactionMatches}
 use Rattle.decide.specs.Contracts.{Cited, TransactionAt, Within, Asked, RuleAsked}
-use Rattle.policy.specs.Decisions.{transactionDecides, mayTransact}
+use Rattle.policy.specs.Decisions.{decidesIn, mayTransact}
 use Rattle.policy.specs.declared.Uid.{Uid}
 use Rattle.policy.proofs.Cells.{Among, among-begins, among-here, among-more, among-ends}
 use Rattle.decide.proofs.Fits.{cited-length}
@@ -40,7 +40,7 @@ transaction-at {image} g k l =
 pub record Deciding (image : List ℕ) (direction : ℕ) (uid : Uid) (gids names head : List ℕ) (m : Header) (base end context at : ℕ) : Type 0 where
   pub within : Within head m
   pub small : length names < 2 ^ 64
-  pub section : Section image (λ k. transactionMatches image (transactionAt image k) direction uid gids (namesIn names) (messageOf head m))
+  pub section : Section image (λ k. transactionMatches image (ruleFrom image k) direction uid gids (namesIn names) (messageOf head m))
       (ruleCount Transaction image) 40 (ruleOffset Transaction image) base end context at
 
 -- the rule at `at` matches if its name is one of the names, and among those from cell j on
@@ -70,7 +70,7 @@ module _ {image : List ℕ} {direction : ℕ} {uid : Uid} {gids names head : Lis
   decide-down z h = record { within = u .within; small = u .small; section = section-down (u .section) z h }
 
   pub decide-over : at ≡ base → context ≡ 0 → false ≡ mayTransact image direction uid gids (namesIn names) (messageOf head m)
-  unfolding mayTransact transactionDecides
+  unfolding mayTransact decidesIn
   decide-over z h = section-over (u .section) z h
 
   module _ (z : at ≡ base → ⊥) where
@@ -85,7 +85,7 @@ module _ {image : List ℕ} {direction : ℕ} {uid : Uid} {gids names head : Lis
     decide-cited = decide-place .rule .name
 
     decide-pass : (getD image (at - 40) 0 ≡ context
-        → transactionMatches image (transactionAt image (at - 40)) direction uid gids (namesIn names) (messageOf head m) ≡ true → ⊥)
+        → transactionMatches image (ruleFrom image (at - 40)) direction uid gids (namesIn names) (messageOf head m) ≡ true → ⊥)
         → Deciding image direction uid gids names head m base end context (at - 40)
     decide-pass d = record { within = u .within; small = u .small; section = section-pass (u .section) z d }
 
@@ -98,11 +98,11 @@ module _ {image : List ℕ} {direction : ℕ} {uid : Uid} {gids names head : Lis
     decide-other t = decide-pass (λ e f. go (eqb (getD image (at - 40 + 2) 0) direction) refl e f)
       where
         go : (b : Bool) → eqb (getD image (at - 40 + 2) 0) direction ≡ b → getD image (at - 40) 0 ≡ context
-            → transactionMatches image (transactionAt image (at - 40)) direction uid gids (namesIn names) (messageOf head m) ≡ true → ⊥
+            → transactionMatches image (ruleFrom image (at - 40)) direction uid gids (namesIn names) (messageOf head m) ≡ true → ⊥
         go true d e f = false≢true (sym t ∙ rw (eq-eqb (getD image (at - 40) 0) context e, d))
         go false d e f = false≢true (rw d at f)
 
-    module _ (t : Test ≡ true) {r : Bool} (fits : r ≡ transactionFits image (transactionAt image (at - 40)) uid gids (messageOf head m)) where
+    module _ (t : Test ≡ true) {r : Bool} (fits : r ≡ transactionFits image (ruleFrom image (at - 40)) uid gids (messageOf head m)) where
       same-direction : eqb (getD image (at - 40 + 2) 0) direction ≡ true
       same-direction = both-second (eqb (getD image (at - 40) 0) context) (eqb (getD image (at - 40 + 2) 0) direction) t
 
@@ -112,14 +112,14 @@ module _ {image : List ℕ} {direction : ℕ} {uid : Uid} {gids names head : Lis
 
       module _ (ok : r ≡ true) where
         -- then the name decides
-        named : {b : Bool} → nameFits image (transactionAt image (at - 40)) (namesIn names) ≡ b
-            → transactionMatches image (transactionAt image (at - 40)) direction uid gids (namesIn names) (messageOf head m) ≡ b
+        named : {b : Bool} → nameFits image (ruleFrom image (at - 40)) (namesIn names) ≡ b
+            → transactionMatches image (ruleFrom image (at - 40)) direction uid gids (namesIn names) (messageOf head m) ≡ b
         unfolding transactionMatches
         named e = rw (same-direction, ← fits, ok) e
 
-        yes : nameFits image (transactionAt image (at - 40)) (namesIn names) ≡ true
+        yes : nameFits image (ruleFrom image (at - 40)) (namesIn names) ≡ true
             → eqb (getD image (at - 40 + 1) 0) 1 ≡ mayTransact image direction uid gids (namesIn names) (messageOf head m)
-        unfolding mayTransact transactionDecides
+        unfolding mayTransact decidesIn
         yes e =
             section-found (u .section) z
             (eqb-true (getD image (at - 40) 0) context

@@ -15,7 +15,7 @@ ghost use mathlib.Core.Path.{_≡_};
 ghost use Prim.Native.Nat.{_+_, _*_, _≤_, _<_};
 ghost use lib.ListN.{length, drop};
 ghost use Rattle.wire.specs.Bytes.{same};
-ghost use Rattle.image.specs.Rules.{spanAt, textOf, connectRuleAt, ownRuleAt, transactionAt};
+ghost use Rattle.image.specs.Rules.{spanAt, textOf, ruleFrom};
 ghost use Rattle.image.specs.Contracts.{GoodImage};
 ghost use Rattle.policy.specs.Names.{nameOf, namesIn};
 ghost use Rattle.policy.specs.Subjects.{sameUser, inGroups, subjectFits};
@@ -83,7 +83,7 @@ fn text(image: &[u8], at: usize) -> &[u8]
 
 fn connect_fits(image: &[u8], at: usize, uid: Uid, gids: &[u32]) -> bool
     requires { ⌜ at + 8 ≤ length (now image) ⌝ }
-    ensures { λ r. ⌜ r ≡ connectFits (connectRuleAt (now (image .entry)) at) uid (now (gids .entry)) ⌝ }
+    ensures { λ r. ⌜ r ≡ connectFits (ruleFrom (now (image .entry)) at) uid (now (gids .entry)) ⌝ }
 {
     let matcher = image[at + 2];
     if matcher == 0 {
@@ -99,7 +99,7 @@ fn connect_fits(image: &[u8], at: usize, uid: Uid, gids: &[u32]) -> bool
 // The name is the rule's, or in the rule's namespace.
 fn owned_fits(image: &[u8], at: usize, name: &[u8]) -> bool
     requires { ⌜ OwnAt (now image) at ⌝ }
-    ensures { λ r. ⌜ r ≡ ownedFits (now (image .entry)) (ownRuleAt (now (image .entry)) at) (now (name .entry)) ⌝ }
+    ensures { λ r. ⌜ r ≡ ownedFits (now (image .entry)) (ruleFrom (now (image .entry)) at) (now (name .entry)) ⌝ }
 {
     let matcher = image[at + 2];
     if matcher == 0 {
@@ -114,7 +114,7 @@ fn owned_fits(image: &[u8], at: usize, name: &[u8]) -> bool
 
 fn own_fits(image: &[u8], at: usize, uid: Uid, gids: &[u32], name: &[u8]) -> bool
     requires { ⌜ OwnAt (now image) at ⌝ }
-    ensures { λ r. ⌜ r ≡ ownFits (now (image .entry)) (ownRuleAt (now (image .entry)) at) uid (now (gids .entry)) (now (name .entry)) ⌝ }
+    ensures { λ r. ⌜ r ≡ ownFits (now (image .entry)) (ruleFrom (now (image .entry)) at) uid (now (gids .entry)) (now (name .entry)) ⌝ }
 {
     let subject = wire::u32_at(wire::Order::Little, image, at + 4);
     if !subject_fits(image[at], subject, uid, gids) {
@@ -143,14 +143,14 @@ fn part_fits(image: &[u8], at: usize, head: &[u8], place: Place) -> bool
 // The interface of the rule at `at`, whose verdict stands there too.
 fn interface_fits(image: &[u8], at: usize, head: &[u8], place: Place) -> bool
     requires { ⌜ InterfaceAsked (now image) at (now head) place ⌝ }
-    ensures { λ r. ⌜ r ≡ interfaceFits (now (image .entry)) (transactionAt (now (image .entry)) at) (fieldOf (now (head .entry)) place) ⌝ }
+    ensures { λ r. ⌜ r ≡ interfaceFits (now (image .entry)) (ruleFrom (now (image .entry)) at) (fieldOf (now (head .entry)) place) ⌝ }
 {
     part_fits(image, at + 24, head, place)
 }
 
 fn parts_fit(image: &[u8], at: usize, head: &[u8], header: Header) -> bool
     requires { ⌜ RuleAsked (now image) at (now head) header ⌝ }
-    ensures { λ r. ⌜ r ≡ partsFit (now (image .entry)) (transactionAt (now (image .entry)) at) (messageOf (now (head .entry)) header) ⌝ }
+    ensures { λ r. ⌜ r ≡ partsFit (now (image .entry)) (ruleFrom (now (image .entry)) at) (messageOf (now (head .entry)) header) ⌝ }
 {
     part_fits(image, at + 16, head, header.path)
         & interface_fits(image, at, head, header.interface)
@@ -161,7 +161,7 @@ fn parts_fit(image: &[u8], at: usize, head: &[u8], header: Header) -> bool
 fn rule_fits(image: &[u8], at: usize, uid: Uid, gids: &[u32], head: &[u8], header: Header) -> bool
     requires { ⌜ RuleAsked (now image) at (now head) header ⌝ }
     ensures { λ r.
-        ⌜ r ≡ transactionFits (now (image .entry)) (transactionAt (now (image .entry)) at) uid (now (gids .entry)) (messageOf (now (head .entry)) header) ⌝ }
+        ⌜ r ≡ transactionFits (now (image .entry)) (ruleFrom (now (image .entry)) at) uid (now (gids .entry)) (messageOf (now (head .entry)) header) ⌝ }
 {
     let of = image[at + 3];
     if (of != 0) & (of != header.kind) {

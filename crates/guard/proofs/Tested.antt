@@ -70,7 +70,8 @@ module _ (image : List ℕ) (a : ℕ) (e : a ≡ imageAnswer image) where
       → Did (cond (eqb (imageAnswer image) 0) o (unchanged m (noConnect (imageAnswer image)))) r m
   connect-refused = refused-image noConnect
 
-  pub own-refused : (a ≡ 0 → ⊥) → (m : List ℕ) (o : MemoryStep ℕ) {r : ℕ} → r ≡ a → Did (cond (eqb (imageAnswer image) 0) o (unchanged m (imageAnswer image))) r m
+  pub own-refused : (a ≡ 0 → ⊥) → (m : List ℕ) (o : MemoryStep ℕ) {r : ℕ} → r ≡ a
+      → Did (cond (eqb (imageAnswer image) 0) o (unchanged m (imageAnswer image))) r m
   own-refused = refused-image (λ x. x)
 
   pub piece-refused : (a ≡ 0 → ⊥) → (m : List ℕ) (o : MemoryStep Taken) {r : Taken} → r ≡ noPiece a

@@ -14,7 +14,7 @@ use Rattle.names.specs.Names.{validName}
 use Rattle.names.specs.declared.Form.{Form}
 use Rattle.names.specs.declared.Form.the-variants.{Interface, WellKnown, Member, Path}
 use Rattle.image.specs.Image.{ruleCount, rulePlace, stringOffset}
-use Rattle.image.specs.Rules.{Span, textOf, connectRule, ownRule, transactionRule}
+use Rattle.image.specs.Rules.{Span, textOf, policyRule}
 use Rattle.image.specs.Good.{goodString, goodOrAny, goodOwned, goodSubject, goodMatcher, goodConnectRule, goodOwnRule, goodStrings}
 use Rattle.image.specs.Good.{goodTransactionRule, goodRule}
 use Rattle.image.specs.Contracts.{GoodImage}
@@ -59,10 +59,10 @@ module _ (image : List ℕ) (s : Span) where
 
 -- ---- rules
 
-pub connect-context : {image : List ℕ} → GoodImage image → (i : ℕ) → i < ruleCount Connect image → connectRule image i .context ≤ 3
+pub connect-context : {image : List ℕ} → GoodImage image → (i : ℕ) → i < ruleCount Connect image → policyRule Connect image i .context ≤ 3
 unfolding goodRule goodConnectRule
 connect-context {image} g i l =
-    let r = connectRule image i in
+    let r = policyRule Connect image i in
     let k =
     row-each
     true
@@ -82,13 +82,13 @@ subject-context context subject h = leb-true context 3 (both-first (leb context 
 
 pub record OwnHolds (image : List ℕ) (i : ℕ) : Type 0 where
   pub place : rulePlace Own image i + 16 ≤ length image
-  pub context : ownRule image i .context ≤ 3
-  pub name : Inside image (ownRule image i .name)
+  pub context : policyRule Own image i .context ≤ 3
+  pub name : Inside image (policyRule Own image i .name)
 
 pub own-holds : {image : List ℕ} → GoodImage image → (i : ℕ) → i < ruleCount Own image → OwnHolds image i
 unfolding goodRule goodOwnRule
 own-holds {image} g i l =
-    let r = ownRule image i in
+    let r = policyRule Own image i in
     let k =
     row-each
     true
@@ -106,16 +106,16 @@ own-holds {image} g i l =
 
 pub record TransactionHolds (image : List ℕ) (i : ℕ) : Type 0 where
   pub place : rulePlace Transaction image i + 40 ≤ length image
-  pub context : transactionRule image i .context ≤ 3
-  pub name : Inside image (transactionRule image i .name)
-  pub path : Inside image (transactionRule image i .path)
-  pub interface : Inside image (transactionRule image i .interface)
-  pub member : Inside image (transactionRule image i .member)
+  pub context : policyRule Transaction image i .context ≤ 3
+  pub name : Inside image (policyRule Transaction image i .name)
+  pub path : Inside image (policyRule Transaction image i .path)
+  pub interface : Inside image (policyRule Transaction image i .interface)
+  pub member : Inside image (policyRule Transaction image i .member)
 
 pub transaction-holds : {image : List ℕ} → GoodImage image → (i : ℕ) → i < ruleCount Transaction image → TransactionHolds image i
 unfolding goodRule goodTransactionRule goodStrings
 transaction-holds {image} g i l =
-    let r = transactionRule image i in
+    let r = policyRule Transaction image i in
     let k =
     row-each
     true

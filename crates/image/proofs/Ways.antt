@@ -14,7 +14,7 @@ use Rattle.names.specs.Names.{validName}
 use Rattle.names.specs.declared.Form.{Form}
 use Rattle.names.specs.declared.Form.the-variants.{Interface, WellKnown, Member, Path}
 use Rattle.image.specs.Image.{totalLength, ruleCount, ruleOffset, stringOffset}
-use Rattle.image.specs.Rules.{spanAt, textOf, transactionAt}
+use Rattle.image.specs.Rules.{spanAt, textOf, ruleFrom}
 use Rattle.image.specs.Good.{goodCounts, goodSections, goodHeader, goodString, goodOrAny, goodOwned, goodStrings, goodSubject, goodMatcher}
 use Rattle.image.specs.Good.{goodConnectRule, goodOwnRule, goodTransactionRule, goodRule, goodSection, goodImage, outcomeOf}
 use Rattle.image.specs.Contracts.{RuleAt}
@@ -121,7 +121,7 @@ module _ (image : List ℕ) where
       → b ≡ goodOrAny Path image (spanAt image (at + 16))
       → c ≡ goodOrAny Interface image (spanAt image (at + 24))
       → d ≡ goodOrAny Member image (spanAt image (at + 32))
-      → a && b && c && d ≡ goodStrings image (transactionAt image at)
+      → a && b && c && d ≡ goodStrings image (ruleFrom image at)
   unfolding goodStrings
   strings-are at a b c d p q r s = rw (p, q, r, s)
 
@@ -139,7 +139,7 @@ module _ (image : List ℕ) where
     unfolding goodRule goodTransactionRule
     transaction-bad e = rw (← p, ← q, e)
 
-    pub transaction-is : numbers (from + 40 * i) s ≡ true → (o : Bool) → o ≡ goodStrings image (transactionAt image (from + 40 * i))
+    pub transaction-is : numbers (from + 40 * i) s ≡ true → (o : Bool) → o ≡ goodStrings image (ruleFrom image (from + 40 * i))
         → o ≡ goodRule Transaction image i
     unfolding goodRule goodTransactionRule
     transaction-is e o r = r ∙ rw (← p, ← q, e)

@@ -9,7 +9,7 @@ use Rattle.names.specs.Names.{validName}
 use Rattle.names.specs.declared.Form.{Form}
 use Rattle.names.specs.declared.Form.the-variants.{Interface, WellKnown, Member, Path}
 use Rattle.image.specs.Image.{totalLength, ruleCount, ruleOffset, rulesEnd, stringOffset}
-use Rattle.image.specs.Rules.{Span, textOf, ConnectRule, connectRule, OwnRule, ownRule, TransactionRule, transactionRule}
+use Rattle.image.specs.Rules.{Span, textOf, PolicyRule, policyRule}
 use Rattle.image.specs.declared.Section.{Section}
 use Rattle.image.specs.declared.Section.the-variants.{Connect, Own, Transaction}
 use Rattle.image.specs.declared.Outcome.{Outcome}
@@ -63,21 +63,21 @@ abbrev pub goodMatcher : ℕ → ℕ → ℕ → Bool
 goodMatcher verdict matcher reserved = leb verdict 1 && leb matcher 2 && eqb reserved 0
 
 -- connect rules are default or mandatory, and one that is about anybody has no id (rule 5.4)
-unfoldable pub goodConnectRule : ConnectRule → Bool
+unfoldable pub goodConnectRule : PolicyRule → Bool
 goodConnectRule r =
     (eqb (r .context) 0 || eqb (r .context) 3)
     && goodMatcher (r .verdict) (r .matcher) (r .reserved)
     && (leb 1 (r .matcher) || eqb (r .id) 0)
 
 -- an own rule's bytes and its string (rule 5.5)
-unfoldable pub goodOwnRule : List ℕ → OwnRule → Bool
+unfoldable pub goodOwnRule : List ℕ → PolicyRule → Bool
 goodOwnRule image r =
     goodSubject (r .context) (r .subject)
     && goodMatcher (r .verdict) (r .matcher) (r .reserved)
     && goodOwned image (r .matcher) (r .name)
 
 -- the four strings of a transaction rule, each with its own form (rules 5.6 and 5.8)
-unfoldable pub goodStrings : List ℕ → TransactionRule → Bool
+unfoldable pub goodStrings : List ℕ → PolicyRule → Bool
 goodStrings image r =
     goodOrAny WellKnown image (r .name)
     && goodOrAny Path image (r .path)
@@ -85,7 +85,7 @@ goodStrings image r =
     && goodOrAny Member image (r .member)
 
 -- a transaction rule's bytes and its strings; returns and errors have no rules (rule 5.6)
-unfoldable pub goodTransactionRule : List ℕ → TransactionRule → Bool
+unfoldable pub goodTransactionRule : List ℕ → PolicyRule → Bool
 goodTransactionRule image r =
     goodSubject (r .context) (r .subject)
     && leb (r .verdict) 1
@@ -95,9 +95,9 @@ goodTransactionRule image r =
 
 -- rule i of the section is a good one
 unfoldable pub goodRule : Section → List ℕ → ℕ → Bool
-goodRule Connect image i = goodConnectRule (connectRule image i)
-goodRule Own image i = goodOwnRule image (ownRule image i)
-goodRule Transaction image i = goodTransactionRule image (transactionRule image i)
+goodRule Connect image i = goodConnectRule (policyRule Connect image i)
+goodRule Own image i = goodOwnRule image (policyRule Own image i)
+goodRule Transaction image i = goodTransactionRule image (policyRule Transaction image i)
 
 -- every rule of the section is
 abbrev pub goodSection : Section → List ℕ → Bool

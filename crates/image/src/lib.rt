@@ -5,7 +5,7 @@ ghost use lib.ListN.{length, getD};
 ghost use Rattle.wire.specs.Words.{wordAt};
 ghost use Rattle.wire.specs.declared.Order.the-variants.{Little};
 ghost use Rattle.image.specs.Image.{ruleCountAt};
-ghost use Rattle.image.specs.Rules.{spanAt, textOf, transactionAt};
+ghost use Rattle.image.specs.Rules.{spanAt, textOf, ruleFrom};
 ghost use Rattle.image.specs.Good.{goodCounts, goodSections, goodHeader, goodString, goodOrAny, goodOwned, goodStrings, goodSubject, goodMatcher};
 ghost use Rattle.image.specs.Good.{goodRule, goodSection, outcomeOf};
 ghost use Rattle.image.specs.Contracts.{GoodImageHeader, Strings, RuleAt, Cites};
@@ -162,7 +162,7 @@ fn is_own(image: &[u8], strings: usize, from: usize, i: usize) -> bool
 // The four strings of the transaction rule at `at`: each means any, or is a name of its form.
 fn has_strings(image: &[u8], strings: usize, at: usize) -> bool
     requires { ⌜ (at + 40 ≤ length (now image)) × Strings (now image) strings ⌝ }
-    ensures { λ r. ⌜ r ≡ goodStrings (now (image .entry)) (transactionAt (now (image .entry)) at) ⌝ }
+    ensures { λ r. ⌜ r ≡ goodStrings (now (image .entry)) (ruleFrom (now (image .entry)) at) ⌝ }
 {
     is_string_or_any(names::Form::WellKnown, image, strings, at + 8)
         & is_string_or_any(names::Form::Path, image, strings, at + 16)

@@ -136,7 +136,8 @@ module _ {m : List ℕ} {i j : ℕ} (p : Seated m i) (x : Header) (b : (k : ℕ)
   pub reply-none : n ≤ f → {r : Judgement} → r ≡ refusal 24 → RepliesTo m i j x r m
   reply-none l q = record { left = rw (← e, waits-no h a l) (left-as-is p b q) }
 
-  pub reply-ends : f < n → {d : ℕ} → d ≡ numberAt m j → {m′ : List ℕ} → CallRemoved m j f m′ → RepliesTo m i j x (record { answer = 0; receiver = to.Peer d }) m′
+  pub reply-ends : f < n → {d : ℕ} → d ≡ numberAt m j → {m′ : List ℕ} → CallRemoved m j f m′
+      → RepliesTo m i j x (record { answer = 0; receiver = to.Peer d }) m′
   reply-ends l q g =
       let w : ended c (x .«reply_serial») (peerAt m j .pending) ≡ without f (peerAt m j .pending)
       = ended-without c (x .«reply_serial») (peerAt m j .pending) ∙ ap (λ (k : ℕ). without k (peerAt m j .pending)) (place h a) in

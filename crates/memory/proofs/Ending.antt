@@ -87,8 +87,8 @@ module _ {c : ℕ} {ws₀ : List Pending} {t : List ℕ} {n j : ℕ} (g : Ending
   callee-at =
       let m : n ≡ length (g .calls) = g .count in
       let l : j < length (tableOf callWidth callRoom pendingOf t) = rw read (omega arith) in
-      let q : getD (g .calls) j (pendingOf []) ≡ pendingOf (take callWidth (drop (4 + callWidth * j) t))
-      = rw read at (table-at callWidth callRoom pendingOf t j l) in
+      let q : getD (g .calls) j (pendingOf []) ≡ pendingOf (take callWidth (drop (4 + callWidth * j) t)) =
+      rw read at (table-at callWidth callRoom pendingOf t j l) in
       ap (λ (w : Pending). w .callee) q
       ∙ word-part t (4 + callWidth * j) callWidth 0 (omega arith)
       ∙ ap (wordAt Little t) (omega arith)

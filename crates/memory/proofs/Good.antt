@@ -52,7 +52,8 @@ held-of m e = record { sized = good-sized m e; held = e }
 
 -- ---- good bytes are those of the state that is read off them
 
-plain-slots : (n : ℕ) (d : List ℕ) → length d ≡ slotLength * n → plainSlots (parts slotLength n d) ≡ true → cells slotBytes (map slotOf (parts slotLength n d)) ≡ d
+plain-slots : (n : ℕ) (d : List ℕ) → length d ≡ slotLength * n → plainSlots (parts slotLength n d) ≡ true
+    → cells slotBytes (map slotOf (parts slotLength n d)) ≡ d
 unfolding parts plainSlots cells
 plain-slots zero [] l e = refl
 plain-slots zero (x ∷ d) l e = absurd (omega arith)

@@ -29,7 +29,8 @@ zeros : (a b : ℕ) (p q : List ℕ) → p ≡ replicate a 0 → q ≡ replicate
 zeros a b p q e f = ap₂ _++_ e f ∙ replicate-append-replicate {A = ℕ} a b 0
 
 pub newcomer-bytes : (n uid : ℕ) (gids : List ℕ)
-    → slotBytes (peer (newcomer tails n uid gids)) ≡ wordBytes n ++ (wordBytes uid ++ (tableBytes gidWidth gidRoom wordBytes gids ++ replicate (slotLength - pendingAt) 0))
+    → slotBytes (peer (newcomer tails n uid gids))
+    ≡ wordBytes n ++ (wordBytes uid ++ (tableBytes gidWidth gidRoom wordBytes gids ++ replicate (slotLength - pendingAt) 0))
 unfolding slotBytes peerBytes restBytes
 newcomer-bytes n uid gids =
     let P = tableBytes callWidth callRoom pendingBytes [] in

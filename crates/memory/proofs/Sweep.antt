@@ -27,8 +27,8 @@ word-first m h b =
     sym (ap (take slotsAt) (word-cut m h b) ∙ take-at (wordBytes (wordAt Little m 0)) (drop slotsAt m) slotsAt (word-length (wordAt Little m 0)))
 
 -- the first four bytes, and the slots with part i put
-put-split : (m y : List ℕ) (i : ℕ) → putAt m i y
-    ≡ take slotsAt m ++ (take (slotLength * i) (drop slotsAt m) ++ (y ++ drop (slotLength * i + slotLength) (drop slotsAt m)))
+put-split : (m y : List ℕ) (i : ℕ)
+    → putAt m i y ≡ take slotsAt m ++ (take (slotLength * i) (drop slotsAt m) ++ (y ++ drop (slotLength * i + slotLength) (drop slotsAt m)))
 put-split m y i =
     let e : slotStart i + slotLength ≡ slotsAt + (slotLength * i + slotLength) = omega arith in
     rw (e, take-add slotsAt (slotLength * i) m, drop-drop (slotLength * i + slotLength) slotsAt m)

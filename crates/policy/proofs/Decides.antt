@@ -11,12 +11,9 @@ use native.Mathlib.Omega.{arith}
 use lib.Dec.{eqb}
 use borrow.Author.Tests.{leb-true, leb-false, ltb-true, ltb-false, eqb-true, eqb-false}
 use Rattle.image.specs.Image.{ruleCount}
-use Rattle.image.specs.declared.Section.the-variants.{Connect, Own, Transaction}
+use Rattle.image.specs.declared.Section.{Section}
 use Rattle.policy.specs.Precedence.{givesWay, takeOver, heard, deciding, Beats, Decides, NoneMatches}
-use Rattle.policy.specs.Matching.{Message}
-use Rattle.policy.specs.Decisions.{connectContext, connectHits, connectDecides, ownContext, ownHits, ownDecides}
-use Rattle.policy.specs.Decisions.{transactionContext, transactionHits, transactionDecides}
-use Rattle.policy.specs.declared.Uid.{Uid}
+use Rattle.policy.specs.Decisions.{contextIn, decidesIn}
 
 -- what holds of each number below n, and of n, holds of each below n + 1
 one-more : (P : ℕ → Type 0) {n : ℕ} → ((j : ℕ) → j < n → P j) → P n → (j : ℕ) → j < suc n → P j
@@ -131,37 +128,13 @@ module _ (contextOf : ℕ → ℕ) (matches : ℕ → Bool) where
   pub undecided-exactly : (n : ℕ) → (deciding contextOf matches n ≡ none) ↔ NoneMatches matches n
   undecided-exactly n = (deciding-none n, deciding-nothing n)
 
--- ---- the three sections of an image
+-- ---- the sections of an image: connect, own, and send and receive, by which rules match (`connectHits`, `ownHits` and `transactionHits`)
 
-module _ (image : List ℕ) (uid : Uid) (gids : List ℕ) where
-  pub connect-exactly : (i : ℕ)
-      → (connectDecides image uid gids ≡ some i) ↔ Decides (connectContext image) (connectHits image uid gids) (ruleCount Connect image) i
-  unfolding connectDecides
-  connect-exactly i = decides-exactly (connectContext image) (connectHits image uid gids) (ruleCount Connect image) i
+module _ (s : Section) (image : List ℕ) (hits : ℕ → Bool) where
+  pub rule-exactly : (i : ℕ) → (decidesIn s image hits ≡ some i) ↔ Decides (contextIn s image) hits (ruleCount s image) i
+  unfolding decidesIn
+  rule-exactly i = decides-exactly (contextIn s image) hits (ruleCount s image) i
 
-  pub connect-undecided : (connectDecides image uid gids ≡ none) ↔ NoneMatches (connectHits image uid gids) (ruleCount Connect image)
-  unfolding connectDecides
-  connect-undecided = undecided-exactly (connectContext image) (connectHits image uid gids) (ruleCount Connect image)
-
-  module _ (name : List ℕ) where
-    pub own-exactly : (i : ℕ)
-        → (ownDecides image uid gids name ≡ some i) ↔ Decides (ownContext image) (ownHits image uid gids name) (ruleCount Own image) i
-    unfolding ownDecides
-    own-exactly i = decides-exactly (ownContext image) (ownHits image uid gids name) (ruleCount Own image) i
-
-    pub own-undecided : (ownDecides image uid gids name ≡ none) ↔ NoneMatches (ownHits image uid gids name) (ruleCount Own image)
-    unfolding ownDecides
-    own-undecided = undecided-exactly (ownContext image) (ownHits image uid gids name) (ruleCount Own image)
-
-  -- send and receive
-  module _ (direction : ℕ) (names : List (List ℕ)) (m : Message) where
-    pub transaction-exactly : (i : ℕ)
-        → (transactionDecides image direction uid gids names m ≡ some i)
-        ↔ Decides (transactionContext image) (transactionHits image direction uid gids names m) (ruleCount Transaction image) i
-    unfolding transactionDecides
-    transaction-exactly i = decides-exactly (transactionContext image) (transactionHits image direction uid gids names m) (ruleCount Transaction image) i
-
-    pub transaction-undecided : (transactionDecides image direction uid gids names m ≡ none)
-        ↔ NoneMatches (transactionHits image direction uid gids names m) (ruleCount Transaction image)
-    unfolding transactionDecides
-    transaction-undecided = undecided-exactly (transactionContext image) (transactionHits image direction uid gids names m) (ruleCount Transaction image)
+  pub rule-undecided : (decidesIn s image hits ≡ none) ↔ NoneMatches hits (ruleCount s image)
+  unfolding decidesIn
+  rule-undecided = undecided-exactly (contextIn s image) hits (ruleCount s image)

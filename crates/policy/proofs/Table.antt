@@ -9,22 +9,21 @@ use Rattle.policy.specs.Precedence.{deciding}
 use Rattle.policy.specs.Names.{owns}
 use Rattle.policy.specs.Subjects.{inGroups, subjectFits}
 use Rattle.policy.specs.Matching.{connectFits, ownedFits, ownFits, partFits, interfaceFits, partsFit, nameFits, transactionFits, transactionMatches}
-use Rattle.policy.specs.Decisions.{connectDecides, mayConnect, ownDecides, mayOwn, transactionDecides, mayTransact}
+use Rattle.policy.specs.Decisions.{decidesIn, mayConnect, mayOwn, mayTransact}
 use Rattle.policy.specs.Table.{DecisionRow, decisionTable, people, messageRows}
 
 abbrev Agree : List DecisionRow → Type 0
 Agree lines = agrees (λ (given : Bool). given) Bool·beq lines ≡ true
 
 pub table-agrees : Agree decisionTable
-unfolding same wordAt wordBytes deciding owns inGroups subjectFits connectFits partFits interfaceFits partsFit nameFits transactionFits
-    transactionMatches connectDecides mayConnect ownDecides mayOwn transactionDecides mayTransact
+unfolding same wordAt wordBytes deciding owns inGroups subjectFits connectFits partFits interfaceFits partsFit nameFits transactionFits transactionMatches
+    decidesIn mayConnect mayOwn mayTransact
 table-agrees = refl
 
 pub people-agree : Agree people
-unfolding same wordAt wordBytes deciding inGroups subjectFits connectFits ownedFits ownFits connectDecides mayConnect ownDecides mayOwn
+unfolding same wordAt wordBytes deciding inGroups subjectFits connectFits ownedFits ownFits decidesIn mayConnect mayOwn
 people-agree = refl
 
 pub messages-agree : Agree messageRows
-unfolding same wordAt wordBytes deciding owns subjectFits partFits interfaceFits partsFit nameFits transactionFits transactionMatches transactionDecides
-    mayTransact
+unfolding same wordAt wordBytes deciding owns subjectFits partFits interfaceFits partsFit nameFits transactionFits transactionMatches decidesIn mayTransact
 messages-agree = refl

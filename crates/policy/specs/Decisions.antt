@@ -5,41 +5,43 @@ use mathlib.Core.Option.{Option}
 use Prim.Native.Nat.{ℕ}
 use lib.Dec.{eqb}
 use Rattle.image.specs.Image.{ruleCount}
+use Rattle.image.specs.declared.Section.{Section}
 use Rattle.image.specs.declared.Section.the-variants.{Connect, Own, Transaction}
-use Rattle.image.specs.Rules.{connectRule, ownRule, transactionRule}
+use Rattle.image.specs.Rules.{policyRule}
 use Rattle.policy.specs.Precedence.{deciding, ruleVerdict}
 use Rattle.policy.specs.Matching.{connectFits, ownFits, Message, transactionMatches}
 use Rattle.policy.specs.declared.Uid.{Uid}
 
--- ---- connect: may a peer with this uid and these gids join? (rule 6.3)
+-- ---- over the rules of any section, of which those match for which `hits` holds
 
-abbrev pub connectContext : List ℕ → ℕ → ℕ
-connectContext image i = connectRule image i .context
+-- the context of rule i, and whether it allows (rules 5.4, 5.5 and 5.6)
+abbrev pub contextIn : Section → List ℕ → ℕ → ℕ
+contextIn s image i = policyRule s image i .context
+
+abbrev pub allowsIn : Section → List ℕ → ℕ → Bool
+allowsIn s image i = eqb (policyRule s image i .verdict) 1
+
+-- the rule that decides (rule 6.1)
+unfoldable pub decidesIn : Section → List ℕ → (ℕ → Bool) → Option ℕ
+decidesIn s image hits = deciding (contextIn s image) hits (ruleCount s image)
+
+-- ---- connect: may a peer with this uid and these gids join? (rule 6.3)
 
 -- connect rule i matches
 abbrev pub connectHits : List ℕ → Uid → List ℕ → ℕ → Bool
-connectHits image uid gids i = connectFits (connectRule image i) uid gids
-
-unfoldable pub connectDecides : List ℕ → Uid → List ℕ → Option ℕ
-connectDecides image uid gids = deciding (connectContext image) (connectHits image uid gids) (ruleCount Connect image)
+connectHits image uid gids i = connectFits (policyRule Connect image i) uid gids
 
 unfoldable pub mayConnect : List ℕ → Uid → List ℕ → Bool
-mayConnect image uid gids = ruleVerdict (λ i. eqb (connectRule image i .verdict) 1) (connectDecides image uid gids)
+mayConnect image uid gids = ruleVerdict (allowsIn Connect image) (decidesIn Connect image (connectHits image uid gids))
 
 -- ---- own: may the peer have this name? (rule 6.4)
 
-abbrev pub ownContext : List ℕ → ℕ → ℕ
-ownContext image i = ownRule image i .context
-
 -- own rule i matches
 abbrev pub ownHits : List ℕ → Uid → List ℕ → List ℕ → ℕ → Bool
-ownHits image uid gids name i = ownFits image (ownRule image i) uid gids name
-
-unfoldable pub ownDecides : List ℕ → Uid → List ℕ → List ℕ → Option ℕ
-ownDecides image uid gids name = deciding (ownContext image) (ownHits image uid gids name) (ruleCount Own image)
+ownHits image uid gids name i = ownFits image (policyRule Own image i) uid gids name
 
 unfoldable pub mayOwn : List ℕ → Uid → List ℕ → List ℕ → Bool
-mayOwn image uid gids name = ruleVerdict (λ i. eqb (ownRule image i .verdict) 1) (ownDecides image uid gids name)
+mayOwn image uid gids name = ruleVerdict (allowsIn Own image) (decidesIn Own image (ownHits image uid gids name))
 
 -- ---- send and receive: uid and gids are the sender's for send and the receiver's for receive, `names` the other party's (rule 6.5)
 
@@ -50,17 +52,10 @@ send = 0
 abbrev pub receive : ℕ
 receive = 1
 
-abbrev pub transactionContext : List ℕ → ℕ → ℕ
-transactionContext image i = transactionRule image i .context
-
 -- transaction rule i matches
 abbrev pub transactionHits : List ℕ → ℕ → Uid → List ℕ → List (List ℕ) → Message → ℕ → Bool
-transactionHits image direction uid gids names m i = transactionMatches image (transactionRule image i) direction uid gids names m
-
-unfoldable pub transactionDecides : List ℕ → ℕ → Uid → List ℕ → List (List ℕ) → Message → Option ℕ
-transactionDecides image direction uid gids names m =
-    deciding (transactionContext image) (transactionHits image direction uid gids names m) (ruleCount Transaction image)
+transactionHits image direction uid gids names m i = transactionMatches image (policyRule Transaction image i) direction uid gids names m
 
 unfoldable pub mayTransact : List ℕ → ℕ → Uid → List ℕ → List (List ℕ) → Message → Bool
 mayTransact image direction uid gids names m =
-    ruleVerdict (λ i. eqb (transactionRule image i .verdict) 1) (transactionDecides image direction uid gids names m)
+    ruleVerdict (allowsIn Transaction image) (decidesIn Transaction image (transactionHits image direction uid gids names m))

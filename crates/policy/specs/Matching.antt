@@ -6,7 +6,7 @@ use Prim.Native.Nat.{ℕ}
 use lib.Dec.{eqb}
 use Rattle.wire.specs.Bytes.{same}
 use Rattle.names.specs.Namespace.{inNamespace}
-use Rattle.image.specs.Rules.{Span, textOf, ConnectRule, OwnRule, TransactionRule}
+use Rattle.image.specs.Rules.{Span, textOf, PolicyRule}
 use Rattle.header.specs.Fields.{textAt, present}
 use Rattle.header.specs.declared.Place.{Place}
 use Rattle.header.specs.declared.Header.{Header}
@@ -17,20 +17,20 @@ use Rattle.policy.specs.declared.Uid.{Uid}
 -- ---- connect
 
 -- a connect rule is about anybody, the user with its id, or whoever has its id among the gids (rule 6.3)
-unfoldable pub connectFits : ConnectRule → Uid → List ℕ → Bool
+unfoldable pub connectFits : PolicyRule → Uid → List ℕ → Bool
 connectFits r uid gids =
     cond (eqb (r .matcher) 0) true (cond (eqb (r .matcher) 1) (sameUser uid (record { 0 = r .id })) (inGroups gids (record { 0 = r .id })))
 
 -- ---- own
 
 -- an own rule is about any name, its own name, or the names under its prefix (rule 6.4)
-unfoldable pub ownedFits : List ℕ → OwnRule → List ℕ → Bool
+unfoldable pub ownedFits : List ℕ → PolicyRule → List ℕ → Bool
 ownedFits image r name =
     cond (eqb (r .matcher) 0) true
     (cond (eqb (r .matcher) 1) (same (textOf image (r .name)) name) (inNamespace (textOf image (r .name)) name))
 
 -- it matches where it is about the peer and about the name (rule 6.4)
-unfoldable pub ownFits : List ℕ → OwnRule → Uid → List ℕ → List ℕ → Bool
+unfoldable pub ownFits : List ℕ → PolicyRule → Uid → List ℕ → List ℕ → Bool
 ownFits image r uid gids name = subjectFits (r .context) (r .subject) uid gids && ownedFits image r name
 
 -- ---- send and receive
@@ -60,26 +60,26 @@ unfoldable pub partFits : List ℕ → Span → Option (List ℕ) → Bool
 partFits image s part = eqb (s .len) 0 || equals (textOf image s) part
 
 -- the interface, by itself since only it can be absent from a message that rules are about (rule 6.7)
-unfoldable pub interfaceFits : List ℕ → TransactionRule → Option (List ℕ) → Bool
+unfoldable pub interfaceFits : List ℕ → PolicyRule → Option (List ℕ) → Bool
 interfaceFits image r interface = partFits image (r .interface) interface
 
 -- path, interface and member, each by itself (rule 6.7)
-unfoldable pub partsFit : List ℕ → TransactionRule → Message → Bool
+unfoldable pub partsFit : List ℕ → PolicyRule → Message → Bool
 partsFit image r m = partFits image (r .path) (m .path) && interfaceFits image r (m .interface) && partFits image (r .member) (m .member)
 
 -- the type is any or the message's (rule 6.5)
-abbrev pub typeFits : TransactionRule → ℕ → Bool
+abbrev pub typeFits : PolicyRule → ℕ → Bool
 typeFits r kind = eqb (r .type) 0 || eqb (r .type) kind
 
 -- the name is any, or one of all those that the other party owns (rule 6.6)
-unfoldable pub nameFits : List ℕ → TransactionRule → List (List ℕ) → Bool
+unfoldable pub nameFits : List ℕ → PolicyRule → List (List ℕ) → Bool
 nameFits image r names = eqb (r .name .len) 0 || owns names (textOf image (r .name))
 
 -- everything but direction and name; uid and gids are the sender's for send and the receiver's for receive (rule 6.5)
-unfoldable pub transactionFits : List ℕ → TransactionRule → Uid → List ℕ → Message → Bool
+unfoldable pub transactionFits : List ℕ → PolicyRule → Uid → List ℕ → Message → Bool
 transactionFits image r uid gids m = typeFits r (m .kind) && subjectFits (r .context) (r .subject) uid gids && partsFit image r m
 
 -- only rules of the asked direction match (rule 6.5)
-unfoldable pub transactionMatches : List ℕ → TransactionRule → ℕ → Uid → List ℕ → List (List ℕ) → Message → Bool
+unfoldable pub transactionMatches : List ℕ → PolicyRule → ℕ → Uid → List ℕ → List (List ℕ) → Message → Bool
 transactionMatches image r direction uid gids names m =
     eqb (r .direction) direction && transactionFits image r uid gids m && nameFits image r names
