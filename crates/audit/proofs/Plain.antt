@@ -29,7 +29,7 @@ use Rattle.memory.specs.Places.{peerFrom}
 use Rattle.memory.proofs.Reading.{slot-take, peer-from}
 use Rattle.memory.proofs.Heads.{single, single-length, head-table, head-of, single-plain}
 use Rattle.memory.proofs.Frame.{pending-length, cell-length, head-length}
-use Rattle.audit.specs.Tests.{tableTest, cellsTest, shapeTest}
+use Rattle.audit.specs.Tests.{tableTest, cellsTest, headFrom, headTest, shapeTest}
 use Rattle.audit.proofs.Shape.{drop-part}
 
 -- a part that starts a part of memory
@@ -68,23 +68,20 @@ module _ (m : List ℕ) (f : (i : ℕ) → getD m i 0 < 256) where
         ∙ rw d
 
     -- where any cell is plain, the zeros alone are left to test
-    table-plain : ((b : List ℕ) → length b ≡ w → ((i : ℕ) → getD b i 0 < 256) → enc (dec b) ≡ b) → (c to : ℕ) → to ≡ c + (4 + w * k) → k < 4294967296
-        → to ≤ length m
-        → same (tableBytes w k enc (tableOf w k dec (drop c m))) (take (4 + w * k) (drop c m)) ≡ tableTest m c w k to
+    table-plain : ((b : List ℕ) → length b ≡ w → ((i : ℕ) → getD b i 0 < 256) → enc (dec b) ≡ b) → (c : ℕ) → k < 4294967296 → c + (4 + w * k) ≤ length m
+        → same (tableBytes w k enc (tableOf w k dec (drop c m))) (take (4 + w * k) (drop c m)) ≡ tableTest m c w k
     unfolding tableTest
-    table-plain always c to e s h = table-cells c s (omega arith) ∙ go (decLe (wordAt Little m c) k)
+    table-plain always c s h = table-cells c s h ∙ go (decLe (wordAt Little m c) k)
       where
         go : Dec (wordAt Little m c ≤ k)
             → leb (wordAt Little m c) k && plainCells enc dec w (wordAt Little m c) (take (w * k) (drop (c + 4) m))
-            ≡ leb (wordAt Little m c) k && allZero (take (to - (c + 4 + w * wordAt Little m c)) (drop (c + 4 + w * wordAt Little m c) m))
+            ≡ leb (wordAt Little m c) k && allZero (take (w * k - w * wordAt Little m c) (drop (c + 4 + w * wordAt Little m c) m))
         go (yes b) =
             let n = wordAt Little m c in
             let o : w * n ≤ w * k = mul-le-mul-left w b in
             let l : length (take (w * k) (drop (c + 4) m)) ≡ w * k = length-take-le (w * k) (drop (c + 4) m) (omega (arith, length-drop (c + 4) m)) in
-            let d : to - (c + 4 + w * n) ≡ w * k - w * n = omega arith in
             rw (
               le-leb n k b,
-              d,
               plain-always w enc sized dec always n (take (w * k) (drop (c + 4) m)) (omega arith) (bytes-take (w * k) (drop (c + 4) m) (bytes-drop (c + 4) m f)),
               drop-part (w * n) (w * k) (w * k - w * n) (drop (c + 4) m) (omega arith),
               drop-drop (w * n) (c + 4) m,
@@ -108,22 +105,13 @@ zeros-join m a b c h k =
     let f : a + (b - a) ≡ b = omega arith in
     rw (e, take-add (b - a) (c - b) (drop a m), drop-drop (b - a) a m, f) (sym (zero-append (take (b - a) (drop a m)) (take (c - b) (drop b m))))
 
--- zeros behind a table up to t, and on from there
-zeros-on : (m : List ℕ) (c w k t u : ℕ) → c + (4 + w * k) ≤ t → t ≤ u → tableTest m c w k t && allZero (take (u - t) (drop t m)) ≡ tableTest m c w k u
-unfolding tableTest
-zeros-on m c w k t u h o = go (decLe (wordAt Little m c) k)
-  where
-    go : Dec (wordAt Little m c ≤ k)
-        → leb (wordAt Little m c) k && allZero (take (t - (c + 4 + w * wordAt Little m c)) (drop (c + 4 + w * wordAt Little m c) m))
-        && allZero (take (u - t) (drop t m))
-        ≡ leb (wordAt Little m c) k && allZero (take (u - (c + 4 + w * wordAt Little m c)) (drop (c + 4 + w * wordAt Little m c) m))
-    go (yes b) =
-        let n = wordAt Little m c in
-        let x : w * n ≤ w * k = mul-le-mul-left w b in
-        rw (le-leb n k b) (zeros-join m (c + 4 + w * n) t u (omega arith) o)
-    go (no b) = rw (lt-leb (wordAt Little m c) k (omega arith))
-
 -- ---- a whole slot
+
+-- the names of the slot that begins at a are few, and plain
+abbrev cellsFrom : List ℕ → ℕ → Bool
+cellsFrom m a =
+    leb (wordAt Little m (a + namesAt)) nameRoom
+    && plainCells cellOf nameOf nameWidth (wordAt Little m (a + namesAt)) (take (nameWidth * nameRoom) (drop (a + firstName) m))
 
 module _ (m : List ℕ) (f : (i : ℕ) → getD m i 0 < 256) (a : ℕ) (h : a + slotLength ≤ length m) where
   head-is : tableOf 1 headRoom front (drop (a + headAt) m) ≡ take (min (wordAt Little m (a + headAt)) headRoom) (drop (a + firstByte) m)
@@ -132,11 +120,11 @@ module _ (m : List ℕ) (f : (i : ℕ) → getD m i 0 < 256) (a : ℕ) (h : a + 
       sym (head-of (drop (a + headAt) m) (omega (arith, length-drop (a + headAt) m))) ∙ rw (word-front m (a + headAt), drop-drop 4 (a + headAt) m, e)
 
   head-plain : same (headBytes (take (min (wordAt Little m (a + headAt)) headRoom) (drop (a + firstByte) m))) (take keptLength (drop (a + headAt) m))
-      ≡ tableTest m (a + headAt) 1 headRoom (a + restAt)
+      ≡ tableTest m (a + headAt) 1 headRoom
   head-plain =
       ap (λ (z : List ℕ). same z (take keptLength (drop (a + headAt) m)))
       (ap headBytes (sym head-is) ∙ head-table (tableOf 1 headRoom front (drop (a + headAt) m)))
-      ∙ table-plain m f 1 headRoom single single-length front single-plain (a + headAt) (a + restAt) (omega arith) (omega arith) (omega arith)
+      ∙ table-plain m f 1 headRoom single single-length front single-plain (a + headAt) (omega arith) (omega arith)
 
   rest-plain : same restBytes (take restLength (drop (a + restAt) m)) ≡ allZero (take (a + slotLength - (a + restAt)) (drop (a + restAt) m))
   unfolding restBytes
@@ -147,20 +135,29 @@ module _ (m : List ℕ) (f : (i : ℕ) → getD m i 0 < 256) (a : ℕ) (h : a + 
   -- the head and what stands behind it
   end-plain : same (headBytes (take (min (wordAt Little m (a + headAt)) headRoom) (drop (a + firstByte) m)) ++ restBytes)
       (take (slotLength - headAt) (drop (a + headAt) m))
-      ≡ tableTest m (a + headAt) 1 headRoom (a + slotLength)
+      ≡ headFrom m a
+  unfolding tableTest
   end-plain =
       let t = headBytes (take (min (wordAt Little m (a + headAt)) headRoom) (drop (a + firstByte) m)) in
       let e : a + headAt + keptLength ≡ a + restAt = omega arith in
       same-part t restBytes m (a + headAt) keptLength (slotLength - headAt) (head-length _) (omega arith)
       ∙ ap₂ _&&_ head-plain (ap (λ (b : ℕ). same restBytes (take restLength (drop b m))) e ∙ rest-plain)
-      ∙ zeros-on m (a + headAt) 1 headRoom (a + restAt) (a + slotLength) (omega arith) (omega arith)
+      ∙ go (decLe (wordAt Little m (a + headAt)) headRoom)
+    where
+      go : Dec (wordAt Little m (a + headAt) ≤ headRoom)
+          → tableTest m (a + headAt) 1 headRoom && allZero (take (a + slotLength - (a + restAt)) (drop (a + restAt) m)) ≡ headFrom m a
+      go (yes b) =
+          let n = wordAt Little m (a + headAt) in
+          let p : 1 * headRoom - 1 * n ≡ a + restAt - (a + firstByte + n) = omega arith in
+          let q : a + headAt + 4 + 1 * n ≡ a + firstByte + n = omega arith in
+          rw (le-leb n headRoom b, p, q) (zeros-join m (a + firstByte + n) (a + restAt) (a + slotLength) (omega arith) (omega arith))
+      go (no b) = rw (lt-leb (wordAt Little m (a + headAt)) headRoom (omega arith))
 
   pub peer-plain : same (peerBytes (peerFrom m a)) (take slotLength (drop a m))
-      ≡ tableTest m (a + gidsAt) gidWidth gidRoom (a + pendingAt)
-      && (tableTest m (a + pendingAt) callWidth callRoom (a + namesAt)
-      && ((leb (wordAt Little m (a + namesAt)) nameRoom
-      && plainCells cellOf nameOf nameWidth (wordAt Little m (a + namesAt)) (take (nameWidth * nameRoom) (drop (a + firstName) m)))
-      && tableTest m (a + headAt) 1 headRoom (a + slotLength)))
+      ≡ tableTest m (a + gidsAt) gidWidth gidRoom
+      && (tableTest m (a + pendingAt) callWidth callRoom
+      && (cellsFrom m a
+      && headFrom m a))
   unfolding peerBytes
   peer-plain =
       let g = tableBytes gidWidth gidRoom wordBytes (tableOf gidWidth gidRoom wordOf (drop (a + gidsAt) m)) in
@@ -180,21 +177,16 @@ module _ (m : List ℕ) (f : (i : ℕ) → getD m i 0 < 256) (a : ℕ) (h : a + 
       ∙ rw u
       (same-part g (p ++ (n ++ s)) m (a + gidsAt) gidsLength (slotLength - gidsAt)
       (table-length gidWidth gidRoom wordBytes (tableOf gidWidth gidRoom wordOf (drop (a + gidsAt) m))) (omega arith)
-      ∙ rw (v, table-plain m f gidWidth gidRoom wordBytes word-length wordOf bytes-again (a + gidsAt) (a + pendingAt) (omega arith) (omega arith) (omega arith))
-      (ap (λ (b : Bool). tableTest m (a + gidsAt) gidWidth gidRoom (a + pendingAt) && b)
+      ∙ rw (v, table-plain m f gidWidth gidRoom wordBytes word-length wordOf bytes-again (a + gidsAt) (omega arith) (omega arith))
+      (ap (λ (b : Bool). tableTest m (a + gidsAt) gidWidth gidRoom && b)
       (same-part p (n ++ s) m (a + pendingAt) pendingLength (slotLength - pendingAt)
       (table-length callWidth callRoom pendingBytes (tableOf callWidth callRoom pendingOf (drop (a + pendingAt) m))) (omega arith)
-      ∙ rw (
-        w,
-        table-plain m f callWidth callRoom pendingBytes pending-length pendingOf pending-again (a + pendingAt) (a + namesAt) (omega arith) (omega arith)
-            (omega arith),
-      )
-      (ap (λ (b : Bool). tableTest m (a + pendingAt) callWidth callRoom (a + namesAt) && b)
+      ∙ rw (w, table-plain m f callWidth callRoom pendingBytes pending-length pendingOf pending-again (a + pendingAt) (omega arith) (omega arith))
+      (ap (λ (b : Bool). tableTest m (a + pendingAt) callWidth callRoom && b)
       (same-part n s m (a + namesAt) namesLength (slotLength - namesAt)
       (table-length nameWidth nameRoom cellOf (tableOf nameWidth nameRoom nameOf (drop (a + namesAt) m))) (omega arith)
       ∙ rw (x, table-cells m f nameWidth nameRoom cellOf cell-length nameOf (a + namesAt) (omega arith) (omega arith), z)
-      (ap (λ (b : Bool). (leb (wordAt Little m (a + namesAt)) nameRoom
-      && plainCells cellOf nameOf nameWidth (wordAt Little m (a + namesAt)) (take (nameWidth * nameRoom) (drop (a + firstName) m))) && b)
+      (ap (λ (b : Bool). cellsFrom m a && b)
       (ap (λ (l : List ℕ). same l (take (slotLength - takenAt) (drop (a + takenAt) m))) (append-assoc k t restBytes)
       ∙ word-same m f (t ++ restBytes) (a + takenAt) (slotLength - takenAt) (omega arith) (omega arith)
       ∙ rw y end-plain)))))))
@@ -207,17 +199,15 @@ and-assoc false b c d = refl
 -- slot i has a peer, and is the bytes of what is read off it where it has its shape
 pub slot-plain : (m : List ℕ) → ((i : ℕ) → getD m i 0 < 256) → length m ≡ memoryLength → (i : ℕ) → i < 16 → (wordAt Little m (slotStart i) ≡ 0 → ⊥)
     → same (slotBytes (slotOf (take slotLength (drop (slotStart i) m)))) (take slotLength (drop (slotStart i) m)) ≡ shapeTest m i
-unfolding slotOf slotBytes shapeTest cellsTest
+unfolding slotOf slotBytes shapeTest cellsTest headTest
 slot-plain m f l i h e =
     let a = slotStart i in
     let q : slotOf (take slotLength (drop a m)) ≡ peer (peerFrom m a)
     = slot-take (drop a m) ∙ rw (word-front m a, ne-eqb (wordAt Little m a) 0 e) (ap peer (peer-from m a)) in
     ap (λ (x : Slot Tail). same (slotBytes x) (take slotLength (drop a m))) q
     ∙ peer-plain m f a (omega arith)
-    ∙ and-assoc (tableTest m (a + gidsAt) gidWidth gidRoom (a + pendingAt)) (tableTest m (a + pendingAt) callWidth callRoom (a + namesAt))
-    (leb (wordAt Little m (a + namesAt)) nameRoom
-    && plainCells cellOf nameOf nameWidth (wordAt Little m (a + namesAt)) (take (nameWidth * nameRoom) (drop (a + firstName) m)))
-    (tableTest m (a + headAt) 1 headRoom (a + slotLength))
+    ∙ and-assoc (tableTest m (a + gidsAt) gidWidth gidRoom) (tableTest m (a + pendingAt) callWidth callRoom)
+    (cellsFrom m a) (headFrom m a)
 
 -- a free slot is all zero
 pub free-plain : (m : List ℕ) → length m ≡ memoryLength → (i : ℕ) → i < 16 → wordAt Little m (slotStart i) ≡ 0

@@ -19,10 +19,10 @@ use Rattle.wire.proofs.Parts.{drop-take}
 use Rattle.tables.specs.Tables.{plainCells}
 use Rattle.tables.proofs.Same.{same-pad, plain-next, plain-end}
 use Rattle.policy.specs.Names.{cellOf, nameOf}
-use Rattle.memory.specs.Layout.{memoryLength, slotStart, namesAt, firstName, nameWidth, nameRoom, takenAt, headRoom, nameLimit}
+use Rattle.memory.specs.Layout.{memoryLength, slotStart, namesAt, firstName, nameWidth, nameRoom, takenAt, headRoom, nameLimit, headAt, firstByte, slotLength}
 use Rattle.memory.proofs.Frame.{cell-length}
 use Rattle.slots.proofs.Cells.{cell-front}
-use Rattle.audit.specs.Tests.{plainCell, tableTest, cellsTest}
+use Rattle.audit.specs.Tests.{plainCell, tableTest, cellsTest, headTest}
 
 -- ---- a product in bounds
 
@@ -36,16 +36,32 @@ pub ruleset scaling = (scale-low, scale-fits, needs)
 
 -- ---- a table
 
-module _ (m : List ℕ) (at w k to n : ℕ) (e : n ≡ wordAt Little m at) where
-  pub table-many : k < n → false ≡ tableTest m at w k to
+module _ (m : List ℕ) (at w k n : ℕ) (e : n ≡ wordAt Little m at) where
+  pub table-many : k < n → false ≡ tableTest m at w k
   unfolding tableTest
   table-many h = rw (← e, lt-leb n k h)
 
-  pub table-zero : n ≤ k → (s : ℕ) (r : Bool) → s ≡ w * n → r ≡ allZero (take (to - (at + 4 + s)) (drop (at + 4 + s) m)) → r ≡ tableTest m at w k to
+  pub table-zero : n ≤ k → (s t : ℕ) (r : Bool) → s ≡ w * n → t ≡ w * k → r ≡ allZero (take (at + 4 + t - (at + 4 + s)) (drop (at + 4 + s) m)) → r ≡ tableTest m at w k
   unfolding tableTest
-  table-zero h s r p z = z ∙ rw (← e, le-leb n k h, p)
+  table-zero h s t r p q z =
+      let d : at + 4 + t - (at + 4 + s) ≡ t - s = omega arith in
+      z ∙ rw (← e, le-leb n k h, d, p, q)
 
 pub ruleset tables = (table-many, table-zero, needs)
+
+-- ---- the head
+
+module _ (m : List ℕ) (i n : ℕ) (e : n ≡ wordAt Little m (slotStart i + headAt)) where
+  pub head-many : headRoom < n → false ≡ headTest m i
+  unfolding headTest
+  head-many h = rw (← e, lt-leb n headRoom h)
+
+  pub head-zero : n ≤ headRoom → (r : Bool) → r ≡ allZero (take (slotStart i + slotLength - (slotStart i + firstByte + n)) (drop (slotStart i + firstByte + n) m))
+      → r ≡ headTest m i
+  unfolding headTest
+  head-zero h r z = z ∙ rw (← e, le-leb n headRoom h)
+
+pub ruleset heads = (head-many, head-zero, needs)
 
 -- ---- a name's cell
 

@@ -26,16 +26,16 @@ use Rattle.memory.specs.Good.{goodNames, goodPending, goodPeer, goodSlot, goodS
 use Rattle.memory.specs.Places.{numberAt, FoundSlot}
 use Rattle.memory.proofs.Reading.{sixteen, slot-at, slot-part, slot-free, slot-peer, gids-many, pending-many, names-many}
 use Rattle.slots.specs.Slots.{peerAt}
-use Rattle.audit.specs.Tests.{tableTest, cellsTest, shapeTest, slotTest}
+use Rattle.audit.specs.Tests.{tableTest, cellsTest, headTest, shapeTest, slotTest}
 use Rattle.audit.proofs.Found.{found-any}
 use Rattle.audit.proofs.Plain.{slot-plain, free-plain}
 
 -- ---- its shape
 
-pub shape-is : (m : List ℕ) (i : ℕ) (a b c d : Bool) → a ≡ tableTest m (slotStart i + gidsAt) gidWidth gidRoom (slotStart i + pendingAt)
-    → b ≡ tableTest m (slotStart i + pendingAt) callWidth callRoom (slotStart i + namesAt)
+pub shape-is : (m : List ℕ) (i : ℕ) (a b c d : Bool) → a ≡ tableTest m (slotStart i + gidsAt) gidWidth gidRoom
+    → b ≡ tableTest m (slotStart i + pendingAt) callWidth callRoom
     → c ≡ cellsTest m i
-    → d ≡ tableTest m (slotStart i + headAt) 1 headRoom (slotStart i + slotLength)
+    → d ≡ headTest m i
     → a && b && c && d ≡ shapeTest m i
 unfolding shapeTest
 shape-is m i a b c d p q r s = rw (p, q, r, s)

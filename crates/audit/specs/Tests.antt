@@ -15,7 +15,7 @@ use Rattle.rules.specs.Pending.{awaits}
 use Rattle.rules.specs.Calls.{isOwner}
 use Rattle.tables.specs.Tables.{plainCells}
 use Rattle.memory.specs.Layout.{slotLength, slotStart, gidsAt, gidWidth, gidRoom, pendingAt, firstCallee, firstSerial, callWidth, callRoom, namesAt}
-use Rattle.memory.specs.Layout.{firstName, nameWidth, nameRoom, headAt, headRoom}
+use Rattle.memory.specs.Layout.{firstName, nameWidth, nameRoom, headAt, headRoom, firstByte}
 use Rattle.memory.specs.Encoding.{slotBytes, slotOf, stateOf}
 use Rattle.memory.specs.Good.{nobody, goodSlot}
 use Rattle.slots.specs.Slots.{peerAt, nameAt}
@@ -41,11 +41,11 @@ callTest m i j =
 
 -- ---- shape: zeros behind what a slot holds (rule 10.5)
 
--- a table at a place has at most k things of w bytes, and zeros behind them up to a place
-unfoldable pub tableTest : List ℕ → ℕ → ℕ → ℕ → ℕ → Bool
-tableTest m at w k to =
+-- a table at a place has at most k things of w bytes, and zeros behind them
+unfoldable pub tableTest : List ℕ → ℕ → ℕ → ℕ → Bool
+tableTest m at w k =
     leb (wordAt Little m at) k
-    && allZero (take (to - (at + 4 + w * wordAt Little m at)) (drop (at + 4 + w * wordAt Little m at) m))
+    && allZero (take (w * k - w * wordAt Little m at) (drop (at + 4 + w * wordAt Little m at) m))
 
 -- behind name j of slot i its cell is zero
 unfoldable pub plainCell : List ℕ → ℕ → ℕ → Bool
@@ -59,12 +59,21 @@ cellsTest m i =
     leb (wordAt Little m (slotStart i + namesAt)) nameRoom
     && plainCells cellOf nameOf nameWidth (wordAt Little m (slotStart i + namesAt)) (take (nameWidth * nameRoom) (drop (slotStart i + firstName) m))
 
+-- the head of the slot that begins at a has at most its room, and zeros behind it up to the end of the slot
+abbrev pub headFrom : List ℕ → ℕ → Bool
+headFrom m a =
+    leb (wordAt Little m (a + headAt)) headRoom
+    && allZero (take (a + slotLength - (a + firstByte + wordAt Little m (a + headAt))) (drop (a + firstByte + wordAt Little m (a + headAt)) m))
+
+unfoldable pub headTest : List ℕ → ℕ → Bool
+headTest m i = headFrom m (slotStart i)
+
 unfoldable pub shapeTest : List ℕ → ℕ → Bool
 shapeTest m i =
-    tableTest m (slotStart i + gidsAt) gidWidth gidRoom (slotStart i + pendingAt)
-    && tableTest m (slotStart i + pendingAt) callWidth callRoom (slotStart i + namesAt)
+    tableTest m (slotStart i + gidsAt) gidWidth gidRoom
+    && tableTest m (slotStart i + pendingAt) callWidth callRoom
     && cellsTest m i
-    && tableTest m (slotStart i + headAt) 1 headRoom (slotStart i + slotLength)
+    && headTest m i
 
 -- ---- a slot
 

@@ -29,7 +29,7 @@ ghost use Rattle.memory.specs.Good.{goodNames, goodPending, goodPeer, good};
 ghost use Rattle.memory.specs.Places.{numberAt};
 ghost use Rattle.stream.specs.Tail.{goodTail};
 ghost use Rattle.slots.specs.Slots.{peerAt, At};
-ghost use Rattle.audit.specs.Tests.{nameTest, callTest, plainCell, tableTest, cellsTest, shapeTest, slotTest};
+ghost use Rattle.audit.specs.Tests.{nameTest, callTest, plainCell, tableTest, cellsTest, headTest, shapeTest, slotTest};
 
 // Name j of slot i is ownable, and stands nowhere else from there on.
 fn is_name_good(memory: &[u8], i: usize, j: usize) -> bool
@@ -103,16 +103,17 @@ fn scaled(w: usize, n: usize, k: usize) -> usize
     w * n
 }
 
-// The table at a place has at most k things of w bytes, and zeros behind them up to `to`.
-fn is_table(memory: &[u8], at: usize, w: usize, k: usize, to: usize) -> bool
-    requires { ⌜ (length (now memory) ≡ memoryLength) × (w * k ≤ headRoom) × (at + 4 + w * k ≤ to) × (to ≤ memoryLength) ⌝ }
-    ensures { λ r. ⌜ r ≡ tableTest (now (memory .entry)) at w k to ⌝ }
+// The table at a place has at most k things of w bytes, and zeros behind them.
+fn is_table(memory: &[u8], at: usize, w: usize, k: usize) -> bool
+    requires { ⌜ (length (now memory) ≡ memoryLength) × (w * k ≤ headRoom) × (at + 4 + w * k ≤ memoryLength) ⌝ }
+    ensures { λ r. ⌜ r ≡ tableTest (now (memory .entry)) at w k ⌝ }
 {
     let n = wire::u32_at(Order::Little, memory, at) as usize;
     if k < n {
         return false;
     }
     let from = at + 4 + scaled(w, n, k);
+    let to = at + 4 + scaled(w, k, k);
     wire::is_zero(memory, from, to)
 }
 
@@ -149,22 +150,29 @@ fn are_cells_plain(memory: &[u8], i: usize) -> bool
     )
 }
 
+// The head of slot i has at most its room, and zeros behind it up to the end of the slot.
+fn is_head_plain(memory: &[u8], i: usize) -> bool
+    requires { ⌜ At (now memory) i ⌝ }
+    ensures { λ r. ⌜ r ≡ headTest (now (memory .entry)) i ⌝ }
+{
+    let n = slots::word_at(memory, i, HEAD_AT) as usize;
+    if HEAD_ROOM < n {
+        return false;
+    }
+    let at = SLOTS_AT + SLOT_LENGTH * i;
+    wire::is_zero(memory, at + FIRST_BYTE + n, at + SLOT_LENGTH)
+}
+
 // Slot i is zero behind what it holds (rule 10.5).
 fn is_shaped(memory: &[u8], i: usize) -> bool
     requires { ⌜ At (now memory) i ⌝ }
     ensures { λ r. ⌜ r ≡ shapeTest (now (memory .entry)) i ⌝ }
 {
     let at = SLOTS_AT + SLOT_LENGTH * i;
-    is_table(memory, at + GIDS_AT, GID_WIDTH, GID_ROOM, at + PENDING_AT)
-        & is_table(
-            memory,
-            at + PENDING_AT,
-            CALL_WIDTH,
-            CALL_ROOM,
-            at + NAMES_AT,
-        )
+    is_table(memory, at + GIDS_AT, GID_WIDTH, GID_ROOM)
+        & is_table(memory, at + PENDING_AT, CALL_WIDTH, CALL_ROOM)
         & are_cells_plain(memory, i)
-        & is_table(memory, at + HEAD_AT, 1, HEAD_ROOM, at + SLOT_LENGTH)
+        & is_head_plain(memory, i)
 }
 
 // The stream of slot i is good.

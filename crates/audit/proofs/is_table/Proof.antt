@@ -13,5 +13,8 @@ is-table-spec =
     (λ c. search tables)
     (λ c κs. search tables)
     (λ c. search tables)
+    (λ c. search tables)
+    (λ c κs. search tables)
+    (λ c. search tables)
     (λ c κs. search tables)
     (λ c. search tables))
