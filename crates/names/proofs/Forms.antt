@@ -9,29 +9,33 @@ use lib.ListN.{length, take, drop, getD}
 use borrow.Author.Needs.{needs}
 use borrow.Author.Tests.{le-leb, lt-leb, eq-eqb, ne-eqb, eqb-true, not-true, not-false}
 use Rattle.wire.proofs.Words.{rest-at}
-use Rattle.names.specs.declared.Shape.{Shape}
-use Rattle.names.specs.Names.{pieces, dotted, startsWith, wellKnown, unique, validName, counted}
-use Rattle.names.specs.Names.{interfaceShape, wellKnownShape, uniqueShape, memberShape, pathShape}
-use Rattle.names.specs.Near.{listed, parted, several}
+use Rattle.names.specs.Names.{word, pieces, dotted, startsWith, wellKnown, unique, validName, counted}
+use Rattle.names.specs.Names.{interfaceShape, wellKnownShape, memberShape, pathShape}
+use Rattle.names.specs.Near.{dots, listed, parted, several}
 use Rattle.names.specs.declared.Form.{Form}
 use Rattle.names.specs.declared.Form.the-variants.{Interface, WellKnown, Unique, BusName, Member, Path}
 use Rattle.names.proofs.Scan.{passed}
 
 -- ---- two elements or more, one alone, one or more: of a short text by the count, of a long one by the scan
 
-module _ (s : List ℕ) (shape : Shape) where
-  pub several-short : {n : ℕ} → n ≡ counted shape s → leb 2 n ≡ several shape s
-  unfolding several
-  several-short e = rw e (passed shape (leb 2) s refl)
+-- a dot is no byte of an element
+pub dot : (dash : Bool) → word dash 46 ≡ false
+dot true = refl
+dot false = refl
 
-  module _ {q : Bool} (f : q ≡ parted (shape .separator) s) where
-    pub several-not : not q ≡ true → false ≡ several shape s
+module _ (s : List ℕ) (dash lead : Bool) where
+  pub several-short : {n : ℕ} → n ≡ counted (dots dash lead) s → leb 2 n ≡ several dash lead s
+  unfolding several
+  several-short e = rw e (passed (dots dash lead) (leb 2) s refl)
+
+  module _ {q : Bool} (f : q ≡ parted 46 s) where
+    pub several-not : not q ≡ true → false ≡ several dash lead s
     unfolding several parted
     several-not t = rw (← f, not-true q t, and-false)
 
-    pub several-long : not q ≡ false → shape .many ≡ true → {p : Bool} → p ≡ listed shape s → p ≡ several shape s
+    pub several-long : not q ≡ false → {p : Bool} → p ≡ listed (dots dash lead) s → p ≡ several dash lead s
     unfolding several listed parted
-    several-long t m e = e ∙ rw (← f, not-false q t, m)
+    several-long t e = e ∙ rw (← f, not-false q t)
 
 module _ (s : List ℕ) where
   pub walk-short : {n : ℕ} → n ≡ counted pathShape s → leb 1 n ≡ listed pathShape s
@@ -41,8 +45,8 @@ module _ (s : List ℕ) where
   -- ---- each form
 
   module _ (h : 255 < length s) where
-    pub dotted-long : (shape : Shape) → false ≡ dotted shape s
-    dotted-long shape = rw (lt-leb (length s) 255 h)
+    pub dotted-long : (dash : Bool) → false ≡ dotted (dots dash false) s
+    dotted-long dash = rw (lt-leb (length s) 255 h)
 
     pub unique-long : false ≡ validName Unique s
     unfolding validName unique
@@ -52,9 +56,9 @@ module _ (s : List ℕ) where
     unfolding validName
     member-too-long = rw (lt-leb (length s) 255 h)
 
-  pub dotted-is : (shape : Shape) → length s ≤ 255 → {r : Bool} → r ≡ several shape s → r ≡ dotted shape s
+  pub dotted-is : (dash : Bool) → length s ≤ 255 → {r : Bool} → r ≡ several dash false s → r ≡ dotted (dots dash false) s
   unfolding several
-  dotted-is shape h e = rw (le-leb (length s) 255 h) e
+  dotted-is dash h e = rw (le-leb (length s) 255 h) e
 
   pub member-short : length s < 9 → {n : ℕ} → n ≡ counted memberShape s → eqb n 1 ≡ validName Member s
   unfolding validName
@@ -89,7 +93,7 @@ module _ (s : List ℕ) where
   unfolding validName unique
   unique-not e = rw (starts-not 58 s e, and-false)
 
-  pub unique-is : (length s ≡ 0 → ⊥) → getD s 0 0 ≡ 58 → length s ≤ 255 → {r : Bool} → r ≡ several uniqueShape (take (length s - 1) (drop 1 s)) → r ≡ validName Unique s
+  pub unique-is : (length s ≡ 0 → ⊥) → getD s 0 0 ≡ 58 → length s ≤ 255 → {r : Bool} → r ≡ several true true (take (length s - 1) (drop 1 s)) → r ≡ validName Unique s
   unfolding validName unique several
   unique-is n e h f = rw (le-leb (length s) 255 h, starts 58 s n e, ← rest-at 1 s) f
 
@@ -149,4 +153,4 @@ module _ (f : Form) (s : List ℕ) where
   asked-well-known e h = rw e h
 
 -- what answers the needs of the forms' functions
-pub ruleset forms = (several-short, several-not, several-long, walk-short, dotted-long, unique-long, member-too-long, dotted-is, member-short, member-long, unique-none, unique-not, unique-is, path-none, path-not, path-root, path-more, asked, asked-interface, asked-well-known, bus-none, bus-unique, bus-well-known, needs)
+pub ruleset forms = (dot, several-short, several-not, several-long, walk-short, dotted-long, unique-long, member-too-long, dotted-is, member-short, member-long, unique-none, unique-not, unique-is, path-none, path-not, path-root, path-more, asked, asked-interface, asked-well-known, bus-none, bus-unique, bus-well-known, needs)

@@ -5,12 +5,17 @@ use mathlib.Core.List.{List}
 use Prim.Native.Nat.{ℕ, zero, suc}
 use lib.Dec.{leb, eqb}
 use lib.ListN.{length, getD}
+use Rattle.wire.specs.Bytes.{byte}
 use Rattle.names.specs.declared.Shape.{Shape}
 use Rattle.names.specs.Names.{digit, word, pieces, elements, twoOrMore}
 
 -- the shape with these parts
 abbrev pub shaped : ℕ → Bool → Bool → Bool → Shape
 shaped separator dash lead many = record { separator = separator; dash = dash; lead = lead; many = many }
+
+-- elements with dots between them
+abbrev pub dots : Bool → Bool → Shape
+dots dash lead = shaped (byte ".") dash lead true
 
 -- b may follow p: a separator, where there may be `many` elements, after what is none; or an element's byte, with a digit after a separator only
 -- where `lead`. The first byte of a name follows a separator, so to say
@@ -32,5 +37,5 @@ listed shape s = elements shape s && (shape .many || eqb (length (pieces (shape 
 unfoldable pub parted : ℕ → List ℕ → Bool
 parted sep s = leb 2 (length (pieces sep s))
 
-unfoldable pub several : Shape → List ℕ → Bool
-several shape s = twoOrMore shape s
+unfoldable pub several : Bool → Bool → List ℕ → Bool
+several dash lead s = twoOrMore (dots dash lead) s

@@ -4,7 +4,7 @@ ghost use mathlib.Core.Bool.{true, false};
 ghost use Prim.Native.Nat.{_+_, _≤_, _<_};
 ghost use lib.ListN.{length};
 ghost use Rattle.names.specs.Names.{dotted, validName, counted, digit, word, pathShape};
-ghost use Rattle.names.specs.Near.{shaped, near, pairs, listed, parted, several};
+ghost use Rattle.names.specs.Near.{shaped, dots, near, pairs, listed, parted, several};
 ghost use Rattle.names.specs.Namespace.{inNamespace};
 
 pub enum Form {
@@ -157,7 +157,7 @@ fn pair_blocks(s: &[u8], n: usize, shape: Shape) -> bool
 }
 
 // The scan of a long text. The first byte stands as if after a separator. The shape comes in its parts, each in a register: as one word, taking it
-// apart costs a tenth of a short scan.
+// apart costs a twentieth of a name of 30 bytes.
 fn is_scanned(s: &[u8], separator: u8, dash: bool, lead: bool, many: bool) -> bool
     requires { ⌜ (9 ≤ length (now s)) × (word dash separator ≡ false) ⌝ }
     ensures { λ r. ⌜ r ≡ listed (shaped separator dash lead many) (now (s .entry)) ⌝ }
@@ -194,29 +194,33 @@ fn is_parted(s: &[u8], sep: u8) -> bool
     false
 }
 
-// Two elements or more. A separator comes early in a name, so it is looked for first.
-fn is_several(s: &[u8], shape: Shape) -> bool
-    requires { ⌜ (word (shape .dash) (shape .separator) ≡ false) × (shape .many ≡ true) ⌝ }
-    ensures { λ r. ⌜ r ≡ several shape (now (s .entry)) ⌝ }
+// Two elements or more, with dots between them. A dot comes early in a name, so it is looked for first.
+fn is_several(s: &[u8], dash: bool, lead: bool) -> bool
+    ensures { λ r. ⌜ r ≡ several dash lead (now (s .entry)) ⌝ }
 {
+    let shape = Shape {
+        separator: b'.',
+        dash,
+        lead,
+        many: true,
+    };
     if s.len() < 9 {
         return 2 <= count(s, shape);
     }
-    if !is_parted(s, shape.separator) {
+    if !is_parted(s, b'.') {
         return false;
     }
     is_listed(s, shape)
 }
 
-// An interface name, or with dashes a well-known name.
-fn is_dotted(s: &[u8], shape: Shape) -> bool
-    requires { ⌜ (word (shape .dash) (shape .separator) ≡ false) × (shape .many ≡ true) ⌝ }
-    ensures { λ r. ⌜ r ≡ dotted shape (now (s .entry)) ⌝ }
+// An interface name, or with dashes a well-known name. No digit begins an element of either.
+fn is_dotted(s: &[u8], dash: bool) -> bool
+    ensures { λ r. ⌜ r ≡ dotted (dots dash false) (now (s .entry)) ⌝ }
 {
     if 255 < s.len() {
         return false;
     }
-    is_several(s, shape)
+    is_several(s, dash, INTERFACE.lead)
 }
 
 fn is_unique(s: &[u8]) -> bool
@@ -231,7 +235,7 @@ fn is_unique(s: &[u8]) -> bool
     if 255 < s.len() {
         return false;
     }
-    is_several(&s[1..], UNIQUE)
+    is_several(&s[1..], UNIQUE.dash, UNIQUE.lead)
 }
 
 fn is_member(s: &[u8]) -> bool
@@ -281,7 +285,7 @@ fn is_bus_name(s: &[u8]) -> bool
     if s[0] == b':' {
         return is_unique(s);
     }
-    is_dotted(s, WELL_KNOWN)
+    is_dotted(s, WELL_KNOWN.dash)
 }
 
 // The bytes are a name of the form.
@@ -289,8 +293,8 @@ pub fn is_valid(form: Form, s: &[u8]) -> bool
     ensures { λ r. ⌜ r ≡ validName form (now (s .entry)) ⌝ }
 {
     match form {
-        Form::Interface => is_dotted(s, INTERFACE),
-        Form::WellKnown => is_dotted(s, WELL_KNOWN),
+        Form::Interface => is_dotted(s, INTERFACE.dash),
+        Form::WellKnown => is_dotted(s, WELL_KNOWN.dash),
         Form::Unique => is_unique(s),
         Form::BusName => is_bus_name(s),
         Form::Member => is_member(s),

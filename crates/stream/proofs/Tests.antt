@@ -46,11 +46,16 @@ module _ (region : List ℕ) (s : Stream) (i : s .stored ≤ length region) wher
   not-good end e n = sym (good-is end (fitting (judge (tailIn region s)) (s .taken) (kept region s)) e refl ∙ rw (ne-eqb (s .stored) (min (s .taken) end) n))
 
   -- in the head every byte is kept
-  unread : (end : ℕ) → headEnd (kept region s) ≡ end → readHeader (kept region s) ≡ Short → s .stored < end → eqb (s .taken) (s .stored) ≡ goodTail (tailIn region s)
+  unread : (end : ℕ) → headEnd (kept region s) ≡ end → readHeader (kept region s) ≡ Short → s .stored < end
+      → eqb (s .taken) (s .stored) ≡ goodTail (tailIn region s)
   unread end e q l =
       agree (eqb (s .taken) (s .stored)) (eqb (s .stored) (min (s .taken) end) && true)
-      (λ p. let t = eqb-true (s .taken) (s .stored) p in both-true (eqb (s .stored) (min (s .taken) end)) true (eq-eqb (s .stored) (min (s .taken) end) (omega arith)) refl)
-      (λ p. let t = eqb-true (s .stored) (min (s .taken) end) (both-first (eqb (s .stored) (min (s .taken) end)) true p) in eq-eqb (s .taken) (s .stored) (omega arith))
+      (λ p.
+      let t = eqb-true (s .taken) (s .stored) p in
+      both-true (eqb (s .stored) (min (s .taken) end)) true (eq-eqb (s .stored) (min (s .taken) end) (omega arith)) refl)
+      (λ p.
+      let t = eqb-true (s .stored) (min (s .taken) end) (both-first (eqb (s .stored) (min (s .taken) end)) true p) in
+      eq-eqb (s .taken) (s .stored) (omega arith))
       ∙ sym (good-is end true e (rw q))
 
   pub good-few : s .stored < 16 → eqb (s .taken) (s .stored) ≡ goodTail (tailIn region s)
@@ -134,7 +139,8 @@ module _ {region : List ℕ} {s : Stream} {message : ℕ} (w : WholeTail region 
 
   pub whole-body : {x : Header} → r ≡ Whole x → ltb (s .taken) message ≡ goodTail (tailIn region s)
   whole-body {x} q =
-      whole-good (ltb (s .taken) message) (rw (whole-read ∙ q, lengths (kept region s) x (s .stored) message (whole-read ∙ q) (w .sizes) .1) (either (ltb (s .taken) message)))
+      whole-good (ltb (s .taken) message)
+      (rw (whole-read ∙ q, lengths (kept region s) x (s .stored) message (whole-read ∙ q) (w .sizes) .1) (either (ltb (s .taken) message)))
     where
       either : (b : Bool) → fitting (cond b more (whole (take (x .head) (kept region s)) x)) (s .taken) (kept region s) ≡ b
       either true = refl

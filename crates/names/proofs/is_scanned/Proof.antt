@@ -6,11 +6,4 @@ use Rattle.names.proofs.is_scanned.Tie as tie
 
 pub is-scanned-spec : {M : Type 1} → statement M
 is-scanned-spec =
-    tie.close
-    (tie.spec
-    (λ c. search needs)
-    (λ c. search needs)
-    (λ c. search needs)
-    (λ c κs. search needs)
-    (λ c κs. search needs)
-    (λ c. search blocks))
+    tie.close (tie.spec (λ c. search needs) (λ c. search needs) (λ c. search needs) (λ c κs. search needs) (λ c κs. search needs) (λ c. search blocks))

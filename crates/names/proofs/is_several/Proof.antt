@@ -6,11 +6,4 @@ use Rattle.names.proofs.is_several.Tie as tie
 
 pub is-several-spec : {M : Type 1} → statement M
 is-several-spec =
-    tie.close
-    (tie.spec
-    (λ c κs. search needs)
-    (λ c. search forms)
-    (λ c κs. search needs)
-    (λ c. search forms)
-    (λ c κs. search needs)
-    (λ c. search forms))
+    tie.close (tie.spec (λ c κs. search needs) (λ c. search forms) (λ c κs. search needs) (λ c. search forms) (λ c κs. search forms) (λ c. search forms))

@@ -7,22 +7,6 @@ use Rattle.names.proofs.is_valid.Tie as tie
 pub is-valid-spec : {M : Type 1} → statement M
 is-valid-spec =
     tie.close
-    (tie.spec
-    (λ c. search needs)
-    (λ c κs. search needs)
-    (λ c. search needs)
-    (λ c κs. search needs)
-    (λ c. search needs)
-    (λ c κs. search needs)
-    (λ c. search needs)
-    (λ c κs. search needs)
-    (λ c. search needs)
-    (λ c κs. search needs)
-    (λ c. search needs)
-    (λ c κs. search needs)
-    (λ c. search forms)
-    (λ c. search forms)
-    (λ c. search forms)
-    (λ c. search forms)
-    (λ c. search forms)
-    (λ c. search forms))
+    (tie.spec (λ c. search needs) (λ c κs. search needs) (λ c. search needs) (λ c κs. search needs) (λ c. search needs) (λ c κs. search needs)
+    (λ c. search needs) (λ c κs. search needs) (λ c. search needs) (λ c κs. search needs) (λ c. search needs) (λ c κs. search needs)
+    (λ c. search forms) (λ c. search forms) (λ c. search forms) (λ c. search forms) (λ c. search forms) (λ c. search forms))
