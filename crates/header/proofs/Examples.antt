@@ -15,7 +15,8 @@ use Rattle.header.specs.Header.{headerOf, judgedHead, readHead, readHead
 use Rattle.header.specs.Table.{headTable, headAnswer, fixedTable, fixedAnswerTo}
 
 pub table-agrees : agrees headAnswer eqb headTable ≡ true
-unfolding allZero wordAt wordBytes startsWith wellKnown unique validName orderOf headLength messageLength sizesOf fixedPart letterOf textIn valueAt framed elementAt walk fieldsOf numberIn goodValue goodField goodValues hasRequired headerOf judgedHead readHead readHeader
+unfolding allZero wordAt wordBytes startsWith wellKnown unique validName orderOf headLength messageLength sizesOf fixedPart letterOf textIn valueAt framed
+    elementAt walk fieldsOf numberIn goodValue goodField goodValues hasRequired headerOf judgedHead readHead readHeader
 table-agrees = refl
 
 -- and of its fixed part alone

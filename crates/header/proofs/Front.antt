@@ -10,6 +10,7 @@ use lib.Seq.{getD-take, take-at}
 use borrow.Author.Tests.{ltb-false}
 use Rattle.wire.specs.Words.{wordAt}
 use Rattle.wire.proofs.Words.{word-take}
+use Rattle.wire.proofs.Texts.{impossible}
 use Rattle.header.specs.declared.Fixed.{Fixed}
 use Rattle.header.specs.declared.Fixed.the-variants.{Broken, Sizes}
 use Rattle.header.specs.Fixed.{orderOf, isOrder, serialOf, arrayLength, headLength, messageLength, sizesOf, fixedPart}
@@ -63,7 +64,7 @@ pub record Good (s : List ℕ) (head message : ℕ) : Type 0 where
 
 -- a test that was passed, and what comes after it
 passes : (b : Bool) (n : ℕ) (x : Fixed) {p q : ℕ} → cond b (Broken n) x ≡ Sizes p q → (b ≡ false) × (x ≡ Sizes p q)
-passes true n x e = let z : _≡_ {A = ℕ} 0 1 = cc in absurd (omega arith)
+passes true n x e = impossible cc
 passes false n x e = (refl, e)
 
 -- a test that gave the answer n, or one after it
@@ -87,7 +88,7 @@ fixed-number s {n} e =
     e
   where
     never : Sizes (headLength s) (messageLength s) ≡ Broken n → (1 ≤ n) × (n ≤ 6)
-    never y = let z : _≡_ {A = ℕ} 0 1 = cc in absurd (omega arith)
+    never y = impossible cc
 
 pub fixed-good : (s : List ℕ) {head message : ℕ} → fixedPart s ≡ Sizes head message → Good s head message
 unfolding fixedPart sizesOf

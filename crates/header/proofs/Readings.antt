@@ -10,6 +10,7 @@ use lib.ListN.{length, take, drop}
 use lib.Seq.{length-take-le, take-all, take-take, take-at}
 use borrow.Author.Tests.{lt-ltb, le-ltb}
 use Rattle.wire.specs.Bytes.{allZero}
+use Rattle.wire.proofs.Texts.{impossible}
 use Rattle.header.specs.declared.Place.{Place}
 use Rattle.header.specs.declared.Header.{Header}
 use Rattle.header.specs.declared.Fixed.{Fixed}
@@ -159,7 +160,7 @@ fields-fit h fs w e = go (allZero (drop (16 + arrayLength h) h)) e
   where
     go : (b : Bool) → cond b (walk (arrayLength h + 1) (orderOf h) h (16 + arrayLength h) 16 noFields) none ≡ some fs → ValuesFit h fs
     go true k = walk-fits (arrayLength h + 1) (orderOf h) h (16 + arrayLength h) 16 noFields fs (rw (w .sized) (omega arith)) (fits-none h) k
-    go false k = let z : _≡_ {A = ℕ} 0 1 = cc in absurd (omega arith)
+    go false k = impossible cc
 
 -- a whole head is that of fields that were found in it
 head-whole : (h : List ℕ) (d : Header) → readHead h ≡ Whole d → (fs : Fields) × (fieldsOf h ≡ some fs) × (d ≡ headerOf h fs)
@@ -167,9 +168,9 @@ unfolding readHead
 head-whole h d e = go (fieldsOf h) refl e
   where
     go : (f : Option Fields) → fieldsOf h ≡ f → orSeven h f ≡ Whole d → (fs : Fields) × (fieldsOf h ≡ some fs) × (d ≡ headerOf h fs)
-    go none i k = let z : _≡_ {A = ℕ} 0 1 = cc in absurd (omega arith)
+    go none i k = impossible cc
     go (some fs) i k =
-        (fs, i, judged-is h fs (λ r. r ≡ Whole d → d ≡ headerOf h fs) (λ x. let z : _≡_ {A = ℕ} 0 1 = cc in absurd (omega arith)) (λ x. let z : _≡_ {A = ℕ} 0 1 = cc in absurd (omega arith)) (λ x. cc) k)
+        (fs, i, judged-is h fs (λ r. r ≡ Whole d → d ≡ headerOf h fs) (λ x. impossible cc) (λ x. impossible cc) (λ x. cc) k)
 
 module _ (s : List ℕ) (d : Header) (u : readHeader s ≡ Whole d) (k : 16 ≤ length s) {head message : ℕ} (e : fixedPart s ≡ fixed.Sizes head message)
     (l : head ≤ length s) where
@@ -212,20 +213,17 @@ whole-fits s d u = go (decLe 16 (length s))
     sizes : 16 ≤ length s → (r : Fixed) → fixedPart s ≡ r → Fitting s d
     sizes k (fixed.Broken n) e =
         let x : readHeader s ≡ Broken n = read-broken s k e in
-        let z : _≡_ {A = ℕ} 0 1 = cc in
-        absurd (omega arith)
+        impossible cc
     sizes k (fixed.Sizes head message) e = whole (decLe head (length s))
       where
         whole : Dec (head ≤ length s) → Fitting s d
         whole (yes l) = fitting s d u k e l
         whole (no l) =
             let x : readHeader s ≡ Short = read-short s k e (omega arith) in
-            let z : _≡_ {A = ℕ} 0 1 = cc in
-            absurd (omega arith)
+            impossible cc
 
     go : Dec (16 ≤ length s) → Fitting s d
     go (yes k) = sizes k (fixedPart s) refl
     go (no k) =
         let x : readHeader s ≡ Short = read-few s (omega arith) in
-        let z : _≡_ {A = ℕ} 0 1 = cc in
-        absurd (omega arith)
+        impossible cc

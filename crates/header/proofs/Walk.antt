@@ -10,10 +10,10 @@ use lib.Dec.{leb, ltb, eqb}
 use lib.ListN.{length, take, drop, getD, set, length-set, getD-replicate, List·getD-eq-default}
 use lib.Seq.{getD-set-same, getD-set-other}
 use borrow.Author.Tests.{eq-eqb, ne-eqb, eqb-true, eqb-false, ltb-true, leb-true, not-true}
-use Rattle.wire.specs.Bytes.{allZero}
+use Rattle.wire.specs.Bytes.{byte, allZero}
 use Rattle.wire.specs.Words.{wordAt, roundUp8}
 use Rattle.wire.specs.declared.Order.{Order}
-use Rattle.wire.proofs.Texts.{both-first, both-second}
+use Rattle.wire.proofs.Texts.{impossible, both-first, both-second}
 use Rattle.wire.proofs.Below.{row-each}
 use Rattle.header.specs.declared.Element.{Element}
 use Rattle.header.specs.declared.Element.the-variants.{At, Bad}
@@ -29,7 +29,17 @@ other code k h l = ne-eqb code k (λ e. omega arith)
 pub no-letter : (code : ℕ) → 9 < code → 0 ≡ letterOf code
 unfolding letterOf
 no-letter code h =
-    rw (other code 1 h (omega arith), other code 2 h (omega arith), other code 3 h (omega arith), other code 4 h (omega arith), other code 5 h (omega arith), other code 6 h (omega arith), other code 7 h (omega arith), other code 8 h (omega arith), other code 9 h (omega arith))
+    rw (
+      other code 1 h (omega arith),
+      other code 2 h (omega arith),
+      other code 3 h (omega arith),
+      other code 4 h (omega arith),
+      other code 5 h (omega arith),
+      other code 6 h (omega arith),
+      other code 7 h (omega arith),
+      other code 8 h (omega arith),
+      other code 9 h (omega arith),
+    )
 
 -- ---- where an element stands
 
@@ -42,7 +52,7 @@ pub record Valued (end low code c a l s : ℕ) : Type 0 where
 
 module _ {end code c a l s : ℕ} where
   no-value : {low : ℕ} → Bad ≡ At c a l s → Valued end low code c a l s
-  no-value e = let z : _≡_ {A = ℕ} 0 1 = cc in absurd (omega arith)
+  no-value e = impossible cc
 
   a-value : (at len stop : ℕ) → at + len ≤ stop → stop ≤ end → At code at len stop ≡ At c a l s → Valued end at code c a l s
   a-value at len stop h k e =
@@ -69,10 +79,11 @@ text-valued h end code at len {c} {a} {l} {s} e = go (ltb (at + len) end && eqb 
 value-valued : (o : Order) (h : List ℕ) (end code letter at : ℕ) {c a l s : ℕ} → valueAt o h end code letter at ≡ At c a l s
     → Valued end at code c a l s
 unfolding valueAt
-value-valued o h end code letter at {c} {a} {l} {s} e = go (eqb letter 103) (eqb letter 117) (leb (at + 4) end) refl e
+value-valued o h end code letter at {c} {a} {l} {s} e = go (eqb letter (byte "g")) (eqb letter (byte "u")) (leb (at + 4) end) refl e
   where
     go : (g u n : Bool) → leb (at + 4) end ≡ n
-        → cond g (textIn h end code (at + 1) (getD h at 0)) (cond u (cond n (At code at 4 (at + 4)) Bad) (textIn h end code (at + 4) (wordAt o h at))) ≡ At c a l s
+        → cond g (textIn h end code (at + 1) (getD h at 0)) (cond u (cond n (At code at 4 (at + 4)) Bad) (textIn h end code (at + 4) (wordAt o h at)))
+        ≡ At c a l s
         → Valued end at code c a l s
     go true u n t k = lower (omega arith) (text-valued h end code (at + 1) (getD h at 0) k)
     go false true true t k = let m : at + 4 ≤ end = leb-true (at + 4) end t in a-value at 4 (at + 4) (omega arith) m k
@@ -91,7 +102,8 @@ framed-code h at t = go (letterOf (getD h at 0)) refl t
         known : Dec (getD h at 0 ≤ 9) → getD h at 0 ≤ 9
         known (yes k) = k
         known (no k) =
-            let f : not (eqb l 0) ≡ true = row-each true (not (eqb l 0) ∷ eqb (getD h (at + 1) 0) 1 ∷ eqb (getD h (at + 2) 0) l ∷ eqb (getD h (at + 3) 0) 0 ∷ []) u 0 in
+            let f : not (eqb l 0) ≡ true =
+            row-each true (not (eqb l 0) ∷ eqb (getD h (at + 1) 0) 1 ∷ eqb (getD h (at + 2) 0) l ∷ eqb (getD h (at + 3) 0) 0 ∷ []) u 0 in
             absurd (eqb-false l 0 (not-true (eqb l 0) f) (e ∙ sym (no-letter (getD h at 0) (omega arith))))
 
 pub record Stands (end from code at len stop : ℕ) : Type 0 where
@@ -105,12 +117,15 @@ unfolding elementAt
 element-stands o h end from {c} {a} {l} {s} e = go (allZero (take (roundUp8 from - from) (drop from h)) && framed h (roundUp8 from)) refl e
   where
     go : (b : Bool) → allZero (take (roundUp8 from - from) (drop from h)) && framed h (roundUp8 from) ≡ b
-        → cond b (valueAt o h end (getD h (roundUp8 from) 0) (letterOf (getD h (roundUp8 from) 0)) (roundUp8 from + 4)) Bad ≡ At c a l s → Stands end from c a l s
+        → cond b (valueAt o h end (getD h (roundUp8 from) 0) (letterOf (getD h (roundUp8 from) 0)) (roundUp8 from + 4)) Bad ≡ At c a l s
+        → Stands end from c a l s
     go true t k =
-        let v : Valued end (roundUp8 from + 4) (getD h (roundUp8 from) 0) c a l s = value-valued o h end (getD h (roundUp8 from) 0) (letterOf (getD h (roundUp8 from) 0)) (roundUp8 from + 4) k in
-        let f : getD h (roundUp8 from) 0 ≤ 9 = framed-code h (roundUp8 from) (both-second (allZero (take (roundUp8 from - from) (drop from h))) (framed h (roundUp8 from)) t) in
+        let v : Valued end (roundUp8 from + 4) (getD h (roundUp8 from) 0) c a l s =
+        value-valued o h end (getD h (roundUp8 from) 0) (letterOf (getD h (roundUp8 from) 0)) (roundUp8 from + 4) k in
+        let f : getD h (roundUp8 from) 0 ≤ 9 =
+        framed-code h (roundUp8 from) (both-second (allZero (take (roundUp8 from - from) (drop from h))) (framed h (roundUp8 from)) t) in
         record { known = omega arith; above = omega arith; inside = v .inside; ends = v .ends }
-    go false t k = let z : _≡_ {A = ℕ} 0 1 = cc in absurd (omega arith)
+    go false t k = impossible cc
 
 -- ---- a step of the walk
 
@@ -160,7 +175,7 @@ module _ (fuel : ℕ) (o : Order) (h : List ℕ) (end from : ℕ) (fs gs : Field
     (e : walk (suc fuel) o h end from fs ≡ some gs)
     (rest : (s : ℕ) (fs′ : Fields) → ValuesFit h fs′ → walk fuel o h end s fs′ ≡ some gs → ValuesFit h gs) where
   nothing : none ≡ some gs → ValuesFit h gs
-  nothing y = let x : _≡_ {A = ℕ} 0 1 = cc in absurd (omega arith)
+  nothing y = impossible cc
 
   step-found : {c a l s : ℕ} → (from ≡ end → ⊥) → elementAt o h end from ≡ At c a l s → (b : Bool) → eqb (placeOf fs c .at) 0 ≡ b → ValuesFit h gs
   step-found {c} {a} {l} {s} n q true z =
@@ -183,6 +198,6 @@ module _ (fuel : ℕ) (o : Order) (h : List ℕ) (end from : ℕ) (fs gs : Field
 pub walk-fits : (fuel : ℕ) (o : Order) (h : List ℕ) (end from : ℕ) (fs gs : Fields) → end ≤ length h → ValuesFit h fs
     → walk fuel o h end from fs ≡ some gs → ValuesFit h gs
 unfolding walk
-walk-fits zero o h end from fs gs k f e = let x : _≡_ {A = ℕ} 0 1 = cc in absurd (omega arith)
+walk-fits zero o h end from fs gs k f e = impossible cc
 walk-fits (suc fuel) o h end from fs gs k f e =
     step-fits fuel o h end from fs gs k f e (λ s fs′ f′ e′. walk-fits fuel o h end s fs′ gs k f′ e′) (eqb from end) refl

@@ -67,10 +67,10 @@ replySerial o n = 5 ∷ 1 ∷ byte "u" ∷ 0 ∷ number o n
 abbrev fixedLines : Order → List HeadRow
 fixedLines o =
     (take 15 (callCIn o), 10)
-    ∷ (take 15 (set (callCIn o) 0 76), 10)  -- 1 is not found before byte 16
+    ∷ (take 15 (set (callCIn o) 0 (byte "L")), 10)  -- 1 is not found before byte 16
     ∷ (take 47 (callCIn o), 10)
     ∷ (take 47 (set (callCIn o) 31 1), 10)  -- nor 7 before the head's last byte
-    ∷ (set (callCIn o) 0 76, 1)  -- T5: byte 0 as 4c
+    ∷ (set (callCIn o) 0 (byte "L"), 1)  -- T5: byte 0 as 4c
     ∷ (fixedBytes o 0 2 0 0 0, 2)  -- 2 before 3 and 4
     ∷ (fixedBytes o 0 1 0 0 0, 3)
     ∷ (fixedBytes o 1 1 0 0 2033, 4)
@@ -136,7 +136,8 @@ headAnswer s = readingAnswer (readHeader s)
 
 -- what the first 16 bytes answer by themselves
 abbrev fixedOnly : Order → List HeadRow
-fixedOnly o = (callCIn o, 0) ∷ (set (callCIn o) 0 76, 1) ∷ (fixedBytes o 1 1 0 1 2032, 0) ∷ (fixedBytes o 1 1 0 1 2033, 5) ∷ (fixedBytes o 5 1 134217713 1 0, 6) ∷ []
+fixedOnly o = (callCIn o, 0) ∷ (set (callCIn o) 0 (byte "L"), 1) ∷ (fixedBytes o 1 1 0 1 2032, 0) ∷ (fixedBytes o 1 1 0 1 2033, 5)
+    ∷ (fixedBytes o 5 1 134217713 1 0, 6) ∷ []
 
 abbrev pub fixedTable : List HeadRow
 fixedTable = fixedOnly Little ++ fixedOnly Big

@@ -8,6 +8,7 @@ use lib.Dec.{leb, eqb}
 use lib.ListN.{length, take, drop, getD}
 use borrow.Author.Needs.{needs}
 use borrow.Author.Tests.{le-leb, lt-leb, eq-eqb, ne-eqb, eqb-true, not-true, not-false}
+use Rattle.wire.specs.Bytes.{byte}
 use Rattle.wire.proofs.Words.{rest-at}
 use Rattle.names.specs.Names.{word, pieces, dotted, startsWith, wellKnown, unique, validName, counted}
 use Rattle.names.specs.Names.{interfaceShape, wellKnownShape, memberShape, pathShape}
@@ -40,7 +41,7 @@ module _ (s : List ℕ) (dash lead : Bool) where
 module _ (s : List ℕ) where
   pub walk-short : {n : ℕ} → n ≡ counted pathShape s → leb 1 n ≡ listed pathShape s
   unfolding listed
-  walk-short e = rw (e, passed pathShape (leb 1) s refl, le-leb 1 (length (pieces 47 s)) (omega arith))
+  walk-short e = rw (e, passed pathShape (leb 1) s refl, le-leb 1 (length (pieces (byte "/") s)) (omega arith))
 
   -- ---- each form
 
@@ -87,56 +88,57 @@ starts-none b (x ∷ s) e = absurd (omega arith)
 module _ (s : List ℕ) where
   pub unique-none : length s ≡ 0 → false ≡ validName Unique s
   unfolding validName unique
-  unique-none e = rw (starts-none 58 s e, and-false)
+  unique-none e = rw (starts-none (byte ":") s e, and-false)
 
-  pub unique-not : (getD s 0 0 ≡ 58 → ⊥) → false ≡ validName Unique s
+  pub unique-not : (getD s 0 0 ≡ byte ":" → ⊥) → false ≡ validName Unique s
   unfolding validName unique
-  unique-not e = rw (starts-not 58 s e, and-false)
+  unique-not e = rw (starts-not (byte ":") s e, and-false)
 
-  pub unique-is : (length s ≡ 0 → ⊥) → getD s 0 0 ≡ 58 → length s ≤ 255 → {r : Bool} → r ≡ several true true (take (length s - 1) (drop 1 s)) → r ≡ validName Unique s
+  pub unique-is : (length s ≡ 0 → ⊥) → getD s 0 0 ≡ byte ":" → length s ≤ 255 → {r : Bool} → r ≡ several true true (take (length s - 1) (drop 1 s))
+      → r ≡ validName Unique s
   unfolding validName unique several
-  unique-is n e h f = rw (le-leb (length s) 255 h, starts 58 s n e, ← rest-at 1 s) f
+  unique-is n e h f = rw (le-leb (length s) 255 h, starts (byte ":") s n e, ← rest-at 1 s) f
 
   pub path-none : length s ≡ 0 → false ≡ validName Path s
   unfolding validName
-  path-none e = rw (starts-none 47 s e)
+  path-none e = rw (starts-none (byte "/") s e)
 
-  pub path-not : (getD s 0 0 ≡ 47 → ⊥) → false ≡ validName Path s
+  pub path-not : (getD s 0 0 ≡ byte "/" → ⊥) → false ≡ validName Path s
   unfolding validName
-  path-not e = rw (starts-not 47 s e)
+  path-not e = rw (starts-not (byte "/") s e)
 
-  module _ (n : length s ≡ 0 → ⊥) (e : getD s 0 0 ≡ 47) where
+  module _ (n : length s ≡ 0 → ⊥) (e : getD s 0 0 ≡ byte "/") where
     pub path-root : length s ≡ 1 → true ≡ validName Path s
     unfolding validName
-    path-root k = rw (starts 47 s n e, k)
+    path-root k = rw (starts (byte "/") s n e, k)
 
     pub path-more : (length s ≡ 1 → ⊥) → {r : Bool} → r ≡ listed pathShape (take (length s - 1) (drop 1 s)) → r ≡ validName Path s
     unfolding validName listed
-    path-more k f = f ∙ rw (rest-at 1 s, starts 47 s n e, ne-eqb (length s) 1 k, and-true)
+    path-more k f = f ∙ rw (rest-at 1 s, starts (byte "/") s n e, ne-eqb (length s) 1 k, and-true)
 
 -- ---- a bus name: unique where it begins with a colon, which no well-known name does
 
-coloned : (s : List ℕ) → startsWith 58 s ≡ true → wellKnown s ≡ false
+coloned : (s : List ℕ) → startsWith (byte ":") s ≡ true → wellKnown s ≡ false
 unfolding startsWith wellKnown
 coloned [] e = absurd (false≢true e)
-coloned (x ∷ s) e = let f : x ≡ 58 = eqb-true x 58 e in rw (f, and-false)
+coloned (x ∷ s) e = let f : x ≡ byte ":" = eqb-true x (byte ":") e in rw (f, and-false)
 
 module _ (s : List ℕ) where
   pub bus-none : length s ≡ 0 → false ≡ validName BusName s
   unfolding validName unique wellKnown
-  bus-none e = rw (starts-none 58 s e, and-false) (go s e)
+  bus-none e = rw (starts-none (byte ":") s e, and-false) (go s e)
     where
       go : (s : List ℕ) → length s ≡ 0 → false ≡ dotted wellKnownShape s
       go [] e = refl
       go (x ∷ s) e = absurd (omega arith)
 
-  pub bus-unique : (length s ≡ 0 → ⊥) → getD s 0 0 ≡ 58 → {r : Bool} → r ≡ validName Unique s → r ≡ validName BusName s
+  pub bus-unique : (length s ≡ 0 → ⊥) → getD s 0 0 ≡ byte ":" → {r : Bool} → r ≡ validName Unique s → r ≡ validName BusName s
   unfolding validName
-  bus-unique n e h = rw (coloned s (starts 58 s n e), or-false) h
+  bus-unique n e h = rw (coloned s (starts (byte ":") s n e), or-false) h
 
-  pub bus-well-known : (getD s 0 0 ≡ 58 → ⊥) → {r : Bool} → r ≡ dotted wellKnownShape s → r ≡ validName BusName s
+  pub bus-well-known : (getD s 0 0 ≡ byte ":" → ⊥) → {r : Bool} → r ≡ dotted wellKnownShape s → r ≡ validName BusName s
   unfolding validName unique wellKnown
-  bus-well-known e h = rw (starts-not 58 s e, and-false) h
+  bus-well-known e h = rw (starts-not (byte ":") s e, and-false) h
 
 -- ---- the form that is asked for
 
@@ -153,4 +155,9 @@ module _ (f : Form) (s : List ℕ) where
   asked-well-known e h = rw e h
 
 -- what answers the needs of the forms' functions
-pub ruleset forms = (dot, several-short, several-not, several-long, walk-short, dotted-long, unique-long, member-too-long, dotted-is, member-short, member-long, unique-none, unique-not, unique-is, path-none, path-not, path-root, path-more, asked, asked-interface, asked-well-known, bus-none, bus-unique, bus-well-known, needs)
+pub ruleset by-elements =
+    (dot, several-short, several-not, several-long, walk-short, dotted-long, unique-long, member-too-long, dotted-is, member-short, member-long)
+
+pub ruleset by-first-byte = (unique-none, unique-not, unique-is, path-none, path-not, path-root, path-more, bus-none, bus-unique, bus-well-known)
+
+pub ruleset forms = (by-elements, by-first-byte, asked, asked-interface, asked-well-known, needs)

@@ -9,7 +9,7 @@ use lib.Dec.{eqb}
 use lib.ListN.{length, take, drop, getD}
 use borrow.Author.Needs.{needs}
 use borrow.Author.Tests.{eq-eqb, ne-eqb}
-use Rattle.wire.specs.Bytes.{bytes, same}
+use Rattle.wire.specs.Bytes.{byte, bytes, same}
 use Rattle.wire.proofs.Texts.{same-length}
 use Rattle.names.specs.Namespace.{isPrefix, inNamespace}
 
@@ -21,12 +21,12 @@ starts-short (x ∷ p) [] h = refl
 starts-short (x ∷ p) (y ∷ n) h = rw (starts-short p n (omega arith), and-false)
 
 -- a longer name: its first bytes are the prefix, and the next is the dot
-starts-dot : (p n : List ℕ) → length p < length n → isPrefix (p ++ bytes ".") n ≡ same p (take (length p) n) && eqb 46 (getD n (length p) 0)
+starts-dot : (p n : List ℕ) → length p < length n → isPrefix (p ++ bytes ".") n ≡ same p (take (length p) n) && eqb (byte ".") (getD n (length p) 0)
 unfolding same
 starts-dot [] [] h = absurd (omega arith)
-starts-dot [] (y ∷ n) h = and-true (eqb 46 y)
+starts-dot [] (y ∷ n) h = and-true (eqb (byte ".") y)
 starts-dot (x ∷ p) [] h = absurd (omega arith)
-starts-dot (x ∷ p) (y ∷ n) h = rw (starts-dot p n (omega arith), and-assoc (eqb x y) (same p (take (length p) n)) (eqb 46 (getD n (length p) 0)))
+starts-dot (x ∷ p) (y ∷ n) h = rw (starts-dot p n (omega arith), and-assoc (eqb x y) (same p (take (length p) n)) (eqb (byte ".") (getD n (length p) 0)))
 
 module _ (p n : List ℕ) where
   pub shorter : length n < length p → false ≡ inNamespace p n
@@ -38,15 +38,15 @@ module _ (p n : List ℕ) where
   as-long h e = e ∙ rw (starts-short p n (omega arith), or-false)
 
   module _ (h : length p ≤ length n) (k : length n ≡ length p → ⊥) where
-    pub no-dot : (getD n (length p) 0 ≡ 46 → ⊥) → false ≡ inNamespace p n
+    pub no-dot : (getD n (length p) 0 ≡ byte "." → ⊥) → false ≡ inNamespace p n
     unfolding inNamespace
     no-dot e =
-        rw (same-length p n (λ e. k (sym e)), starts-dot p n (omega arith), ne-eqb 46 (getD n (length p) 0) (λ q. e (sym q)), and-false)
+        rw (same-length p n (λ e. k (sym e)), starts-dot p n (omega arith), ne-eqb (byte ".") (getD n (length p) 0) (λ q. e (sym q)), and-false)
 
-    pub dotted : getD n (length p) 0 ≡ 46 → {r : Bool} → r ≡ same p (take (length p - 0) (drop 0 n)) → r ≡ inNamespace p n
+    pub dotted : getD n (length p) 0 ≡ byte "." → {r : Bool} → r ≡ same p (take (length p - 0) (drop 0 n)) → r ≡ inNamespace p n
     unfolding inNamespace
     dotted e f =
-        f ∙ rw (sub-zero (length p), same-length p n (λ e. k (sym e)), starts-dot p n (omega arith), eq-eqb 46 (getD n (length p) 0) (sym e), and-true)
+        f ∙ rw (sub-zero (length p), same-length p n (λ e. k (sym e)), starts-dot p n (omega arith), eq-eqb (byte ".") (getD n (length p) 0) (sym e), and-true)
 
 -- what answers each need of `in_namespace`
 pub ruleset under = (shorter, as-long, no-dot, dotted, needs)

@@ -73,7 +73,8 @@ module _ (m : List ℕ) (f : (j : ℕ) → Fits w8 (getD m j 0)) (i : ℕ) (s : 
         drop-drop byteOffset b m,
         r,
       )
-      (ap (λ (h : List ℕ). record { taken = wordAt Little m (slotStart i + takenAt); head = h }) (take-take n headRoom (drop (slotStart i + firstByte) m) (omega arith)))
+      (ap (λ (h : List ℕ). record { taken = wordAt Little m (slotStart i + takenAt); head = h })
+      (take-take n headRoom (drop (slotStart i + firstByte) m) (omega arith)))
 
   pub opens-at : closed (peerAt m i .stream) ≡ false
       → Opens (take (slotStart i + takenAt + streamLength - (slotStart i + takenAt)) (drop (slotStart i + takenAt) m))

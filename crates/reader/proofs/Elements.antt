@@ -8,7 +8,7 @@ use lib.Dec.{eqb}
 use lib.ListN.{take, drop, getD}
 use borrow.Author.Needs.{needs}
 use borrow.Author.Tests.{eq-eqb, ne-eqb, lt-ltb, le-ltb, le-leb, lt-leb, eqb-true, eqb-false, not-true, not-false}
-use Rattle.wire.specs.Bytes.{allZero}
+use Rattle.wire.specs.Bytes.{byte, allZero}
 use Rattle.wire.specs.Words.{wordAt, roundUp8}
 use Rattle.wire.specs.declared.Order.{Order}
 use Rattle.header.specs.declared.Element.{Element}
@@ -22,7 +22,7 @@ use Rattle.reader.specs.Contracts.{elementIn}
 
 -- the letters of the codes from 0 on, as the code has them
 abbrev letters : List ℕ
-letters = 0 ∷ 111 ∷ 115 ∷ 115 ∷ 115 ∷ 117 ∷ 115 ∷ 115 ∷ 103 ∷ 117 ∷ []
+letters = 0 ∷ byte "o" ∷ byte "s" ∷ byte "s" ∷ byte "s" ∷ byte "u" ∷ byte "s" ∷ byte "s" ∷ byte "g" ∷ byte "u" ∷ []
 
 pub a-letter : (code : ℕ) → code ≤ 9 → getD letters code 0 ≡ letterOf code
 unfolding letterOf
@@ -52,38 +52,38 @@ pub ruleset texts = (text-past, text-ends, text-unended, no-letter, a-letter, ne
 
 -- a value by its letter
 module _ (o : Order) (h : List ℕ) (end code letter at : ℕ) where
-  module _ (g : letter ≡ 103) where
+  module _ (g : letter ≡ byte "g") where
     pub short-signature : end ≤ at → Bad ≡ valueAt o h end code letter at
     unfolding valueAt
-    short-signature l = rw (eq-eqb letter 103 g) (text-past h end code (at + 1) (getD h at 0) (omega arith))
+    short-signature l = rw (eq-eqb letter (byte "g") g) (text-past h end code (at + 1) (getD h at 0) (omega arith))
 
     pub a-signature : (n : ℕ) → n ≡ getD h at 0 → {r : Element} → r ≡ textIn h end code (at + 1) n → r ≡ valueAt o h end code letter at
     unfolding valueAt
-    a-signature n e f = f ∙ rw (eq-eqb letter 103 g, e)
+    a-signature n e f = f ∙ rw (eq-eqb letter (byte "g") g, e)
 
-  module _ (g : letter ≡ 103 → ⊥) where
+  module _ (g : letter ≡ byte "g" → ⊥) where
     pub short-value : end < at + 4 → Bad ≡ valueAt o h end code letter at
     unfolding valueAt
     short-value l =
-        rw (ne-eqb letter 103 g, lt-leb (at + 4) end l, ← text-past h end code (at + 4) (wordAt o h at) (omega arith))
-        (idle (eqb letter 117))
+        rw (ne-eqb letter (byte "g") g, lt-leb (at + 4) end l, ← text-past h end code (at + 4) (wordAt o h at) (omega arith))
+        (idle (eqb letter (byte "u")))
 
     module _ (l : at + 4 ≤ end) where
-      pub a-number : letter ≡ 117 → At code at 4 (at + 4) ≡ valueAt o h end code letter at
+      pub a-number : letter ≡ byte "u" → At code at 4 (at + 4) ≡ valueAt o h end code letter at
       unfolding valueAt
-      a-number u = rw (ne-eqb letter 103 g, eq-eqb letter 117 u, le-leb (at + 4) end l)
+      a-number u = rw (ne-eqb letter (byte "g") g, eq-eqb letter (byte "u") u, le-leb (at + 4) end l)
 
-      pub a-text : (letter ≡ 117 → ⊥) → (n : ℕ) → n ≡ wordAt o h at → {r : Element} → r ≡ textIn h end code (at + 4) n
+      pub a-text : (letter ≡ byte "u" → ⊥) → (n : ℕ) → n ≡ wordAt o h at → {r : Element} → r ≡ textIn h end code (at + 4) n
           → r ≡ valueAt o h end code letter at
       unfolding valueAt
-      a-text u n e f = f ∙ rw (ne-eqb letter 103 g, ne-eqb letter 117 u, e)
+      a-text u n e f = f ∙ rw (ne-eqb letter (byte "g") g, ne-eqb letter (byte "u") u, e)
 
   pub value-past : end < at → Bad ≡ valueAt o h end code letter at
-  value-past l = go (eqb letter 103) refl
+  value-past l = go (eqb letter (byte "g")) refl
     where
-      go : (b : Bool) → eqb letter 103 ≡ b → Bad ≡ valueAt o h end code letter at
-      go true e = short-signature (eqb-true letter 103 e) (omega arith)
-      go false e = short-value (eqb-false letter 103 e) (omega arith)
+      go : (b : Bool) → eqb letter (byte "g") ≡ b → Bad ≡ valueAt o h end code letter at
+      go true e = short-signature (eqb-true letter (byte "g") e) (omega arith)
+      go false e = short-value (eqb-false letter (byte "g") e) (omega arith)
 
 pub ruleset values = (short-signature, a-signature, short-value, a-number, a-text, needs)
 

@@ -7,6 +7,7 @@ use lib.Dec.{eqb}
 use lib.ListN.{getD}
 use borrow.Author.Needs.{needs}
 use borrow.Author.Tests.{eq-eqb, ne-eqb, lt-ltb, le-ltb}
+use Rattle.wire.specs.Bytes.{byte}
 use Rattle.wire.specs.Words.{wordAt, roundUp8}
 use Rattle.wire.specs.declared.Order.{Order}
 use Rattle.wire.specs.declared.Order.the-variants.{Little, Big}
@@ -15,13 +16,13 @@ use Rattle.header.specs.declared.Fixed.the-variants.{Broken, Sizes}
 use Rattle.header.specs.Fixed.{orderOf, isOrder, headLength, messageLength, sizesOf, fixedPart}
 
 module _ (s : List ℕ) where
-  pub big : getD s 0 0 ≡ 66 → Big ≡ orderOf s
+  pub big : getD s 0 0 ≡ byte "B" → Big ≡ orderOf s
   unfolding orderOf
-  big e = rw (eq-eqb (getD s 0 0) 66 e)
+  big e = rw (eq-eqb (getD s 0 0) (byte "B") e)
 
-  pub little : (getD s 0 0 ≡ 66 → ⊥) → Little ≡ orderOf s
+  pub little : (getD s 0 0 ≡ byte "B" → ⊥) → Little ≡ orderOf s
   unfolding orderOf
-  little e = rw (ne-eqb (getD s 0 0) 66 e)
+  little e = rw (ne-eqb (getD s 0 0) (byte "B") e)
 
 -- the serial n, the array's length a, the same rounded up q, and the body's length b
 module _ (s : List ℕ) (o : Order) (e : o ≡ orderOf s) (n : ℕ) (f : n ≡ wordAt o s 8) where

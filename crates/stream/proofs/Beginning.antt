@@ -8,6 +8,7 @@ use borrow.Author.Needs.{needs}
 use lib.ListN.{length, take, drop, length-take}
 use lib.Seq.{length-take-le}
 use native.Mathlib.Decide.{decLt}
+use Rattle.wire.proofs.Texts.{impossible}
 use Rattle.header.specs.declared.Fixed.{Fixed}
 use Rattle.header.specs.declared.Fixed.the-variants as fixed
 use Rattle.header.specs.declared.Reading.the-variants as reading
@@ -70,13 +71,16 @@ module _ {region : List ℕ} {s : Stream} (o : Open region s) where
         ∙ moved s room w (stored-fixed k (s .taken) (take (s .stored) region) piece (omega (arith, many)) (rw head-is (many .0)))
         ∙ ap (resumed (tailIn after (plus s k)) piece) (zero-add k)
 
-    pub more-fixed : s .stored + k < 16 → Advanced region s piece (record { stream = record { taken = s .taken + k; stored = s .stored + k }; taken = k; event = More }) after
+    pub more-fixed : s .stored + k < 16
+        → Advanced region s piece (record { stream = record { taken = s .taken + k; stored = s .stored + k }; taken = k; event = More }) after
     more-fixed h =
         let q : length after ≡ 2048 = length-after region (s .stored) 16 piece 0 k after room w in
         record {
           gives =
               gives (length piece) after (plus s k) k More
-              (moved-fixed ∙ used-up after (plus s k) piece k (omega (arith, w .many)) (read-few (take (s .stored + k) after) (rw (length-take (s .stored + k) after) (omega arith))))
+              (moved-fixed
+              ∙ used-up after (plus s k) piece k (omega (arith, w .many))
+              (read-few (take (s .stored + k) after) (rw (length-take (s .stored + k) after) (omega arith))))
               (padded-after region (s .stored) 16 piece 0 k after room w (o .padded))
               q
               (omega arith)
@@ -102,7 +106,8 @@ module _ {region : List ℕ} {s : Stream} (o : Open region s) where
           running = λ i. absurd (omega arith);
         }
 
-    pub from-fixed : {r : Advance} {last : List ℕ} → Resumed after (record { taken = s .taken + k; stored = s .stored + k }) piece k r last → Advanced region s piece r last
+    pub from-fixed : {r : Advance} {last : List ℕ} → Resumed after (record { taken = s .taken + k; stored = s .stored + k }) piece k r last
+        → Advanced region s piece r last
     from-fixed g = record { gives = same-offer moved-fixed (g .gives) }
 
 -- fewer than 16 bytes, however the code asks for them
@@ -128,7 +133,7 @@ module _ {region : List ℕ} {s : Stream} {piece : List ℕ} {used : ℕ} (b : B
         r = read-broken (take (s .stored) region) (omega (arith, started-length begun, begun .above)) (is-fixed ∙ q)
 
         never : broken a ≡ more → ⊥
-        never q = let z : _≡_ {A = ℕ} 0 1 = cc in omega arith
+        never q = impossible cc
 
         go : Dec (headLength (take (s .stored) region) < s .taken) → s .taken ≤ 134217728
         go (yes d) = absurd (never (rw r at (b .running d)))
@@ -148,6 +153,7 @@ module _ {region : List ℕ} {s : Stream} {piece : List ℕ} {used : ℕ} (b : B
 
         go : s .stored ≡ min (s .taken) end → Dec (end < s .taken) → s .taken ≤ message
         go k (yes d) =
-            let w = in-body-of (s .taken) (take (s .stored) region) end message (omega (arith, started-length begun, begun .above)) (is-fixed ∙ q) (omega (arith, started-length begun)) (b .running (rw (← z .is-head) d)) in
+            let w = in-body-of (s .taken) (take (s .stored) region) end message (omega (arith, started-length begun, begun .above)) (is-fixed ∙ q)
+            (omega (arith, started-length begun)) (b .running (rw (← z .is-head) d)) in
             omega (arith, w .2)
         go k (no d) = omega (arith, z .inside)

@@ -16,5 +16,6 @@ use Rattle.stream.specs.Tail.{goodTail}
 use Rattle.stream.specs.Table.{streamTable, streamAnswer}
 
 pub table-agrees : agrees streamAnswer same streamTable ≡ true
-unfolding allZero same wordAt wordBytes startsWith wellKnown unique validName orderOf headLength messageLength sizesOf fixedPart letterOf textIn valueAt framed elementAt walk fieldsOf numberIn goodValue goodField goodValues hasRequired headerOf judgedHead readHead readHeader offer goodTail
+unfolding allZero same wordAt wordBytes startsWith wellKnown unique validName orderOf headLength messageLength sizesOf fixedPart letterOf textIn valueAt
+    framed elementAt walk fieldsOf numberIn goodValue goodField goodValues hasRequired headerOf judgedHead readHead readHeader offer goodTail
 table-agrees = refl

@@ -9,6 +9,7 @@ use lib.Seq.{length-take-le, drop-drop}
 use borrow.Author.Tests.{le-ltb}
 use native.Mathlib.Decide.{decLt}
 use Rattle.wire.specs.Bytes.{pad}
+use Rattle.wire.proofs.Texts.{impossible}
 use Rattle.header.specs.declared.Header.{Header}
 use Rattle.header.specs.declared.Fixed.the-variants as fixed
 use Rattle.header.specs.declared.Reading.{Reading}
@@ -70,7 +71,8 @@ open-resumes t piece e = sym (continued-more t piece e) ∙ bump-none (continued
 abbrev pub plus : Stream → ℕ → Stream
 plus s k = record { taken = s .taken + k; stored = s .stored + k }
 
-module _ (s : Stream) {region piece after : List ℕ} {limit used k : ℕ} (r : Room region (s .stored) limit piece used) (w : Stored region (s .stored) limit piece used k after) where
+module _ (s : Stream) {region piece after : List ℕ} {limit used k : ℕ} (r : Room region (s .stored) limit piece used)
+    (w : Stored region (s .stored) limit piece used k after) where
   -- the stream goes on behind them, where they are as many pushes
   pub moved : continued (tailIn region s) (drop used piece)
       ≡ bumpBy k (continued (record { taken = s .taken + k; head = take (s .stored) region ++ take k (drop used piece) }) (drop k (drop used piece)))
@@ -94,17 +96,20 @@ used-up region s piece used l e =
 -- ---- a piece's end in the body, and a broken head
 
 pub broken-at : {region : List ℕ} {s : Stream} {piece : List ℕ} {used a : ℕ} → Started region s piece used
-    → readHeader (take (s .stored) region) ≡ reading.Broken a → s .taken ≤ 134217728 → Resumed region s piece used (record { stream = s; taken = used; event = Broken a }) region
+    → readHeader (take (s .stored) region) ≡ reading.Broken a → s .taken ≤ 134217728
+    → Resumed region s piece used (record { stream = s; taken = used; event = Broken a }) region
 broken-at {region} {s} {piece} {used} {a} b e f =
     let z : used + 0 ≡ used = add-zero used in
     record {
       gives = gives (length piece) region s used (Broken a)
-          (ap (bumpBy used) (continued-broken (s .taken) (take (s .stored) region) (drop used piece) a e) ∙ (λ i. record { verdict = broken a; taken = z i; stream = tailIn region s }))
+          (ap (bumpBy used) (continued-broken (s .taken) (take (s .stored) region) (drop used piece) a e)
+          ∙ (λ i. record { verdict = broken a; taken = z i; stream = tailIn region s }))
           (b .padded) (b .sized) (b .stored) (b .within) f;
     }
 
 -- a whole head says the lengths that its fixed part says
-pub lengths : (h : List ℕ) (x : Header) (head message : ℕ) → readHeader h ≡ reading.Whole x → fixedPart h ≡ fixed.Sizes head message → (x .head ≡ head) × (x .head + x .body ≡ message)
+pub lengths : (h : List ℕ) (x : Header) (head message : ℕ) → readHeader h ≡ reading.Whole x → fixedPart h ≡ fixed.Sizes head message
+    → (x .head ≡ head) × (x .head + x .body ≡ message)
 lengths h x head message e f =
     let q : fixed.Sizes (x .head) (x .head + x .body) ≡ fixed.Sizes head message = sym (whole-head h e .sizes .sizes) ∙ f in
     (cc, cc)
@@ -129,17 +134,23 @@ module _ {region : List ℕ} {s : Stream} {piece : List ℕ} {used : ℕ} (b : S
       }
 
   pub body-whole : s .taken ≤ x .head + x .body → x .head + x .body ≤ s .taken + (length piece - used)
-      → Resumed region s piece used (record { stream = record { taken = x .head + x .body; stored = s .stored }; taken = used + (x .head + x .body - s .taken); event = Whole x }) region
+      → Resumed region s piece used
+      (record { stream = record { taken = x .head + x .body; stored = s .stored }; taken = used + (x .head + x .body - s .taken); event = Whole x }) region
   body-whole h i =
       record {
         gives = gives (length piece) region (record { taken = x .head + x .body; stored = s .stored }) (used + (x .head + x .body - s .taken)) (Whole x)
             (ap (bumpBy used) (ended (take (s .stored) region) x e head-length (s .taken) (drop used piece) h (rw rest i))
-            ∙ (λ j. record { verdict = whole (take (k j) region) x; taken = used + (x .head + x .body - s .taken); stream = record { taken = x .head + x .body; head = take (s .stored) region } }))
+            ∙ (λ j. record {
+              verdict = whole (take (k j) region) x;
+              taken = used + (x .head + x .body - s .taken);
+              stream = record { taken = x .head + x .body; head = take (s .stored) region };
+            }))
             (b .padded) (b .sized) (b .stored) (omega (arith, b .within)) (whole-head (take (s .stored) region) e .sizes .fits);
       }
 
 -- an open stream whose head is whole is in the body
-pub in-body-of : (n : ℕ) (h : List ℕ) (head message : ℕ) → 16 ≤ length h → fixedPart h ≡ fixed.Sizes head message → head ≤ length h → judge (record { taken = n; head = h }) ≡ more
+pub in-body-of : (n : ℕ) (h : List ℕ) (head message : ℕ) → 16 ≤ length h → fixedPart h ≡ fixed.Sizes head message → head ≤ length h
+    → judge (record { taken = n; head = h }) ≡ more
     → (x : Header) × (readHeader h ≡ reading.Whole x) × (n < message)
 in-body-of n h head message l f k o = go (readHeader h) refl
   where
@@ -148,12 +159,12 @@ in-body-of n h head message l f k o = go (readHeader h) refl
     last x e (no d) = absurd (never (rw (e, le-ltb n (x .head + x .body) (omega arith)) at o))
       where
         never : whole (take (x .head) h) x ≡ more → ⊥
-        never q = let z : _≡_ {A = ℕ} 0 1 = cc in omega arith
+        never q = impossible cc
 
     go : (r : Reading) → readHeader h ≡ r → (x : Header) × (readHeader h ≡ reading.Whole x) × (n < message)
     go reading.Short e = absurd (not-short h l f k e)
     go (reading.Broken a) e = absurd (never (rw e at o))
       where
         never : broken a ≡ more → ⊥
-        never q = let z : _≡_ {A = ℕ} 0 1 = cc in omega arith
+        never q = impossible cc
     go (reading.Whole x) e = last x e (decLt n (x .head + x .body))

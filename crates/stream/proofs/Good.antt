@@ -37,7 +37,8 @@ short-end h e = go (known h e)
     go (part l z k) = (rw (sized-end h l z) k, omega (arith, z .small))
 
 -- a broken head is broken where it ends, or its fixed part
-pub broken-end : (h : List ℕ) {a : ℕ} → readHeader h ≡ Broken a → (16 ≤ length h) × (brokenAt a h ≤ headEnd h) × (brokenAt a h ≤ length h) × (brokenAt a h ≤ 2048)
+pub broken-end : (h : List ℕ) {a : ℕ} → readHeader h ≡ Broken a → (16 ≤ length h) × (brokenAt a h ≤ headEnd h) × (brokenAt a h ≤ length h)
+    × (brokenAt a h ≤ 2048)
 broken-end h {a} e = go (known h e)
   where
     go : Known h (Broken a) → (16 ≤ length h) × (brokenAt a h ≤ headEnd h) × (brokenAt a h ≤ length h) × (brokenAt a h ≤ 2048)

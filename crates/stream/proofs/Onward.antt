@@ -28,7 +28,8 @@ use Rattle.stream.proofs.Gives.{gives, same-offer, plus, moved, used-up
 
 -- ---- `after_head`
 
-module _ {region : List ℕ} {s : Stream} {piece : List ℕ} {used end message : ℕ} (a : AtEnd region s piece used end message) {r : Reading} (e : r ≡ readHeader (take (end - 0) (drop 0 region))) where
+module _ {region : List ℕ} {s : Stream} {piece : List ℕ} {used end message : ℕ} (a : AtEnd region s piece used end message) {r : Reading}
+    (e : r ≡ readHeader (take (end - 0) (drop 0 region))) where
   here : Measured region s piece used end message
   here = a .measured
 
@@ -39,7 +40,9 @@ module _ {region : List ℕ} {s : Stream} {piece : List ℕ} {used end message :
   end-length = started-length (here .started) ∙ a .kept
 
   pub never-short : r ≡ reading.Short → {q : Advance} → Resumed region s piece used q region
-  never-short f = absurd (not-short (take (s .stored) region) (omega (arith, started-length (here .started), here .started .above)) (here .sizes) (omega (arith, end-length)) (is-read ∙ f))
+  never-short f =
+      absurd (not-short (take (s .stored) region) (omega (arith, started-length (here .started), here .started .above)) (here .sizes)
+      (omega (arith, end-length)) (is-read ∙ f))
 
   pub broken-end : {n : ℕ} → r ≡ reading.Broken n → Resumed region s piece used (record { stream = s; taken = used; event = Broken n }) region
   broken-end f = broken-at (here .started) (is-read ∙ f) (omega (arith, here .below, here .few))
@@ -54,11 +57,14 @@ module _ {region : List ℕ} {s : Stream} {piece : List ℕ} {used end message :
         (body-more (here .started) x (is-read ∙ f) (a .kept ∙ sym (is-lengths .0)) (rw (is-lengths .1) h))
 
     pub whole-end : message ≤ s .taken + (length piece - used)
-        → Resumed region s piece used (record { stream = record { taken = message; stored = end }; taken = used + (message - s .taken); event = Whole x }) region
+        → Resumed region s piece used (record { stream = record { taken = message; stored = end }; taken = used + (message - s .taken); event = Whole x })
+        region
     whole-end h =
-        subst (λ (n : ℕ). Resumed region s piece used (record { stream = record { taken = message; stored = n }; taken = used + (message - s .taken); event = Whole x }) region)
+        subst (λ (n : ℕ). Resumed region s piece used
+        (record { stream = record { taken = message; stored = n }; taken = used + (message - s .taken); event = Whole x }) region)
         (a .kept)
-        (subst (λ (m : ℕ). Resumed region s piece used (record { stream = record { taken = m; stored = s .stored }; taken = used + (m - s .taken); event = Whole x }) region)
+        (subst (λ (m : ℕ). Resumed region s piece used
+        (record { stream = record { taken = m; stored = s .stored }; taken = used + (m - s .taken); event = Whole x }) region)
         (is-lengths .1)
         (body-whole (here .started) x (is-read ∙ f) (a .kept ∙ sym (is-lengths .0)) (rw (is-lengths .1) (here .below)) (rw (is-lengths .1) h)))
 
@@ -87,7 +93,8 @@ module _ {region : List ℕ} {s : Stream} {piece : List ℕ} {used end message :
     moved-head : resumed (tailIn region s) piece used ≡ resumed (tailIn after (plus s k)) piece (used + k)
     moved-head =
         moved s room-head w
-        (stored-head k (s .taken) (take (s .stored) region) (drop used piece) end message (rw (length-drop used piece) (omega (arith, many-head))) (omega (arith, in-length, lent .above)) (i .measured .sizes) (omega (arith, in-length, many-head)))
+        (stored-head k (s .taken) (take (s .stored) region) (drop used piece) end message (rw (length-drop used piece) (omega (arith, many-head)))
+        (omega (arith, in-length, lent .above)) (i .measured .sizes) (omega (arith, in-length, many-head)))
 
     after-sizes : fixedPart (take (s .stored + k) after) ≡ fixed.Sizes end message
     after-sizes =
@@ -95,13 +102,16 @@ module _ {region : List ℕ} {s : Stream} {piece : List ℕ} {used end message :
         ∙ fixed-append (take (s .stored) region) (take k (drop used piece)) (omega (arith, in-length, lent .above))
         ∙ i .measured .sizes
 
-    pub more-head : s .stored + k < end → Resumed region s piece used (record { stream = record { taken = s .taken + k; stored = s .stored + k }; taken = used + k; event = More }) after
+    pub more-head : s .stored + k < end
+        → Resumed region s piece used (record { stream = record { taken = s .taken + k; stored = s .stored + k }; taken = used + k; event = More }) after
     more-head h =
         let q : length after ≡ 2048 = length-after region (s .stored) end piece used k after room-head w in
         let m : length (take (s .stored + k) after) ≡ s .stored + k = length-take-le (s .stored + k) after (omega (arith, i .measured .small)) in
         record {
           gives = gives (length piece) after (plus s k) (used + k) More
-              (moved-head ∙ used-up after (plus s k) piece (used + k) (omega (arith, w .many)) (read-short (take (s .stored + k) after) (omega (arith, lent .above)) after-sizes (omega arith)))
+              (moved-head
+              ∙ used-up after (plus s k) piece (used + k) (omega (arith, w .many))
+              (read-short (take (s .stored + k) after) (omega (arith, lent .above)) after-sizes (omega arith)))
               (padded-after region (s .stored) end piece used k after room-head w (lent .padded))
               q
               (omega (arith, i .measured .small))
@@ -131,7 +141,8 @@ module _ {region : List ℕ} {s : Stream} {piece : List ℕ} {used end message :
           reached = omega (arith, i .kept);
         }
 
-    pub from-head : {r : Advance} {last : List ℕ} → Resumed after (record { taken = s .taken + k; stored = s .stored + k }) piece (used + k) r last → Resumed region s piece used r last
+    pub from-head : {r : Advance} {last : List ℕ} → Resumed after (record { taken = s .taken + k; stored = s .stored + k }) piece (used + k) r last
+        → Resumed region s piece used r last
     from-head g = record { gives = same-offer moved-head (g .gives) }
 
 module _ {region : List ℕ} {s : Stream} {piece : List ℕ} {used end message : ℕ} (b : InBody region s piece used end message) where
@@ -145,6 +156,8 @@ module _ {region : List ℕ} {s : Stream} {piece : List ℕ} {used end message :
   more-body h g =
       let i = b .whole in
       let l = in-length i in
-      let w = in-body-of (s .taken) (take (s .stored) region) end message (omega (arith, l, i .measured .started .above)) (i .measured .sizes) (omega (arith, l, body-kept)) (i .running (b .past)) in
-      let r : reading.Whole (w .0) ≡ readHeader (take (end - 0) (drop 0 region)) = sym (w .1) ∙ ap (λ (n : ℕ). readHeader (take n region)) (body-kept ∙ sym (sub-zero end)) in
+      let w = in-body-of (s .taken) (take (s .stored) region) end message (omega (arith, l, i .measured .started .above)) (i .measured .sizes)
+      (omega (arith, l, body-kept)) (i .running (b .past)) in
+      let r : reading.Whole (w .0) ≡ readHeader (take (end - 0) (drop 0 region)) = sym (w .1)
+      ∙ ap (λ (n : ℕ). readHeader (take n region)) (body-kept ∙ sym (sub-zero end)) in
       more-end end-body r refl h g

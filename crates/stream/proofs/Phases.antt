@@ -72,7 +72,8 @@ module _ (h : List ℕ) (x : Header) (e : readHeader h ≡ Whole x) (l : length 
   judge-open : (n : ℕ) → n < x .head + x .body → judge (tail n h) ≡ more
   judge-open n k = rw (e, lt-ltb n (x .head + x .body) k)
 
-  pub counted : (n : ℕ) (q : List ℕ) → n + length q < x .head + x .body → continued (tail n h) q ≡ record { verdict = more; taken = length q; stream = tail (n + length q) h }
+  pub counted : (n : ℕ) (q : List ℕ) → n + length q < x .head + x .body
+      → continued (tail n h) q ≡ record { verdict = more; taken = length q; stream = tail (n + length q) h }
   counted n [] k = continued-more (tail n h) [] (judge-open n (omega arith)) ∙ offer-none tails (tail n h) ∙ rw (add-zero n)
   counted n (b ∷ q) k =
       let p : n + 1 + length q ≡ n + suc (length q) = omega arith in
@@ -81,7 +82,8 @@ module _ (h : List ℕ) (x : Header) (e : readHeader h ≡ Whole x) (l : length 
       ∙ ap bump (counted (n + 1) q (omega arith))
       ∙ (λ i. record { verdict = more; taken = suc (length q); stream = tail (p i) h })
 
-  continued-whole : (n : ℕ) (q : List ℕ) → n ≡ x .head + x .body → continued (tail n h) q ≡ record { verdict = whole h x; taken = x .head + x .body - n; stream = tail (x .head + x .body) h }
+  continued-whole : (n : ℕ) (q : List ℕ) → n ≡ x .head + x .body
+      → continued (tail n h) q ≡ record { verdict = whole h x; taken = x .head + x .body - n; stream = tail (x .head + x .body) h }
   unfolding continued
   continued-whole n q k =
       let z : 0 ≡ x .head + x .body - n = omega arith in
@@ -95,7 +97,8 @@ module _ (h : List ℕ) (x : Header) (e : readHeader h ≡ Whole x) (l : length 
   ended n (b ∷ q) k m = go (decLt n (x .head + x .body)) (λ i. ended (n + 1) q i (omega arith))
     where
       go : Dec (n < x .head + x .body)
-          → (n + 1 ≤ x .head + x .body → continued (tail (n + 1) h) q ≡ record { verdict = whole h x; taken = x .head + x .body - (n + 1); stream = tail (x .head + x .body) h })
+          → (n + 1 ≤ x .head + x .body
+          → continued (tail (n + 1) h) q ≡ record { verdict = whole h x; taken = x .head + x .body - (n + 1); stream = tail (x .head + x .body) h })
           → continued (tail n h) (b ∷ q) ≡ record { verdict = whole h x; taken = x .head + x .body - n; stream = tail (x .head + x .body) h }
       go (yes d) f =
           let p : suc (x .head + x .body - (n + 1)) ≡ x .head + x .body - n = omega arith in
@@ -105,7 +108,8 @@ module _ (h : List ℕ) (x : Header) (e : readHeader h ≡ Whole x) (l : length 
           ∙ (λ i. record { verdict = whole h x; taken = p i; stream = tail (x .head + x .body) h })
       go (no d) f = continued-whole n (b ∷ q) (omega arith)
 
-pub continued-broken : (n : ℕ) (h q : List ℕ) (a : ℕ) → readHeader h ≡ Broken a → continued (tail n h) q ≡ record { verdict = broken a; taken = 0; stream = tail n h }
+pub continued-broken : (n : ℕ) (h q : List ℕ) (a : ℕ) → readHeader h ≡ Broken a
+    → continued (tail n h) q ≡ record { verdict = broken a; taken = 0; stream = tail n h }
 unfolding continued
 continued-broken n h q a e = rw e
 

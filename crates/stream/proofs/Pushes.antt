@@ -8,6 +8,7 @@ use native.Mathlib.Decide.{decLt}
 use lib.ListN.{length, take, length-append}
 use lib.Seq.{take-all}
 use borrow.Author.Tests.{lt-ltb, le-ltb, le-leb, lt-leb}
+use Rattle.wire.proofs.Texts.{impossible}
 use Rattle.header.specs.declared.Header.{Header}
 use Rattle.header.specs.declared.Fixed.{Fixed}
 use Rattle.header.specs.declared.Fixed.the-variants as fixed
@@ -42,8 +43,7 @@ module _ (h : List ℕ) (b : ℕ) (e : readHeader h ≡ Short) where
       go (few k) (fixed.Sizes head message) q = omega (arith, sized (h ++ (b ∷ [])) q .above)
       go (part i z k) (fixed.Broken a) q =
           let s = sym (z .sizes) ∙ sym (fixed-append h (b ∷ []) i) ∙ q in
-          let y : _≡_ {A = ℕ} 0 1 = cc in
-          absurd (omega arith)
+          impossible cc
       go (part {head} i z k) (fixed.Sizes head′ message) q =
           let s = sym (z .sizes) ∙ sym (fixed-append h (b ∷ []) i) ∙ q in
           let y : head ≡ head′ = cc in
@@ -66,7 +66,8 @@ module _ (h : List ℕ) (b : ℕ) (e : readHeader h ≡ Short) where
 pub push-head : (t : Tail) (b : ℕ) → readHeader (t .head) ≡ Short → push t b ≡ record { taken = t .taken + 1; head = t .head ++ (b ∷ []) }
 push-head t b e = rw (lt-ltb (length (t .head)) (headEnd (t .head)) (short-end (t .head) e .0))
 
-pub push-body : (t : Tail) (b : ℕ) (x : Header) → readHeader (t .head) ≡ Whole x → length (t .head) ≡ x .head → push t b ≡ record { taken = t .taken + 1; head = t .head }
+pub push-body : (t : Tail) (b : ℕ) (x : Header) → readHeader (t .head) ≡ Whole x → length (t .head) ≡ x .head
+    → push t b ≡ record { taken = t .taken + 1; head = t .head }
 push-body t b x e l = rw (le-ltb (length (t .head)) (headEnd (t .head)) (rw (whole-end (t .head) x e) (omega arith)))
 
 -- ---- what a verdict says of the stream whose latest byte it judges
@@ -77,7 +78,8 @@ Outcome (broken a) t = Stopped t
 Outcome (whole h x) t = (readHeader h ≡ Whole x) × (length (t .head) ≡ x .head)
 
 -- a stream that has just its whole head, of which n bytes have come
-body-outcome : (n : ℕ) (h : List ℕ) (x : Header) → readHeader h ≡ Whole x → length h ≡ x .head → x .head ≤ n → Outcome (finished n h (Whole x)) (record { taken = n; head = h })
+body-outcome : (n : ℕ) (h : List ℕ) (x : Header) → readHeader h ≡ Whole x → length h ≡ x .head → x .head ≤ n
+    → Outcome (finished n h (Whole x)) (record { taken = n; head = h })
 body-outcome n h x e l k = go (decLt n (x .head + x .body))
   where
     go : Dec (n < x .head + x .body) → Outcome (finished n h (Whole x)) (record { taken = n; head = h })
@@ -92,11 +94,13 @@ pushed t b (in-head e n) = subst⁻¹ (λ (u : Tail). Outcome (judge u) u) (push
     n′ : t .taken + 1 ≡ length (t .head ++ (b ∷ []))
     n′ = rw (length-append (t .head) (b ∷ []), n)
 
-    go : (r : Reading) → readHeader (t .head ++ (b ∷ [])) ≡ r → Outcome (finished (t .taken + 1) (t .head ++ (b ∷ [])) r) (record { taken = t .taken + 1; head = t .head ++ (b ∷ []) })
+    go : (r : Reading) → readHeader (t .head ++ (b ∷ [])) ≡ r
+        → Outcome (finished (t .taken + 1) (t .head ++ (b ∷ [])) r) (record { taken = t .taken + 1; head = t .head ++ (b ∷ []) })
     go Short f = in-head f n′
     go (Broken a) f = stopped a f n′ (breaks (t .head) b e a f)
     go (Whole x) f = let l = completes (t .head) b e x f in body-outcome (t .taken + 1) (t .head ++ (b ∷ [])) x f l (omega (arith, n′))
-pushed t b (in-body x e l n k) = subst⁻¹ (λ (u : Tail). Outcome (judge u) u) (push-body t b x e l) (rw e (body-outcome (t .taken + 1) (t .head) x e l (omega arith)))
+pushed t b (in-body x e l n k) =
+    subst⁻¹ (λ (u : Tail). Outcome (judge u) u) (push-body t b x e l) (rw e (body-outcome (t .taken + 1) (t .head) x e l (omega arith)))
 
 -- ---- a piece
 
@@ -123,5 +127,6 @@ module _ (t : Tail) (p : List ℕ) (g : goodTail t ≡ true) (o : judge t ≡ mo
   offer-good = settled-good (offer tails t p .verdict) (offer tails t p .stream) (offered t p (more-runs t g o))
 
   -- the head that a whole message hands over is a whole head, and the stream keeps nothing behind it
-  pub offer-whole : (h : List ℕ) (x : Header) → offer tails t p .verdict ≡ whole h x → (readHeader h ≡ Whole x) × (length (offer tails t p .stream .head) ≡ x .head)
+  pub offer-whole : (h : List ℕ) (x : Header) → offer tails t p .verdict ≡ whole h x
+      → (readHeader h ≡ Whole x) × (length (offer tails t p .stream .head) ≡ x .head)
   offer-whole h x e = subst (λ (v : Verdict). Outcome v (offer tails t p .stream)) e (offered t p (more-runs t g o))

@@ -16,7 +16,8 @@ started-length {region} {s} b = length-take-le (s .stored) region (omega (arith,
 
 -- ---- bytes stored
 
-module _ (region : List ℕ) (stored limit : ℕ) (piece : List ℕ) (used k : ℕ) (after : List ℕ) (r : Room region stored limit piece used) (s : Stored region stored limit piece used k after) where
+module _ (region : List ℕ) (stored limit : ℕ) (piece : List ℕ) (used k : ℕ) (after : List ℕ) (r : Room region stored limit piece used)
+    (s : Stored region stored limit piece used k after) where
   pub fits : (stored + k ≤ limit) × (used + k ≤ length piece)
   fits = (omega (arith, r .up, s .many), omega (arith, r .within, s .many))
 
@@ -34,14 +35,22 @@ module _ (region : List ℕ) (stored limit : ℕ) (piece : List ℕ) (used k : �
 
   pub length-after : length after ≡ 2048
   length-after =
-      rw (s .bytes, length-append (take stored region) (take k (drop used piece) ++ drop (stored + k) region), length-append (take k (drop used piece)) (drop (stored + k) region), head-length, bytes-length, length-drop (stored + k) region)
+      rw (
+        s .bytes,
+        length-append (take stored region) (take k (drop used piece) ++ drop (stored + k) region),
+        length-append (take k (drop used piece)) (drop (stored + k) region),
+        head-length,
+        bytes-length,
+        length-drop (stored + k) region,
+      )
       (omega (arith, fits, r .inside, r .sized))
 
   pub padded-after : region ≡ pad 2048 (take stored region) → after ≡ pad 2048 (take (stored + k) after)
   padded-after p =
       let f = fits in
       let i : limit ≤ 2048 = r .inside in
-      let l : length (take stored region ++ take k (drop used piece)) ≡ stored + k = length-append (take stored region) (take k (drop used piece)) ∙ ap₂ _+_ head-length bytes-length in
+      let l : length (take stored region ++ take k (drop used piece)) ≡ stored + k = length-append (take stored region) (take k (drop used piece))
+      ∙ ap₂ _+_ head-length bytes-length in
       let e : 2048 - length (take stored region) - k ≡ 2048 - (stored + k) = omega (arith, head-length) in
       let z : drop (stored + k) region ≡ replicate (2048 - (stored + k)) 0 =
       sym (drop-drop k stored region)
@@ -58,12 +67,25 @@ module _ (region : List ℕ) (stored limit : ℕ) (piece : List ℕ) (used k : �
 
 -- ---- what the code of `store` shows
 
-module _ (region : List ℕ) (stored limit : ℕ) (piece : List ℕ) (used : ℕ) (r : Room region stored limit piece used) (k : ℕ) (e : k ≡ min (limit - stored) (length piece - used)) where
+module _ (region : List ℕ) (stored limit : ℕ) (piece : List ℕ) (used : ℕ) (r : Room region stored limit piece used) (k : ℕ)
+    (e : k ≡ min (limit - stored) (length piece - used)) where
   pub same-lengths : length (take (stored + k - stored) (drop stored region)) ≡ length (take (used + k - used) (drop used piece))
   same-lengths =
-      rw (cut-at stored k region, cut-at used k piece, length-take k (drop stored region), length-take k (drop used piece), length-drop stored region, length-drop used piece)
+      rw (
+        cut-at stored k region,
+        cut-at used k piece,
+        length-take k (drop stored region),
+        length-take k (drop used piece),
+        length-drop stored region,
+        length-drop used piece,
+      )
       (omega (arith, r .up, r .inside, r .within, r .sized))
 
   pub stores : (ys : List ℕ) → ys ≡ take (used + k - used) (drop used piece)
       → Stored region stored limit piece used k (take stored region ++ (ys ++ drop (stored + k - stored) (drop stored region)))
-  stores ys q = record { many = e; bytes = put-at stored k region ys ∙ ap (λ (x : List ℕ). take stored region ++ (x ++ drop (stored + k) region)) (q ∙ cut-at used k piece) }
+  stores ys q =
+      record {
+        many = e;
+        bytes = put-at stored k region ys
+            ∙ ap (λ (x : List ℕ). take stored region ++ (x ++ drop (stored + k) region)) (q ∙ cut-at used k piece);
+      }

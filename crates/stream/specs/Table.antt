@@ -5,7 +5,7 @@ use mathlib.Core.Bool.{cond}
 use mathlib.Core.List.{List, [], _∷_, _++_}
 use Prim.Native.Nat.{ℕ}
 use lib.ListN.{take, drop, set, length}
-use Rattle.wire.specs.Bytes.{bytes}
+use Rattle.wire.specs.Bytes.{byte, bytes}
 use Rattle.wire.specs.declared.Order.the-variants.{Little}
 use Rattle.header.specs.Table.{callCIn}
 use Rattle.stream.specs.Stream.{Offer, offer, verdictAnswer}
@@ -31,10 +31,10 @@ streamTable =
     (pieceBehind [] [], 10 ∷ 0 ∷ 0 ∷ [])  -- T1
     ∷ (pieceBehind (take 20 C) [], 10 ∷ 0 ∷ 20 ∷ [])
     ∷ (pieceBehind [] (take 15 C), 10 ∷ 15 ∷ 15 ∷ [])  -- T2
-    ∷ (pieceBehind [] (take 15 (set C 0 76)), 10 ∷ 15 ∷ 15 ∷ [])  -- 1 is not found before byte 16
-    ∷ (pieceBehind [] (set C 0 76), 1 ∷ 16 ∷ 16 ∷ [])  -- T5
-    ∷ (storedAs 16 (take 16 (set C 0 76)), 1 ∷ [])
-    ∷ (storedAs 17 (take 17 (set C 0 76)), 0 ∷ [])
+    ∷ (pieceBehind [] (take 15 (set C 0 (byte "L"))), 10 ∷ 15 ∷ 15 ∷ [])  -- 1 is not found before byte 16
+    ∷ (pieceBehind [] (set C 0 (byte "L")), 1 ∷ 16 ∷ 16 ∷ [])  -- T5
+    ∷ (storedAs 16 (take 16 (set C 0 (byte "L"))), 1 ∷ [])
+    ∷ (storedAs 17 (take 17 (set C 0 (byte "L"))), 0 ∷ [])
     ∷ (storedAs 47 (take 47 C), 1 ∷ [])
     ∷ (storedAs 48 C, 0 ∷ [])  -- it would have been judged
     ∷ (storedAs 51 bodied, 1 ∷ [])
