@@ -12,7 +12,7 @@ use Rattle.wire.specs.Lists.{distinct}
 use Rattle.policy.specs.Names.{owns}
 use Rattle.rules.specs.Addresses.{ownable}
 use Rattle.rules.specs.Calls.{isOwner}
-use Rattle.memory.specs.Layout.{slotStart, firstName, nameWidth}
+use Rattle.memory.specs.Layout.{slotStart, firstName, nameWidth, nameRoom}
 use Rattle.memory.specs.Encoding.{stateOf}
 use Rattle.memory.specs.Good.{goodNames}
 use Rattle.memory.specs.Places.{FoundSlot}
@@ -44,11 +44,11 @@ pub ruleset name-tests = (name-bad, name-twice, name-good, needs)
 -- ---- the names of a slot, of which j are tested
 
 pub record Naming (m : List ℕ) (i count j : ℕ) : Type 0 where
-  pub few : count ≤ 4
+  pub few : count ≤ nameRoom
   pub counted : count ≡ length (peerAt m i .names)
   pub left : goodNames (peerAt m i .names) (drop (i + 1) (stateOf m .slots)) ≡ goodNames (drop j (peerAt m i .names)) (drop (i + 1) (stateOf m .slots))
 
-pub naming-begins : {m : List ℕ} {i count : ℕ} → count ≡ length (peerAt m i .names) → count ≤ 4 → Naming m i count 0
+pub naming-begins : {m : List ℕ} {i count : ℕ} → count ≡ length (peerAt m i .names) → count ≤ nameRoom → Naming m i count 0
 naming-begins e h = record { few = h; counted = e; left = refl }
 
 module _ {m : List ℕ} {i count j : ℕ} (l : Naming m i count j) where

@@ -22,8 +22,9 @@ use Rattle.tables.proofs.Same.{same-zeros, same-split, table-same, plain-always
 use Rattle.policy.specs.Names.{cellOf, nameOf}
 use Rattle.stream.specs.Tail.{Tail}
 use Rattle.rules.specs.State.{Slot, free, peer}
-use Rattle.memory.specs.Layout.{memoryLength, slotLength, slotStart, gidsAt, gidWidth, gidRoom, gidsLength, pendingAt, callWidth, callRoom, pendingLength, namesAt}
-use Rattle.memory.specs.Layout.{firstName, nameWidth, nameRoom, namesLength, takenAt, headAt, firstByte, headRoom, keptLength, restLength, uidAt, restAt}
+use Rattle.memory.specs.Layout.{gidWidth, gidRoom, serialOffset, callWidth, callRoom, nameWidth, nameRoom, headRoom, gidsLength}
+use Rattle.memory.specs.Layout.{pendingLength, namesLength, keptLength, restLength, uidAt, gidsAt, pendingAt, namesAt, firstName}
+use Rattle.memory.specs.Layout.{takenAt, headAt, firstByte, restAt, slotLength, slotStart, memoryLength}
 use Rattle.memory.specs.Encoding.{pendingBytes, headBytes, restBytes, peerBytes, slotBytes, wordOf, pendingOf, slotOf}
 use Rattle.memory.specs.Places.{peerFrom}
 use Rattle.memory.proofs.Reading.{slot-take, peer-from}
@@ -90,8 +91,9 @@ module _ (m : List ℕ) (f : (i : ℕ) → getD m i 0 < 256) where
 
 pending-again : (b : List ℕ) → length b ≡ callWidth → ((i : ℕ) → getD b i 0 < 256) → pendingBytes (pendingOf b) ≡ b
 pending-again b l f =
-    let q : length (drop 4 b) ≡ 4 = length-drop 4 b ∙ omega arith in
-    let y : wordBytes (wordAt Little b 4) ≡ drop 4 b = rw (← word-front b 4) (bytes-again (drop 4 b) q (bytes-drop 4 b f)) in
+    let q : length (drop serialOffset b) ≡ 4 = length-drop serialOffset b ∙ omega arith in
+    let y : wordBytes (wordAt Little b serialOffset) ≡ drop serialOffset b
+    = rw (← word-front b serialOffset) (bytes-again (drop serialOffset b) q (bytes-drop serialOffset b f)) in
     ap (λ (z : List ℕ). wordBytes (wordAt Little b 0) ++ z) y ∙ sym (word-cut b (omega arith) f)
 
 zeros-same : (n : ℕ) (d : List ℕ) → n ≤ length d → same (replicate n 0) (take n d) ≡ allZero (take n d)

@@ -56,7 +56,8 @@ module _ (m : List ℕ) (i n : ℕ) (e : n ≡ wordAt Little m (slotStart i + he
   unfolding headTest
   head-many h = rw (← e, lt-leb n headRoom h)
 
-  pub head-zero : n ≤ headRoom → (r : Bool) → r ≡ allZero (take (slotStart i + slotLength - (slotStart i + firstByte + n)) (drop (slotStart i + firstByte + n) m))
+  pub head-zero : n ≤ headRoom → (r : Bool)
+      → r ≡ allZero (take (slotStart i + slotLength - (slotStart i + firstByte + n)) (drop (slotStart i + firstByte + n) m))
       → r ≡ headTest m i
   unfolding headTest
   head-zero h r z = z ∙ rw (← e, le-leb n headRoom h)

@@ -20,7 +20,7 @@ use Rattle.tables.proofs.Cells.{parts-length}
 use Rattle.stream.specs.Tail.{goodTail}
 use Rattle.rules.specs.State.{free, peer, isPeer}
 use Rattle.memory.specs.Layout.{memoryLength, slotLength, slotStart, gidsAt, gidWidth, gidRoom, pendingAt, callWidth}
-use Rattle.memory.specs.Layout.{callRoom, takenAt, headAt, firstByte, headRoom, nameRoom, namesAt, slotsAt}
+use Rattle.memory.specs.Layout.{callRoom, takenAt, headAt, firstByte, headRoom, nameRoom, slotsAt}
 use Rattle.memory.specs.Encoding.{slotOf, slotBytes, stateOf}
 use Rattle.memory.specs.Good.{goodNames, goodPending, goodPeer, goodSlot, goodSlots, plainSlots, good}
 use Rattle.memory.specs.Places.{numberAt, FoundSlot}

@@ -11,7 +11,7 @@ use Rattle.wire.specs.Words.{wordBytes}
 use Rattle.wire.proofs.Words.{word-length}
 use Rattle.tables.specs.Cut.{cutOut, Cell, without}
 use Rattle.tables.proofs.Written.{put-joined, part-cell, remove-written}
-use Rattle.memory.specs.Layout.{memoryLength, slotStart, pendingAt, firstCallee, callWidth, callRoom, pendingLength}
+use Rattle.memory.specs.Layout.{memoryLength, slotStart, pendingAt, firstCallee, callWidth, callRoom, pendingLength, serialOffset}
 use Rattle.memory.specs.Encoding.{pendingBytes}
 use Rattle.memory.proofs.Frame.{pending-length}
 use Rattle.memory.proofs.Puts.{pending-stands, pending-put, call-appended}
@@ -22,7 +22,8 @@ use Rattle.judge.specs.Steps.{Began, CallRemoved}
 
 pub call-began : (m m₁ m₂ m₃ : List ℕ) (i n callee serial : ℕ) → Seated m i → n ≡ length (peerAt m i .pending) → n < callRoom → ((j : ℕ) → Fits w8 (getD m j 0))
     → m₁ ≡ take (slotStart i + firstCallee + callWidth * n) m ++ (wordBytes callee ++ drop (slotStart i + firstCallee + callWidth * n + 4) m)
-    → m₂ ≡ take (slotStart i + firstCallee + callWidth * n + 4) m₁ ++ (wordBytes serial ++ drop (slotStart i + firstCallee + callWidth * n + 4 + 4) m₁)
+    → m₂ ≡ take (slotStart i + firstCallee + callWidth * n + serialOffset) m₁
+    ++ (wordBytes serial ++ drop (slotStart i + firstCallee + callWidth * n + serialOffset + 4) m₁)
     → m₃ ≡ take (slotStart i + pendingAt) m₂ ++ (wordBytes (n + 1) ++ drop (slotStart i + pendingAt + 4) m₂)
     → Began m i callee serial m₃
 call-began m m₁ m₂ m₃ i n callee serial p q l b e₁ e₂ e₃ =
@@ -31,8 +32,8 @@ call-began m m₁ m₂ m₃ i n callee serial p q l b e₁ e₂ e₃ =
     let o : i < 16 = p .below in
     let e : m₂ ≡ take c m ++ ((wordBytes callee ++ wordBytes serial) ++ drop (c + callWidth) m)
     = e₂
-    ∙ ap (λ (z : List ℕ). take (c + 4) z ++ (wordBytes serial ++ drop (c + 4 + 4) z)) e₁
-    ∙ put-joined m (wordBytes callee) (wordBytes serial) c 4 4 (omega arith) (word-length callee) in
+    ∙ ap (λ (z : List ℕ). take (c + serialOffset) z ++ (wordBytes serial ++ drop (c + serialOffset + 4) z)) e₁
+    ∙ put-joined m (wordBytes callee) (wordBytes serial) c serialOffset 4 (omega arith) (word-length callee) in
     record {
       is =
           call-appended m (λ j. b j .fits) (p .held) i o (p .some) (record { callee = callee; serial = serial }) m₂ m₃ n c q l refl e e₃;

@@ -3,6 +3,7 @@ use memory::CALL_WIDTH;
 use memory::FIRST_CALLEE;
 use memory::PENDING_AT;
 use memory::PENDING_LENGTH;
+use memory::SERIAL_OFFSET;
 use memory::SLOT_LENGTH;
 use memory::SLOTS_AT;
 ghost use mathlib.Core.Path.{_≡_};
@@ -19,7 +20,7 @@ pub fn begin_call(memory: &mut [u8], i: usize, n: usize, callee: u32, serial: u3
 {
     let at = SLOTS_AT + SLOT_LENGTH * i + FIRST_CALLEE + CALL_WIDTH * n;
     wire::put_u32(memory, at, callee);
-    wire::put_u32(memory, at + 4, serial);
+    wire::put_u32(memory, at + SERIAL_OFFSET, serial);
     wire::put_u32(
         memory,
         SLOTS_AT + SLOT_LENGTH * i + PENDING_AT,

@@ -20,6 +20,7 @@ use Rattle.rules.specs.State.{Pending, Slot, isPeer}
 use Rattle.rules.specs.Addresses.{ownable}
 use Rattle.rules.specs.Pending.{sameCall}
 use Rattle.rules.specs.Calls.{isOwner}
+use Rattle.memory.specs.Layout.{nameLimit}
 use Rattle.memory.specs.Encoding.{pendingBytes, pendingOf, wordOf}
 use Rattle.memory.specs.Good.{nobody, goodNames, goodPending, goodSlots}
 use Rattle.memory.specs.Sound.{word32}
@@ -39,9 +40,9 @@ pending-back w h k =
     let b : wordOf (wordBytes (w .serial)) ≡ w .serial = word-back (w .serial) k in
     λ j. record { callee = a j; serial = b j }
 
-pub name-back : (name : List ℕ) → length name ≤ 255 → nameOf (cellOf name) ≡ name
+pub name-back : (name : List ℕ) → length name ≤ nameLimit → nameOf (cellOf name) ≡ name
 unfolding cellOf
-name-back name h = rw (pad-fits 255 name h) (take-at name _ (length name) refl)
+name-back name h = rw (pad-fits nameLimit name h) (take-at name _ (length name) refl)
 
 -- ---- lists
 
@@ -54,7 +55,7 @@ maps-back t enc dec f (x ∷ xs) e = ap₂ _∷_ (f x (both-first (t x) (every t
 pub words-back : (xs : List ℕ) → every word32 xs ≡ true → map wordOf (map wordBytes xs) ≡ xs
 words-back xs e = maps-back word32 wordBytes wordOf (λ x h. word-back x (ltb-true x 4294967296 h)) xs e
 
-pub ownable-short : (name : List ℕ) → ownable name ≡ true → length name ≤ 255
+pub ownable-short : (name : List ℕ) → ownable name ≡ true → length name ≤ nameLimit
 unfolding wellKnown
 ownable-short name e = leb-true (length name) 255 (both-first (leb (length name) 255) _ (both-first (wellKnown name) (not (same name busName)) e))
 

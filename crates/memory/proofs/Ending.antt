@@ -16,7 +16,7 @@ use Rattle.tables.proofs.Table.{table-length, table-many, table-count, table-ag
 use Rattle.tables.proofs.Change.{without-length, map-without, removed, table-remove}
 use Rattle.rules.specs.State.{Pending}
 use Rattle.rules.specs.Pending.{endedAll}
-use Rattle.memory.specs.Layout.{callWidth, callRoom, pendingLength}
+use Rattle.memory.specs.Layout.{callWidth, callRoom, pendingLength, serialOffset}
 use Rattle.memory.specs.Encoding.{pendingBytes, pendingOf}
 use Rattle.memory.proofs.Frame.{pending-length}
 use Rattle.memory.proofs.Again.{pending-back}
@@ -29,7 +29,7 @@ unfolding parts
 parts-back zero d b = refl
 parts-back (suc n) d b =
     let f : (i : ℕ) → getD (take callWidth d) i 0 < 256 = bytes-take callWidth d b in
-    ap₂ _∷_ (pending-back (pendingOf (take callWidth d)) (word-fits (take callWidth d) 0 f) (word-fits (take callWidth d) 4 f))
+    ap₂ _∷_ (pending-back (pendingOf (take callWidth d)) (word-fits (take callWidth d) 0 f) (word-fits (take callWidth d) serialOffset f))
     (parts-back n (drop callWidth d) (bytes-drop callWidth d b))
 
 table-back : (t : List ℕ) → ((i : ℕ) → getD t i 0 < 256)

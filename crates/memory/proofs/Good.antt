@@ -16,7 +16,8 @@ use Rattle.tables.specs.Tables.{cells, parts, tableOf}
 use Rattle.tables.proofs.Words.{bytes-take, bytes-drop, word-fits, word-cut}
 use Rattle.stream.specs.Tail.{Tail}
 use Rattle.rules.specs.State.{Pending, Slot, free, peer, putSlot}
-use Rattle.memory.specs.Layout.{memoryLength, slotLength, slotStart, gidWidth, gidRoom, pendingAt, callWidth, callRoom, uidAt, gidsAt, slotsAt}
+use Rattle.memory.specs.Layout.{memoryLength, slotLength, slotStart, gidWidth, gidRoom, pendingAt}
+use Rattle.memory.specs.Layout.{callWidth, callRoom, uidAt, gidsAt, slotsAt, serialOffset}
 use Rattle.memory.specs.Encoding.{slotBytes, memoryOf, wordOf, pendingOf, peerOf, slotOf, stateOf}
 use Rattle.memory.specs.Good.{goodSlots, plainSlots, good}
 use Rattle.memory.specs.Sound.{headOctets, word32, narrow, Sound, Held}
@@ -98,7 +99,8 @@ slot-narrow b f = go (eqb (wordAt Little b 0) 0)
     go false =
         let u = word-narrow uidAt b f in
         let v = every-table word32 wordOf gidWidth gidRoom (word-narrow 0) (drop gidsAt b) (bytes-drop gidsAt b f) in
-        let x = every-table (λ (w : Pending). word32 (w .serial)) pendingOf callWidth callRoom (word-narrow 4) (drop pendingAt b) (bytes-drop pendingAt b f) in
+        let x = every-table (λ (w : Pending). word32 (w .serial)) pendingOf callWidth callRoom (word-narrow serialOffset) (drop pendingAt b)
+        (bytes-drop pendingAt b f) in
         rw (u, v, x)
 
 pub good-sound : (m : List ℕ) → ((i : ℕ) → getD m i 0 < 256) → good m ≡ true → Sound (stateOf m)

@@ -19,7 +19,7 @@ use Rattle.policy.specs.Names.{nameOf}
 use Rattle.stream.specs.Tail.{Tail}
 use Rattle.rules.specs.State.{Peer, free, peer}
 use Rattle.memory.specs.Layout.{slotLength, slotStart, gidsAt, firstGid, gidWidth, gidRoom, pendingAt, firstCallee, firstSerial, callWidth, callRoom}
-use Rattle.memory.specs.Layout.{namesAt, firstName, nameWidth, nameRoom, takenAt, headAt, firstByte, headRoom, slotsAt, uidAt}
+use Rattle.memory.specs.Layout.{namesAt, firstName, nameWidth, nameRoom, takenAt, headAt, firstByte, headRoom, slotsAt, uidAt, serialOffset}
 use Rattle.memory.specs.Encoding.{wordOf, pendingOf, slotTail, peerOf, slotOf, stateOf}
 use Rattle.memory.specs.Places.{peerFrom, numberAt}
 
@@ -137,16 +137,16 @@ pub pending-next : (m : List ℕ) (a j : ℕ) → j < length (peerFrom m a .pend
     ∷ drop (j + 1) (peerFrom m a .pending)
 pending-next m a j h =
     let e : a + pendingAt + (4 + callWidth * j) ≡ a + firstCallee + callWidth * j = omega arith in
-    let f : a + firstCallee + callWidth * j + 4 ≡ a + firstSerial + callWidth * j = omega arith in
+    let f : a + firstCallee + callWidth * j + serialOffset ≡ a + firstSerial + callWidth * j = omega arith in
     let d = drop (a + firstCallee + callWidth * j) m in
     table-next callWidth callRoom pendingOf (drop (a + pendingAt) m) j h
     ∙ rw (
       drop-drop (4 + callWidth * j) (a + pendingAt) m,
       e,
       word-take d callWidth 0 (omega arith),
-      word-take d callWidth 4 (omega arith),
+      word-take d callWidth serialOffset (omega arith),
       word-front m (a + firstCallee + callWidth * j),
-      word-drop Little m (a + firstCallee + callWidth * j) 4,
+      word-drop Little m (a + firstCallee + callWidth * j) serialOffset,
       f,
     )
 

@@ -16,7 +16,7 @@ use Rattle.tables.proofs.Words.{word-front}
 use Rattle.policy.specs.Names.{cellOf, nameOf}
 use Rattle.stream.specs.Tail.{Tail}
 use Rattle.rules.specs.State.{Peer, free, peer}
-use Rattle.memory.specs.Layout.{slotLength, uidAt, gidRoom, callRoom, nameRoom, takenAt, headAt, firstByte, headRoom}
+use Rattle.memory.specs.Layout.{slotLength, uidAt, gidRoom, callRoom, nameRoom, takenAt, headAt, firstByte, headRoom, headOffset}
 use Rattle.memory.specs.Encoding.{pendingBytes, headBytes, restBytes, peerBytes, slotBytes, wordOf, pendingOf, slotTail, peerOf, slotOf}
 use Rattle.memory.proofs.Frame.{pending-length, cell-length, free-bytes}
 use Rattle.memory.proofs.Fields.{gids-in, pending-in, names-in, table-back, stream-from}
@@ -61,9 +61,9 @@ head-bytes : (p : Peer Tail) → drop headAt (slotBytes (peer p)) ≡ wordBytes 
 unfolding headBytes
 head-bytes p =
     let h = p .stream .head in
-    sym (drop-drop 4 takenAt (slotBytes (peer p)))
-    ∙ ap (drop 4) (stream-words p)
-    ∙ drop-at (wordBytes (p .stream .taken)) (headBytes h ++ restBytes) 4 (word-length (p .stream .taken))
+    sym (drop-drop headOffset takenAt (slotBytes (peer p)))
+    ∙ ap (drop headOffset) (stream-words p)
+    ∙ drop-at (wordBytes (p .stream .taken)) (headBytes h ++ restBytes) headOffset (word-length (p .stream .taken))
     ∙ append-assoc (wordBytes (length h)) (pad headRoom h) restBytes
 
 pub head-count : (p : Peer Tail) → length (p .stream .head) ≤ headRoom → wordAt Little (slotBytes (peer p)) headAt ≡ length (p .stream .head)

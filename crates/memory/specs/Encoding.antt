@@ -11,7 +11,7 @@ use Rattle.tables.specs.Tables.{cells, parts, tableBytes, tableOf}
 use Rattle.policy.specs.Names.{cellOf, nameOf}
 use Rattle.stream.specs.Tail.{Tail}
 use Rattle.rules.specs.State.{Pending, Peer, Slot, free, peer, State}
-use Rattle.memory.specs.Layout.{slotLength, slotsAt, uidAt, gidsAt, gidWidth, gidRoom, pendingAt, callWidth, callRoom}
+use Rattle.memory.specs.Layout.{slotLength, slotsAt, uidAt, gidsAt, gidWidth, gidRoom, pendingAt, serialOffset, callWidth, callRoom}
 use Rattle.memory.specs.Layout.{namesAt, nameWidth, nameRoom, takenAt, headAt, firstByte, headRoom, restLength}
 
 -- ---- what a state is in bytes (rule 10.2)
@@ -52,7 +52,7 @@ abbrev pub wordOf : List ℕ → ℕ
 wordOf b = wordAt Little b 0
 
 abbrev pub pendingOf : List ℕ → Pending
-pendingOf b = record { callee = wordAt Little b 0; serial = wordAt Little b 4 }
+pendingOf b = record { callee = wordAt Little b 0; serial = wordAt Little b serialOffset }
 
 unfoldable pub slotTail : List ℕ → Tail
 slotTail b =

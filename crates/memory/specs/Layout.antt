@@ -9,9 +9,12 @@ gidWidth = 4
 abbrev pub gidRoom : ℕ
 gidRoom = 16
 
--- a pending call: the callee's number and the call's serial
+-- a pending call: the callee's number, and the call's serial at this place of it
+abbrev pub serialOffset : ℕ
+serialOffset = 4
+
 abbrev pub callWidth : ℕ
-callWidth = 8
+callWidth = serialOffset + 4
 
 abbrev pub callRoom : ℕ
 callRoom = 16
@@ -76,7 +79,7 @@ abbrev pub firstCallee : ℕ
 firstCallee = pendingAt + 4
 
 abbrev pub firstSerial : ℕ
-firstSerial = firstCallee + 4
+firstSerial = firstCallee + serialOffset
 
 abbrev pub namesAt : ℕ
 namesAt = pendingAt + pendingLength

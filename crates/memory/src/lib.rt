@@ -4,11 +4,16 @@ pub const GID_WIDTH: usize = 4;
 
 pub const GID_ROOM: usize = 16;
 
-pub const CALL_WIDTH: usize = 8;
+// Where a pending call has its serial.
+pub const SERIAL_OFFSET: usize = 4;
+
+pub const CALL_WIDTH: usize = SERIAL_OFFSET + 4;
 
 pub const CALL_ROOM: usize = 16;
 
-pub const NAME_WIDTH: usize = 256;
+pub const NAME_LIMIT: usize = 255;
+
+pub const NAME_WIDTH: usize = 1 + NAME_LIMIT;
 
 pub const NAME_ROOM: usize = 4;
 
@@ -42,7 +47,7 @@ pub const PENDING_AT: usize = GIDS_AT + GIDS_LENGTH;
 
 pub const FIRST_CALLEE: usize = PENDING_AT + 4;
 
-pub const FIRST_SERIAL: usize = FIRST_CALLEE + 4;
+pub const FIRST_SERIAL: usize = FIRST_CALLEE + SERIAL_OFFSET;
 
 pub const NAMES_AT: usize = PENDING_AT + PENDING_LENGTH;
 
