@@ -140,7 +140,10 @@ module _ {m : List ℕ} {i n j : ℕ} (l : CellsInvariant m i n j) where
     cell-at : take nameWidth (drop (nameWidth * j) (region m i)) ≡ take nameWidth (drop (slotStart i + firstName + nameWidth * j) m)
     cell-at =
         let f : n ≤ nameRoom = l .few in
-        rw (drop-part (nameWidth * j) (nameWidth * nameRoom) ((nameWidth * nameRoom) - nameWidth * j) (drop (slotStart i + firstName) m) (omega arith), drop-drop (nameWidth * j) (slotStart i + firstName) m)
+        rw (
+          drop-part (nameWidth * j) (nameWidth * nameRoom) ((nameWidth * nameRoom) - nameWidth * j) (drop (slotStart i + firstName) m) (omega arith),
+          drop-drop (nameWidth * j) (slotStart i + firstName) m,
+        )
         (take-take nameWidth ((nameWidth * nameRoom) - nameWidth * j) (drop (slotStart i + firstName + nameWidth * j) m) (omega arith))
 
     step : plainCells cellOf nameOf nameWidth (n - j) (drop (nameWidth * j) (region m i))
@@ -167,6 +170,10 @@ module _ {m : List ℕ} {i n j : ℕ} (l : CellsInvariant m i n j) where
       z
       ∙ sym (l .left
       ∙ plain-end nameWidth cellOf cell-length nameOf n j (region m i) h
-      ∙ rw (drop-part (nameWidth * j) (nameWidth * nameRoom) ((nameWidth * nameRoom) - nameWidth * j) (drop (slotStart i + firstName) m) (omega arith), drop-drop (nameWidth * j) (slotStart i + firstName) m, k))
+      ∙ rw (
+        drop-part (nameWidth * j) (nameWidth * nameRoom) ((nameWidth * nameRoom) - nameWidth * j) (drop (slotStart i + firstName) m) (omega arith),
+        drop-drop (nameWidth * j) (slotStart i + firstName) m,
+        k,
+      ))
 
 pub ruleset cells = (cells-many, cells-begins, cells-more, cells-stops, cells-ends, needs)
