@@ -59,7 +59,9 @@ pub const HEAD_AT: usize = TAKEN_AT + HEAD_OFFSET;
 
 pub const FIRST_BYTE: usize = HEAD_AT + 4;
 
-pub const SLOT_LENGTH: usize = TAKEN_AT + STREAM_LENGTH + REST_LENGTH;
+pub const REST_AT: usize = TAKEN_AT + STREAM_LENGTH;
+
+pub const SLOT_LENGTH: usize = REST_AT + REST_LENGTH;
 
 // Slot i begins at SLOTS_AT + SLOT_LENGTH * i, behind the last number.
 pub const SLOTS_AT: usize = 4;
