@@ -5,14 +5,14 @@ use mathlib.Core.List.{List}
 use Prim.Native.Nat.{ℕ, _+_, _-_, _*_, _≤_, _<_}
 use native.Mathlib.Omega.{arith}
 use lib.Dec.{leb}
-use lib.ListN.{length, take, drop, getD, drop-of-length-le}
+use lib.ListN.{length, drop, getD, drop-of-length-le}
 use borrow.Author.Needs.{needs}
 use borrow.Author.Tests.{not-true, not-false}
 use Rattle.wire.specs.Lists.{distinct}
-use Rattle.policy.specs.Names.{owns}
+use Rattle.policy.specs.Names.{owns, nameWidth}
 use Rattle.rules.specs.Addresses.{ownable}
 use Rattle.rules.specs.Calls.{isOwner}
-use Rattle.memory.specs.Layout.{slotStart, firstName, nameWidth, nameRoom}
+use Rattle.memory.specs.Layout.{slotStart, firstName, nameRoom}
 use Rattle.memory.specs.Encoding.{stateOf}
 use Rattle.memory.specs.Good.{goodNames}
 use Rattle.memory.specs.Places.{FoundSlot}

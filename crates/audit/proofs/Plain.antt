@@ -2,15 +2,15 @@
 use mathlib.Core.Path.{_≡_, refl, sym, ap, ap₂, _∙_}
 use mathlib.Core.Bool.{Bool, true, false, _&&_}
 use mathlib.Core.List.{List, _++_, append-assoc}
-use Prim.Native.Nat.{ℕ, _+_, _-_, _*_, _≤_, _<_, min}
+use Prim.Native.Nat.{ℕ, _+_, _-_, _*_, _≤_, min, _<_}
 use native.Mathlib.Omega.{arith}
 use native.Mathlib.Decide.{decLe}
 use native.Mathlib.Nat.{add-zero, mul-le-mul-left}
 use lib.Dec.{leb}
-use lib.ListN.{length, take, drop, getD, replicate, length-drop}
+use lib.ListN.{length, take, drop, replicate, length-drop}
 use lib.Seq.{drop-drop, length-take-le, take-add, take-take}
 use borrow.Author.Tests.{le-leb, lt-leb, ne-eqb}
-use Rattle.wire.specs.Bytes.{allZero, same, front}
+use Rattle.wire.specs.Bytes.{Below, allZero, same, front}
 use Rattle.wire.specs.Words.{wordAt, wordBytes}
 use Rattle.wire.specs.declared.Order.the-variants.{Little}
 use Rattle.wire.proofs.Texts.{same-refl, zero-append}
@@ -19,10 +19,10 @@ use Rattle.tables.specs.Tables.{tableBytes, tableOf, plainCells}
 use Rattle.tables.proofs.Words.{word-part, word-front, bytes-take, bytes-drop, word-cut}
 use Rattle.tables.proofs.Table.{table-length, table-take}
 use Rattle.tables.proofs.Same.{same-zeros, same-split, table-same, plain-always}
-use Rattle.policy.specs.Names.{cellOf, nameOf}
+use Rattle.policy.specs.Names.{cellOf, nameOf, nameWidth}
 use Rattle.stream.specs.Tail.{Tail}
 use Rattle.rules.specs.State.{Slot, free, peer}
-use Rattle.memory.specs.Layout.{gidWidth, gidRoom, serialOffset, callWidth, callRoom, nameWidth, nameRoom, headRoom, gidsLength}
+use Rattle.memory.specs.Layout.{gidWidth, gidRoom, serialOffset, callWidth, callRoom, nameRoom, headRoom, gidsLength}
 use Rattle.memory.specs.Layout.{pendingLength, namesLength, keptLength, restLength, uidAt, gidsAt, pendingAt, namesAt, firstName}
 use Rattle.memory.specs.Layout.{takenAt, headAt, firstByte, restAt, slotLength, slotStart, memoryLength}
 use Rattle.memory.specs.Encoding.{pendingBytes, headBytes, restBytes, peerBytes, slotBytes, wordOf, pendingOf, slotOf}
@@ -40,7 +40,7 @@ same-part x q m c n k l h =
     same-split x q (take k (drop c m)) n l
     ∙ rw (take-take n k (drop c m) h, drop-part n k (k - n) (drop c m) (omega arith), drop-drop n c m)
 
-module _ (m : List ℕ) (f : (i : ℕ) → getD m i 0 < 256) where
+module _ (m : List ℕ) (f : Below 256 m) where
   -- any word is plain
   word-plain : (c : ℕ) → c + 4 ≤ length m → same (wordBytes (wordAt Little m c)) (take 4 (drop c m)) ≡ true
   word-plain c h =
@@ -69,7 +69,7 @@ module _ (m : List ℕ) (f : (i : ℕ) → getD m i 0 < 256) where
         ∙ rw d
 
     -- where any cell is plain, the zeros alone are left to test
-    table-plain : ((b : List ℕ) → length b ≡ w → ((i : ℕ) → getD b i 0 < 256) → enc (dec b) ≡ b) → (c : ℕ) → k < 4294967296 → c + (4 + w * k) ≤ length m
+    table-plain : ((b : List ℕ) → length b ≡ w → Below 256 b → enc (dec b) ≡ b) → (c : ℕ) → k < 4294967296 → c + (4 + w * k) ≤ length m
         → same (tableBytes w k enc (tableOf w k dec (drop c m))) (take (4 + w * k) (drop c m)) ≡ tableTest m c w k
     unfolding tableTest
     table-plain always c s h = table-cells c s h ∙ go (decLe (wordAt Little m c) k)
@@ -83,13 +83,14 @@ module _ (m : List ℕ) (f : (i : ℕ) → getD m i 0 < 256) where
             let l : length (take (w * k) (drop (c + 4) m)) ≡ w * k = length-take-le (w * k) (drop (c + 4) m) (omega (arith, length-drop (c + 4) m)) in
             rw (
               le-leb n k b,
-              plain-always w enc sized dec always n (take (w * k) (drop (c + 4) m)) (omega arith) (bytes-take (w * k) (drop (c + 4) m) (bytes-drop (c + 4) m f)),
+              plain-always w enc sized dec always n (take (w * k) (drop (c + 4) m)) (omega arith)
+                  (bytes-take (w * k) (drop (c + 4) m) (bytes-drop (c + 4) m f)),
               drop-part (w * n) (w * k) (w * k - w * n) (drop (c + 4) m) (omega arith),
               drop-drop (w * n) (c + 4) m,
             )
         go (no b) = rw (lt-leb (wordAt Little m c) k (omega arith))
 
-pending-again : (b : List ℕ) → length b ≡ callWidth → ((i : ℕ) → getD b i 0 < 256) → pendingBytes (pendingOf b) ≡ b
+pending-again : (b : List ℕ) → length b ≡ callWidth → Below 256 b → pendingBytes (pendingOf b) ≡ b
 pending-again b l f =
     let q : length (drop serialOffset b) ≡ 4 = length-drop serialOffset b ∙ omega arith in
     let y : wordBytes (wordAt Little b serialOffset) ≡ drop serialOffset b
@@ -115,7 +116,7 @@ cellsFrom m a =
     leb (wordAt Little m (a + namesAt)) nameRoom
     && plainCells cellOf nameOf nameWidth (wordAt Little m (a + namesAt)) (take (nameWidth * nameRoom) (drop (a + firstName) m))
 
-module _ (m : List ℕ) (f : (i : ℕ) → getD m i 0 < 256) (a : ℕ) (h : a + slotLength ≤ length m) where
+module _ (m : List ℕ) (f : Below 256 m) (a : ℕ) (h : a + slotLength ≤ length m) where
   head-is : tableOf 1 headRoom front (drop (a + headAt) m) ≡ take (min (wordAt Little m (a + headAt)) headRoom) (drop (a + firstByte) m)
   head-is =
       let e : a + headAt + 4 ≡ a + firstByte = omega arith in
@@ -199,7 +200,7 @@ and-assoc true false c d = refl
 and-assoc false b c d = refl
 
 -- slot i has a peer, and is the bytes of what is read off it where it has its shape
-pub slot-plain : (m : List ℕ) → ((i : ℕ) → getD m i 0 < 256) → length m ≡ memoryLength → (i : ℕ) → i < 16 → (wordAt Little m (slotStart i) ≡ 0 → ⊥)
+pub slot-plain : (m : List ℕ) → Below 256 m → length m ≡ memoryLength → (i : ℕ) → i < 16 → (wordAt Little m (slotStart i) ≡ 0 → ⊥)
     → same (slotBytes (slotOf (take slotLength (drop (slotStart i) m)))) (take slotLength (drop (slotStart i) m)) ≡ shapeTest m i
 unfolding slotOf slotBytes shapeTest cellsTest headTest
 slot-plain m f l i h e =

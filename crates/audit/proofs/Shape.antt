@@ -18,8 +18,8 @@ use Rattle.wire.specs.declared.Order.the-variants.{Little}
 use Rattle.wire.proofs.Parts.{drop-take}
 use Rattle.tables.specs.Tables.{plainCells}
 use Rattle.tables.proofs.Same.{same-pad, plain-next, plain-end}
-use Rattle.policy.specs.Names.{cellOf, nameOf}
-use Rattle.memory.specs.Layout.{memoryLength, slotStart, namesAt, firstName, nameWidth, nameRoom, takenAt, headRoom, nameLimit, headAt, firstByte, slotLength}
+use Rattle.policy.specs.Names.{nameLimit, cellOf, nameOf, nameWidth}
+use Rattle.memory.specs.Layout.{memoryLength, slotStart, namesAt, firstName, nameRoom, takenAt, headRoom, headAt, firstByte, slotLength}
 use Rattle.memory.proofs.Frame.{cell-length}
 use Rattle.slots.proofs.Cells.{cell-front}
 use Rattle.audit.specs.Tests.{plainCell, tableTest, cellsTest, headTest}
@@ -41,7 +41,8 @@ module _ (m : List ℕ) (at w k n : ℕ) (e : n ≡ wordAt Little m at) where
   unfolding tableTest
   table-many h = rw (← e, lt-leb n k h)
 
-  pub table-zero : n ≤ k → (s t : ℕ) (r : Bool) → s ≡ w * n → t ≡ w * k → r ≡ allZero (take (at + 4 + t - (at + 4 + s)) (drop (at + 4 + s) m)) → r ≡ tableTest m at w k
+  pub table-zero : n ≤ k → (s t : ℕ) (r : Bool) → s ≡ w * n → t ≡ w * k → r ≡ allZero (take (at + 4 + t - (at + 4 + s)) (drop (at + 4 + s) m))
+      → r ≡ tableTest m at w k
   unfolding tableTest
   table-zero h s t r p q z =
       let d : at + 4 + t - (at + 4 + s) ≡ t - s = omega arith in

@@ -2,19 +2,17 @@
 use mathlib.Core.Path.{_≡_, refl, sym, _∙_}
 use mathlib.Core.Bool.{Bool, true, false, not, _&&_, and-true, and-false}
 use mathlib.Core.List.{List, [], _∷_}
-use Prim.Native.Nat.{ℕ, _+_, _-_, _*_, _≤_, _<_, min}
+use Prim.Native.Nat.{ℕ, _+_, _-_, _≤_, min, _<_}
 use native.Mathlib.Omega.{arith}
 use native.Mathlib.Numerals.{add-one}
 use lib.ListN.{length, take, drop, getD, drop-of-length-le, length-drop}
 use lib.Seq.{drop-cons, take-take, length-take-le}
-use mir.Syntax.{w8}
-use mir.Val.{Fits}
 use borrow.Author.Needs.{needs}
 use borrow.Author.Tests.{le-leb, lt-leb, lt-ltb, le-ltb, eq-eqb, ne-eqb, not-true, not-false}
 use Rattle.wire.specs.Bytes.{allZero, same}
 use Rattle.wire.specs.Words.{wordAt}
 use Rattle.wire.specs.declared.Order.the-variants.{Little}
-use Rattle.wire.proofs.Words.{cut-at}
+use Rattle.wire.proofs.Words.{Octets, cut-at}
 use Rattle.tables.specs.Tables.{parts}
 use Rattle.tables.proofs.Cells.{parts-length}
 use Rattle.stream.specs.Tail.{goodTail}
@@ -100,7 +98,7 @@ pub ruleset peers = (peer-high, peer-twice, peer-good, needs)
 
 -- ---- the slot
 
-module _ (m : List ℕ) (f : (i : ℕ) → Fits w8 (getD m i 0)) (l : length m ≡ memoryLength) (i : ℕ) (h : i < 16) (n last : ℕ) (e : n ≡ numberAt m i) where
+module _ (m : List ℕ) (f : Octets m) (l : length m ≡ memoryLength) (i : ℕ) (h : i < 16) (n last : ℕ) (e : n ≡ numberAt m i) where
   slot-is : slotOf (take slotLength (drop (slotStart i) m)) ≡ getD (stateOf m .slots) i free
   slot-is = sym (slot-at m i h)
 

@@ -8,14 +8,14 @@ use Rattle.wire.specs.Bytes.{allZero, same}
 use Rattle.wire.specs.Lists.{any}
 use Rattle.wire.specs.Words.{wordAt}
 use Rattle.wire.specs.declared.Order.the-variants.{Little}
-use Rattle.policy.specs.Names.{owns, cellOf, nameOf}
+use Rattle.policy.specs.Names.{owns, cellOf, nameOf, nameWidth}
 use Rattle.rules.specs.State.{isPeer}
 use Rattle.rules.specs.Addresses.{ownable}
 use Rattle.rules.specs.Pending.{awaits}
 use Rattle.rules.specs.Calls.{isOwner}
 use Rattle.tables.specs.Tables.{plainCells}
 use Rattle.memory.specs.Layout.{slotLength, slotStart, gidsAt, gidWidth, gidRoom, pendingAt, firstCallee, firstSerial, callWidth}
-use Rattle.memory.specs.Layout.{callRoom, namesAt, firstName, nameWidth, nameRoom, headAt, headRoom, firstByte}
+use Rattle.memory.specs.Layout.{callRoom, namesAt, firstName, nameRoom, headAt, headRoom, firstByte}
 use Rattle.memory.specs.Encoding.{slotBytes, slotOf, stateOf}
 use Rattle.memory.specs.Good.{nobody, goodSlot}
 use Rattle.slots.specs.Slots.{peerAt, nameAt}

@@ -7,6 +7,7 @@ use Prim.Native.Nat.{ℕ, _<_}
 use lib.Dec.{eqb}
 use lib.ListN.{length}
 use borrow.Author.Tests.{eq-eqb}
+use Rattle.wire.specs.Bytes.{Below}
 use Rattle.image.specs.Good.{imageAnswer}
 use Rattle.stream.specs.Tail.{Tail, tails}
 use Rattle.rules.specs.State.{State}
@@ -27,7 +28,7 @@ use Rattle.memory.proofs.Frame.{memory-length}
 use Rattle.memory.proofs.Octets.{every-below}
 use Rattle.sound.proofs.Keep.{empty-sound, connect-sound, own-sound, release-sound, piece-sound, disconnect-sound}
 use Rattle.book.specs.Book.{books, tailView}
-use Rattle.book.specs.Lists.{Call, starts, Answer, plain, connected, taken, gone, underImage, modelStep, answers, after, Below}
+use Rattle.book.specs.Lists.{Call, starts, Answer, plain, connected, taken, gone, underImage, modelStep, answers, after}
 use Rattle.book.specs.Lists.{Ran, ran-start, ran-connect, ran-own, ran-release, ran-piece, ran-leave, Run, done, then, Agrees}
 use Rattle.book.proofs.Tails.{simulates}
 use Rattle.book.proofs.Never.{nevers}

@@ -8,6 +8,7 @@ use native.Mathlib.Omega.{arith}
 use lib.Dec.{eqb}
 use lib.ListN.{length, drop}
 use lib.Seq.{getD-drop}
+use Rattle.wire.specs.Bytes.{Below}
 use Rattle.image.specs.Good.{imageAnswer}
 use Rattle.stream.specs.Tail.{Tail, tails}
 use Rattle.rules.specs.State.{State}
@@ -25,7 +26,7 @@ use Rattle.memory.proofs.Good.{good-is, good-sound}
 use Rattle.memory.proofs.Octets.{every-below}
 use Rattle.sound.proofs.Keep.{piece-sound}
 use Rattle.book.specs.Book.{tailView}
-use Rattle.book.specs.Lists.{Call, starts, offers, Answer, plain, connected, taken, gone, underImage, Below, after, Ran, ran-start, ran-connect}
+use Rattle.book.specs.Lists.{Call, starts, offers, Answer, plain, connected, taken, gone, underImage, after, Ran, ran-start, ran-connect}
 use Rattle.book.specs.Lists.{ran-own, ran-release, ran-piece, ran-leave, Run, done, then}
 use Rattle.rules.specs.Places.{isStop}
 use Rattle.book.specs.Split.{said, Offers, ends, again, OffersAll, nothing, next, joinedPieces}

@@ -4,7 +4,8 @@ use mathlib.Core.List.{List, [], _∷_}
 use mathlib.Core.Path.{_≡_}
 use Prim.Native.Nat.{ℕ, _<_}
 use lib.Dec.{eqb}
-use lib.ListN.{length, getD}
+use lib.ListN.{length}
+use Rattle.wire.specs.Bytes.{Below}
 use Rattle.image.specs.Good.{imageAnswer}
 use Rattle.rules.specs.State.{State}
 use Rattle.rules.specs.Calls.{Step, stays, empty, connect, own, release, piece, disconnect, noConnect, noPiece}
@@ -67,10 +68,6 @@ after b [] = b
 after b (c ∷ cs) = after (modelStep b c .state) cs
 
 -- ---- a run of the guard
-
--- numbers that fit in so many bits, as a slice of them holds
-abbrev pub Below : ℕ → List ℕ → Type 0
-Below k p = (i : ℕ) → getD p i 0 < k
 
 -- arguments that fit in their types: numbers of 32 bits, and bytes
 abbrev pub FitsTypes : Call → Type 0

@@ -2,7 +2,7 @@
 use mathlib.Core.Path.{_≡_, refl, sym, ap, ap₂, _∙_}
 use mathlib.Core.Bool.{Bool, true, false}
 use mathlib.Core.List.{List, [], _∷_}
-use Prim.Native.Nat.{ℕ, _+_, _-_, _*_, _/_, _%_, _≤_, _<_, min}
+use Prim.Native.Nat.{ℕ, _+_, _-_, _*_, _/_, _%_, _≤_, min, _<_}
 use native.Mathlib.Omega.{arith}
 use native.Mathlib.Nat.{sub-zero, add-mul-div-left, add-mul-mod-self-left}
 use lib.Dec.{leb}
@@ -12,7 +12,7 @@ use borrow.Author.Needs.{needs}
 use borrow.Author.Tests.{eq-eqb, ne-eqb, lt-ltb, leb-true, leb-false}
 use Rattle.wire.specs.Words.{wordAt, wordBytes}
 use Rattle.wire.specs.declared.Order.the-variants.{Little}
-use Rattle.wire.proofs.Words.{rest-at, cut-at}
+use Rattle.wire.proofs.Words.{Octets, rest-at, cut-at}
 use Rattle.tables.specs.Tables.{cells}
 use Rattle.tables.proofs.Words.{bytes-drop}
 use Rattle.rules.specs.Calls.{connect}
@@ -27,7 +27,7 @@ use Rattle.calls.specs.declared.Gids.{Gids}
 use Rattle.calls.specs.Script.{sizeOf, wellSized, words, gidsOf, peerCall, callOf}
 use Rattle.calls.specs.Places.{answerPlace}
 use Rattle.calls.specs.Steps.{reportWords, Shows, Reported, Stepped, GidsIn, Entry}
-use Rattle.calls.proofs.Words.{Octets, words-length, words-below}
+use Rattle.calls.proofs.Words.{words-length, words-below}
 use Rattle.calls.proofs.Entries.{at-least}
 
 -- ---- reports

@@ -1,14 +1,13 @@
 -- Words one behind the other: written to a place, and read off an argument.
 use mathlib.Core.Path.{_≡_, refl, ap, _∙_}
 use mathlib.Core.List.{List, [], _∷_, _++_, append-nil}
-use Prim.Native.Nat.{ℕ, zero, suc, _+_, _-_, _*_, _/_, _≤_, _<_, min}
+use Prim.Native.Nat.{ℕ, zero, suc, _+_, _-_, _*_, _/_, _≤_, min, _<_}
 use native.Mathlib.Omega.{arith}
 use native.Mathlib.Numerals.{add-one}
-use mir.Syntax.{w8}
-use mir.Val.{Fits}
-use lib.ListN.{length, take, drop, getD, set, drop-of-length-le, length-set}
+use lib.ListN.{length, take, drop, set, drop-of-length-le, length-set}
 use lib.Seq.{take-suc-set}
 use borrow.Author.Needs.{needs}
+use Rattle.wire.specs.Bytes.{Below}
 use Rattle.wire.specs.Words.{wordAt, wordBytes}
 use Rattle.wire.specs.declared.Order.the-variants.{Little}
 use Rattle.wire.proofs.Words.{word-drop}
@@ -16,10 +15,6 @@ use Rattle.tables.specs.Tables.{cells}
 use Rattle.tables.proofs.Words.{bytes-drop, word-fits}
 use Rattle.calls.specs.Script.{words}
 use Rattle.calls.specs.Steps.{GidsIn}
-
--- bytes are below 256
-abbrev pub Octets : List ℕ → Type 0
-Octets m = (j : ℕ) → Fits w8 (getD m j 0)
 
 -- seven words over the whole of a place
 pub place-put : (p ws u : List ℕ) → length p ≡ 28 → length ws ≡ 7 → u ≡ take 0 p ++ (cells wordBytes ws ++ drop (0 + 4 * length ws) p) → u ≡ cells wordBytes ws
@@ -35,7 +30,7 @@ unfolding words
 words-length zero s = refl
 words-length (suc n) s = ap suc (words-length n (drop 4 s))
 
-pub words-below : (n : ℕ) (s : List ℕ) → ((i : ℕ) → getD s i 0 < 256) → (i : ℕ) → getD (words n s) i 0 < 4294967296
+pub words-below : (n : ℕ) (s : List ℕ) → Below 256 s → Below 4294967296 (words n s)
 unfolding words
 words-below zero s f i = omega arith
 words-below (suc n) s f zero = word-fits s 0 f

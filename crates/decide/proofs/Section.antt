@@ -1,5 +1,4 @@
--- The search through a section of an image from its end down to its base, rules of one size in a row, context by context: a law for each way
--- through the loop, over any section.
+-- The search through a section of an image from its end down to its base, context by context: a law for each way through the loop, over any section.
 use mathlib.Core.Path.{_≡_, refl, sym, ap, subst, _∙_}
 use mathlib.Core.Bool.{Bool, true, false, false≢true}
 use mathlib.Core.List.{List}
@@ -7,38 +6,47 @@ use Prim.Native.Nat.{ℕ, zero, suc, _+_, _-_, _*_, _≤_, _<_}
 use native.Mathlib.Nat.{mul-suc}
 use native.Mathlib.Omega.{arith}
 use lib.Dec.{eqb}
-use lib.ListN.{getD}
+use Rattle.image.specs.Image.{ruleCount, ruleOffset, ruleSize, rulePlace, rulesEnd}
+use Rattle.image.specs.Rules.{ruleFrom}
 use Rattle.image.specs.Contracts.{GoodImage}
-use Rattle.policy.specs.Precedence.{deciding, ruleVerdict}
+use Rattle.image.specs.declared.Section.{Section}
+use Rattle.image.specs.declared.Section.the-variants.{Connect, Own, Transaction}
+use Rattle.image.proofs.RuleHolds.{rule-context}
+use Rattle.policy.specs.Precedence.{ruleVerdict}
+use Rattle.policy.specs.Decisions.{contextIn, allowsIn, decidesIn}
 use Rattle.policy.proofs.Precedence.{Searching, begin, down, over, pass, found}
 
--- the verdict of the rules of a size from `base` on, of which those match that `fits` says match; a rule begins with its context and its verdict
-abbrev pub judged : List ℕ → (ℕ → Bool) → ℕ → ℕ → ℕ → Bool
-judged image fits n size base =
-    ruleVerdict (λ i. eqb (getD image (base + size * i + 1) 0) 1)
-    (deciding (λ i. getD image (base + size * i) 0) (λ i. fits (base + size * i)) n)
+-- what the rules of the section decide, of which those match at whose place `fits` holds
+abbrev pub decided : Section → List ℕ → (ℕ → Bool) → Bool
+decided s image fits = ruleVerdict (allowsIn s image) (decidesIn s image (λ i. fits (rulePlace s image i)))
 
--- the search of the section at `offset` of a good image has come to a context and to the rule that ends at `at`
-pub record Section (image : List ℕ) (fits : ℕ → Bool) (n size offset base end context at : ℕ) : Type 0 where
+-- the search of the section of a good image, whose rules are of that size, has come to a context and to the rule that ends at `at`
+pub record Search (s : Section) (image : List ℕ) (fits : ℕ → Bool) (size base end context at : ℕ) : Type 0 where
   pub good : GoodImage image
-  pub start : base ≡ offset
+  pub sized : size ≡ ruleSize s
+  pub start : base ≡ ruleOffset s image
   pub i : ℕ
-  pub wide : 0 < size
-  pub stop : end ≡ base + size * n
-  pub place : at ≡ base + size * i
-  pub above : Searching (λ k. getD image (base + size * k) 0) (λ k. fits (base + size * k)) n context i
+  pub stop : end ≡ rulesEnd s image
+  pub place : at ≡ rulePlace s image i
+  pub above : Searching (contextIn s image) (λ k. fits (rulePlace s image k)) (ruleCount s image) context i
 
-pub section-begins : {image : List ℕ} {fits : ℕ → Bool} {n size offset base end : ℕ} → GoodImage image → base ≡ offset → 0 < size → n ≤ 512
-    → ((j : ℕ) → j < n → getD image (offset + size * j) 0 ≤ 3) → end ≡ base + size * n → Section image fits n size offset base end 3 end
-section-begins {n = n} g s w h four e =
+few : {image : List ℕ} → GoodImage image → (s : Section) → ruleCount s image ≤ 512
+few g Connect = omega (arith, g .header .connects)
+few g Own = omega (arith, g .header .owns)
+few g Transaction = g .header .transactions
+
+pub search-begins : {s : Section} {image : List ℕ} {fits : ℕ → Bool} {size base n : ℕ} → GoodImage image → size ≡ ruleSize s → base ≡ ruleOffset s image
+    → n ≡ ruleCount s image → Search s image fits size base (base + size * n) 3 (base + size * n)
+search-begins {s} {image} {size = size} {base} {n} g w o e =
+    let q : base + size * n ≡ rulesEnd s image = rw (w, o, e) in
     record {
       good = g;
-      start = s;
-      i = n;
-      wide = w;
-      stop = e;
-      place = e;
-      above = begin (omega arith) (λ j l. rw s (omega (arith, four j l)));
+      sized = w;
+      start = o;
+      i = ruleCount s image;
+      stop = q;
+      place = q;
+      above = begin (omega (arith, few g s)) (λ j l. omega (arith, rule-context g s j l));
     }
 
 -- how many rules stand below a place
@@ -50,55 +58,63 @@ one-below : (size base at i : ℕ) → at ≡ base + size * i → (i ≡ 0 → �
 one-below size base at zero e n = absurd (n refl)
 one-below size base at (suc i) e n = let p : suc i - 1 ≡ i = omega arith in rw p (omega (arith, rw mul-suc at e))
 
-module _ {image : List ℕ} {fits : ℕ → Bool} {n size offset base end context at : ℕ}
-    (u : Section image fits n size offset base end context at) where
+wide : (s : Section) → 0 < ruleSize s
+wide Connect = omega arith
+wide Own = omega arith
+wide Transaction = omega arith
+
+module _ {s : Section} {image : List ℕ} {fits : ℕ → Bool} {size base end context at : ℕ}
+    (u : Search s image fits size base end context at) where
   -- a context has been gone through, or all of them
   module _ (z : at ≡ base) where
     first : u .i ≡ 0
-    first = none-below size base at (u .i) (u .wide) (u .place) z
+    first = none-below (ruleSize s) (ruleOffset s image) at (u .i) (wide s) (u .place) (z ∙ u .start)
 
-    pub section-down : (context ≡ 0 → ⊥) → Section image fits n size offset base end (context - 1) end
-    section-down h = record { good = u .good; start = u .start; i = n; wide = u .wide; stop = u .stop; place = u .stop; above = down (u .above) first h }
+    pub search-down : (context ≡ 0 → ⊥) → Search s image fits size base end (context - 1) end
+    search-down h =
+        record { good = u .good; sized = u .sized; start = u .start; i = ruleCount s image; stop = u .stop; place = u .stop; above = down (u .above) first h }
 
-    pub section-over : context ≡ 0 → false ≡ judged image fits n size offset
-    section-over h = rw (← u .start) (over (u .above) (λ i. eqb (getD image (base + size * i + 1) 0) 1) first h)
+    pub search-over : context ≡ 0 → false ≡ decided s image fits
+    unfolding decidesIn
+    search-over h = over (u .above) (allowsIn s image) first h
 
   module _ (z : at ≡ base → ⊥) where
     more : u .i ≡ 0 → ⊥
-    more e = z (u .place ∙ rw e (omega arith))
+    more e = z (u .place ∙ rw e (omega (arith, u .start)))
 
-    here : base + size * (u .i - 1) ≡ at - size
-    here = one-below size base at (u .i) (u .place) more
+    here : rulePlace s image (u .i - 1) ≡ at - size
+    here = rw (u .sized) (one-below (ruleSize s) (ruleOffset s image) at (u .i) (u .place) more)
 
-    before : u .i - 1 < n
+    before : u .i - 1 < ruleCount s image
     before = let m : u .i ≡ 0 → ⊥ = more in omega (arith, u .above .inside)
 
     -- what holds of each rule's place holds of that of the rule that ends at `at`
-    pub section-at : (P : ℕ → Type 0) → ((k : ℕ) → k < n → P (offset + size * k)) → P (at - size)
-    section-at P h = subst P here (rw (u .start) (h (u .i - 1) before))
+    pub search-at : (P : ℕ → Type 0) → ((k : ℕ) → k < ruleCount s image → P (rulePlace s image k)) → P (at - size)
+    search-at P h = subst P here (h (u .i - 1) before)
 
     -- that rule is none of this context that matches
-    pub section-pass : (getD image (at - size) 0 ≡ context → fits (at - size) ≡ true → ⊥) → Section image fits n size offset base end context (at - size)
-    section-pass d =
+    pub search-pass : (ruleFrom image (at - size) .context ≡ context → fits (at - size) ≡ true → ⊥)
+        → Search s image fits size base end context (at - size)
+    search-pass d =
         record {
           good = u .good;
+          sized = u .sized;
           start = u .start;
           i = u .i - 1;
-          wide = u .wide;
           stop = u .stop;
           place = sym here;
           above = pass (u .above) more (rw here d);
         }
 
-    pub section-other : (getD image (at - size) 0 ≡ context → ⊥) → Section image fits n size offset base end context (at - size)
-    section-other n = section-pass (λ e m. n e)
+    pub search-other : (ruleFrom image (at - size) .context ≡ context → ⊥) → Search s image fits size base end context (at - size)
+    search-other n = search-pass (λ e m. n e)
 
-    pub section-miss : {r : Bool} → r ≡ fits (at - size) → r ≡ false → Section image fits n size offset base end context (at - size)
-    section-miss g f = section-pass (λ e m. false≢true (sym f ∙ g ∙ m))
+    pub search-miss : {r : Bool} → r ≡ fits (at - size) → r ≡ false → Search s image fits size base end context (at - size)
+    search-miss g f = search-pass (λ e m. false≢true (sym f ∙ g ∙ m))
 
     -- it is one
-    pub section-found : getD image (at - size) 0 ≡ context → fits (at - size) ≡ true → eqb (getD image (at - size + 1) 0) 1 ≡ judged image fits n size offset
-    section-found e m =
-        rw (← u .start)
-        (ap (λ (k : ℕ). eqb (getD image (k + 1) 0) 1) (sym here)
-        ∙ found (u .above) (λ i. eqb (getD image (base + size * i + 1) 0) 1) more (rw here e) (rw here m))
+    pub search-found : ruleFrom image (at - size) .context ≡ context → fits (at - size) ≡ true
+        → eqb (ruleFrom image (at - size) .verdict) 1 ≡ decided s image fits
+    unfolding decidesIn
+    search-found e m =
+        ap (λ (k : ℕ). eqb (ruleFrom image k .verdict) 1) (sym here) ∙ found (u .above) (allowsIn s image) more (rw here e) (rw here m)

@@ -2,9 +2,9 @@
 use mathlib.Core.List.{List}
 use Prim.Native.Nat.{ℕ, _+_, _≤_}
 use lib.ListN.{length}
-use Rattle.wire.specs.Words.{wordAt}
-use Rattle.wire.specs.declared.Order.the-variants.{Little}
-use Rattle.image.specs.Image.{stringOffset}
+use Rattle.image.specs.Image.{sectionsAt, spanWidth, nameSpan, pathSpan, interfaceSpan, memberSpan, ruleSize, stringOffset}
+use Rattle.image.specs.Rules.{spanAt}
+use Rattle.image.specs.declared.Section.the-variants.{Own, Transaction}
 use Rattle.image.specs.Contracts.{GoodImage}
 use Rattle.header.specs.declared.Place.{Place}
 use Rattle.header.specs.declared.Header.{Header}
@@ -13,22 +13,22 @@ use Rattle.header.specs.declared.Header.{Header}
 
 -- the string whose offset and length stand at `at` lies inside the image
 pub record Cited (image : List ℕ) (at : ℕ) : Type 0 where
-  pub header : 32 ≤ length image
-  pub room : at + 8 ≤ length image
-  pub inside : stringOffset image + wordAt Little image at + wordAt Little image (at + 4) ≤ length image
+  pub header : sectionsAt ≤ length image
+  pub room : at + spanWidth ≤ length image
+  pub inside : stringOffset image + spanAt image at .offset + spanAt image at .len ≤ length image
 
 -- an own rule stands at `at`
 pub record OwnAt (image : List ℕ) (at : ℕ) : Type 0 where
-  pub room : at + 16 ≤ length image
-  pub name : Cited image (at + 8)
+  pub room : at + ruleSize Own ≤ length image
+  pub name : Cited image (at + nameSpan)
 
 -- a transaction rule stands at `at`
 pub record TransactionAt (image : List ℕ) (at : ℕ) : Type 0 where
-  pub room : at + 40 ≤ length image
-  pub name : Cited image (at + 8)
-  pub path : Cited image (at + 16)
-  pub interface : Cited image (at + 24)
-  pub member : Cited image (at + 32)
+  pub room : at + ruleSize Transaction ≤ length image
+  pub name : Cited image (at + nameSpan)
+  pub path : Cited image (at + pathSpan)
+  pub interface : Cited image (at + interfaceSpan)
+  pub member : Cited image (at + memberSpan)
 
 -- ---- places in a head
 

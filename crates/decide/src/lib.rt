@@ -3,21 +3,37 @@ use header::Header;
 use header::Place;
 use image::CONNECT_COUNT;
 use image::CONNECT_OFFSET;
+use image::CONNECT_SIZE;
+use image::DIRECTION_BYTE;
+use image::INTERFACE_SPAN;
+use image::LEN_OFFSET;
+use image::MATCHER_BYTE;
+use image::MEMBER_SPAN;
+use image::NAME_SPAN;
 use image::OWN_COUNT;
 use image::OWN_OFFSET;
+use image::OWN_SIZE;
+use image::PATH_SPAN;
 use image::STRING_OFFSET;
+use image::SUBJECT_WORD;
 use image::TRANSACTION_COUNT;
 use image::TRANSACTION_OFFSET;
+use image::TRANSACTION_SIZE;
+use image::TYPE_BYTE;
+use image::VERDICT_BYTE;
 use image::word;
 use policy::Gid;
+use policy::NAME_WIDTH;
 use policy::Uid;
 ghost use mathlib.Core.Path.{_≡_};
 ghost use Prim.Native.Nat.{_+_, _*_, _≤_, _<_};
 ghost use lib.ListN.{length, drop};
 ghost use Rattle.wire.specs.Bytes.{same};
+ghost use Rattle.image.specs.Image.{ruleSize};
 ghost use Rattle.image.specs.Rules.{spanAt, textOf, ruleFrom};
+ghost use Rattle.image.specs.declared.Section.the-variants.{Connect};
 ghost use Rattle.image.specs.Contracts.{GoodImage};
-ghost use Rattle.policy.specs.Names.{nameOf, namesIn};
+ghost use Rattle.policy.specs.Names.{nameWidth, nameOf, namesIn};
 ghost use Rattle.policy.specs.Subjects.{sameUser, inGroups, subjectFits};
 ghost use Rattle.policy.specs.Matching.{connectFits, ownedFits, ownFits, partFits, fieldOf, messageOf, interfaceFits, partsFit, transactionFits};
 ghost use Rattle.policy.specs.Decisions.{mayConnect, mayOwn, mayTransact};
@@ -62,10 +78,10 @@ fn subject_fits(context: u8, subject: u32, uid: Uid, gids: &[u32]) -> bool
 
 // The name in cell j is the given one.
 fn cell_holds(names: &[u8], j: usize, name: &[u8]) -> bool
-    requires { ⌜ 256 * j + 256 ≤ length (now names) ⌝ }
-    ensures { λ r. ⌜ r ≡ same (nameOf (drop (256 * j) (now (names .entry)))) (now (name .entry)) ⌝ }
+    requires { ⌜ nameWidth * j + nameWidth ≤ length (now names) ⌝ }
+    ensures { λ r. ⌜ r ≡ same (nameOf (drop (nameWidth * j) (now (names .entry)))) (now (name .entry)) ⌝ }
 {
-    let at = 256 * j;
+    let at = NAME_WIDTH * j;
     let from = at + 1;
     let to = from + wire::wide(names[at]) as usize;
     wire::equal(&names[from..to], name)
@@ -82,14 +98,14 @@ fn text(image: &[u8], at: usize) -> &[u8]
 }
 
 fn connect_fits(image: &[u8], at: usize, uid: Uid, gids: &[u32]) -> bool
-    requires { ⌜ at + 8 ≤ length (now image) ⌝ }
+    requires { ⌜ at + ruleSize Connect ≤ length (now image) ⌝ }
     ensures { λ r. ⌜ r ≡ connectFits (ruleFrom (now (image .entry)) at) uid (now (gids .entry)) ⌝ }
 {
-    let matcher = image[at + 2];
+    let matcher = image[at + MATCHER_BYTE];
     if matcher == 0 {
         return true;
     }
-    let id = wire::u32_at(wire::Order::Little, image, at + 4);
+    let id = wire::u32_at(wire::Order::Little, image, at + SUBJECT_WORD);
     if matcher == 1 {
         return same_user(uid, Uid(id));
     }
@@ -101,11 +117,11 @@ fn owned_fits(image: &[u8], at: usize, name: &[u8]) -> bool
     requires { ⌜ OwnAt (now image) at ⌝ }
     ensures { λ r. ⌜ r ≡ ownedFits (now (image .entry)) (ruleFrom (now (image .entry)) at) (now (name .entry)) ⌝ }
 {
-    let matcher = image[at + 2];
+    let matcher = image[at + MATCHER_BYTE];
     if matcher == 0 {
         return true;
     }
-    let own = text(image, at + 8);
+    let own = text(image, at + NAME_SPAN);
     if matcher == 1 {
         return wire::equal(own, name);
     }
@@ -116,7 +132,7 @@ fn own_fits(image: &[u8], at: usize, uid: Uid, gids: &[u32], name: &[u8]) -> boo
     requires { ⌜ OwnAt (now image) at ⌝ }
     ensures { λ r. ⌜ r ≡ ownFits (now (image .entry)) (ruleFrom (now (image .entry)) at) uid (now (gids .entry)) (now (name .entry)) ⌝ }
 {
-    let subject = wire::u32_at(wire::Order::Little, image, at + 4);
+    let subject = wire::u32_at(wire::Order::Little, image, at + SUBJECT_WORD);
     if !subject_fits(image[at], subject, uid, gids) {
         return false;
     }
@@ -128,7 +144,7 @@ fn part_fits(image: &[u8], at: usize, head: &[u8], place: Place) -> bool
     requires { ⌜ PartAsked (now image) at (now head) place ⌝ }
     ensures { λ r. ⌜ r ≡ partFits (now (image .entry)) (spanAt (now (image .entry)) at) (fieldOf (now (head .entry)) place) ⌝ }
 {
-    let len = word(image, at + 4);
+    let len = word(image, at + LEN_OFFSET);
     if len == 0 {
         return true;
     }
@@ -145,16 +161,16 @@ fn interface_fits(image: &[u8], at: usize, head: &[u8], place: Place) -> bool
     requires { ⌜ InterfaceAsked (now image) at (now head) place ⌝ }
     ensures { λ r. ⌜ r ≡ interfaceFits (now (image .entry)) (ruleFrom (now (image .entry)) at) (fieldOf (now (head .entry)) place) ⌝ }
 {
-    part_fits(image, at + 24, head, place)
+    part_fits(image, at + INTERFACE_SPAN, head, place)
 }
 
 fn parts_fit(image: &[u8], at: usize, head: &[u8], header: Header) -> bool
     requires { ⌜ RuleAsked (now image) at (now head) header ⌝ }
     ensures { λ r. ⌜ r ≡ partsFit (now (image .entry)) (ruleFrom (now (image .entry)) at) (messageOf (now (head .entry)) header) ⌝ }
 {
-    part_fits(image, at + 16, head, header.path)
+    part_fits(image, at + PATH_SPAN, head, header.path)
         & interface_fits(image, at, head, header.interface)
-        & part_fits(image, at + 32, head, header.member)
+        & part_fits(image, at + MEMBER_SPAN, head, header.member)
 }
 
 // Everything of the rule but its direction and its name.
@@ -163,11 +179,11 @@ fn rule_fits(image: &[u8], at: usize, uid: Uid, gids: &[u32], head: &[u8], heade
     ensures { λ r.
         ⌜ r ≡ transactionFits (now (image .entry)) (ruleFrom (now (image .entry)) at) uid (now (gids .entry)) (messageOf (now (head .entry)) header) ⌝ }
 {
-    let of = image[at + 3];
+    let of = image[at + TYPE_BYTE];
     if (of != 0) & (of != header.kind) {
         return false;
     }
-    let subject = wire::u32_at(wire::Order::Little, image, at + 4);
+    let subject = wire::u32_at(wire::Order::Little, image, at + SUBJECT_WORD);
     if !subject_fits(image[at], subject, uid, gids) {
         return false;
     }
@@ -182,15 +198,15 @@ pub fn may_connect(image: &[u8], uid: Uid, gids: &[u32]) -> bool
     ensures { λ r. ⌜ r ≡ mayConnect (now (image .entry)) uid (now (gids .entry)) ⌝ }
 {
     let base = word(image, CONNECT_OFFSET);
-    let end = base + 8 * word(image, CONNECT_COUNT);
+    let end = base + CONNECT_SIZE * word(image, CONNECT_COUNT);
     let mut context: u8 = 3;
     'search: loop {
         let mut at = end;
         while at != base {
-            at -= 8;
+            at -= CONNECT_SIZE;
             if image[at] == context {
                 if connect_fits(image, at, uid, gids) {
-                    break 'search image[at + 1] == 1;
+                    break 'search image[at + VERDICT_BYTE] == 1;
                 }
             }
         }
@@ -207,15 +223,15 @@ pub fn may_own(image: &[u8], uid: Uid, gids: &[u32], name: &[u8]) -> bool
     ensures { λ r. ⌜ r ≡ mayOwn (now (image .entry)) uid (now (gids .entry)) (now (name .entry)) ⌝ }
 {
     let base = word(image, OWN_OFFSET);
-    let end = base + 16 * word(image, OWN_COUNT);
+    let end = base + OWN_SIZE * word(image, OWN_COUNT);
     let mut context: u8 = 3;
     'search: loop {
         let mut at = end;
         while at != base {
-            at -= 16;
+            at -= OWN_SIZE;
             if image[at] == context {
                 if own_fits(image, at, uid, gids, name) {
-                    break 'search image[at + 1] == 1;
+                    break 'search image[at + VERDICT_BYTE] == 1;
                 }
             }
         }
@@ -242,22 +258,22 @@ pub fn may_transact(
         ⌜ r ≡ mayTransact (now (image .entry)) direction uid (now (gids .entry)) (namesIn (now (names .entry))) (messageOf (now (head .entry)) header) ⌝ }
 {
     let base = word(image, TRANSACTION_OFFSET);
-    let end = base + 40 * word(image, TRANSACTION_COUNT);
+    let end = base + TRANSACTION_SIZE * word(image, TRANSACTION_COUNT);
     let mut context: u8 = 3;
     'search: loop {
         let mut at = end;
         while at != base {
-            at -= 40;
-            if (image[at] == context) & (image[at + 2] == direction) {
+            at -= TRANSACTION_SIZE;
+            if (image[at] == context) & (image[at + DIRECTION_BYTE] == direction) {
                 if rule_fits(image, at, uid, gids, head, header) {
-                    let name = text(image, at + 8);
+                    let name = text(image, at + NAME_SPAN);
                     if name.len() == 0 {
-                        break 'search image[at + 1] == 1;
+                        break 'search image[at + VERDICT_BYTE] == 1;
                     }
                     let mut j = 0;
-                    while j < names.len() / 256 {
+                    while j < names.len() / NAME_WIDTH {
                         if cell_holds(names, j, name) {
-                            break 'search image[at + 1] == 1;
+                            break 'search image[at + VERDICT_BYTE] == 1;
                         }
                         j += 1;
                     }

@@ -13,14 +13,15 @@ use Rattle.wire.proofs.Words.{word-take}
 use Rattle.wire.proofs.Texts.{impossible}
 use Rattle.header.specs.declared.Fixed.{Fixed}
 use Rattle.header.specs.declared.Fixed.the-variants.{Broken, Sizes}
-use Rattle.header.specs.Fixed.{orderOf, isOrder, serialOf, arrayLength, headLength, messageLength, sizesOf, fixedPart}
+use Rattle.header.specs.Fixed.{fixedLength, arrayLimit, messageLimit, orderOf, isOrder, serialOf, arrayLength, headLength, messageLength}
+use Rattle.header.specs.Fixed.{sizesOf, fixedPart, kindOf, versionOf}
 
-pub head-low : (s : List ℕ) → 16 ≤ headLength s
+pub head-low : (s : List ℕ) → fixedLength ≤ headLength s
 unfolding headLength
 head-low s = omega arith
 
-module _ (n : ℕ) (s : List ℕ) (h : 16 ≤ n) where
-  pub byte-front : (i : ℕ) → i < 16 → getD (take n s) i 0 ≡ getD s i 0
+module _ (n : ℕ) (s : List ℕ) (h : fixedLength ≤ n) where
+  pub byte-front : (i : ℕ) → i < fixedLength → getD (take n s) i 0 ≡ getD s i 0
   byte-front i l = getD-take n s i 0 (omega arith)
 
   pub order-front : orderOf (take n s) ≡ orderOf s
@@ -47,10 +48,10 @@ module _ (n : ℕ) (s : List ℕ) (h : 16 ≤ n) where
   fixed-front = rw (byte-front 0 (omega arith), byte-front 1 (omega arith), byte-front 3 (omega arith), sizes-front)
 
 -- bytes behind the first 16 change nothing
-pub fixed-append : (s t : List ℕ) → 16 ≤ length s → fixedPart (s ++ t) ≡ fixedPart s
+pub fixed-append : (s t : List ℕ) → fixedLength ≤ length s → fixedPart (s ++ t) ≡ fixedPart s
 fixed-append s t h = sym (fixed-front (length s) (s ++ t) h) ∙ ap fixedPart (take-at s t (length s) refl)
 
-pub head-append : (s t : List ℕ) → 16 ≤ length s → headLength (s ++ t) ≡ headLength s
+pub head-append : (s t : List ℕ) → fixedLength ≤ length s → headLength (s ++ t) ≡ headLength s
 head-append s t h = sym (head-front (length s) (s ++ t) h) ∙ ap headLength (take-at s t (length s) refl)
 
 -- ---- the fixed part, where it has none of 1 to 6
@@ -59,8 +60,8 @@ pub record Good (s : List ℕ) (head message : ℕ) : Type 0 where
   pub serial : eqb (serialOf s) 0 ≡ false
   pub head-is : head ≡ headLength s
   pub message-is : message ≡ messageLength s
-  pub array : arrayLength s ≤ 2032
-  pub message-small : message ≤ 134217728
+  pub array : arrayLength s ≤ arrayLimit
+  pub message-small : message ≤ messageLimit
 
 -- a test that was passed, and what comes after it
 passes : (b : Bool) (n : ℕ) (x : Fixed) {p q : ℕ} → cond b (Broken n) x ≡ Sizes p q → (b ≡ false) × (x ≡ Sizes p q)
@@ -75,16 +76,16 @@ numbered false m x h k later e = later e
 pub fixed-number : (s : List ℕ) {n : ℕ} → fixedPart s ≡ Broken n → (1 ≤ n) × (n ≤ 6)
 unfolding fixedPart sizesOf
 fixed-number s {n} e =
-    let six : Fixed = cond (ltb 134217728 (messageLength s)) (Broken 6) (Sizes (headLength s) (messageLength s)) in
-    let five : Fixed = cond (ltb 2032 (arrayLength s)) (Broken 5) six in
-    let three : Fixed = cond (eqb (getD s 1 0) 0) (Broken 3) (sizesOf s) in
-    let two : Fixed = cond (not (eqb (getD s 3 0) 1)) (Broken 2) three in
+    let six : Fixed = cond (ltb messageLimit (messageLength s)) (Broken 6) (Sizes (headLength s) (messageLength s)) in
+    let five : Fixed = cond (ltb arrayLimit (arrayLength s)) (Broken 5) six in
+    let three : Fixed = cond (eqb (kindOf s) 0) (Broken 3) (sizesOf s) in
+    let two : Fixed = cond (not (eqb (versionOf s) 1)) (Broken 2) three in
     numbered (not (isOrder (getD s 0 0))) 1 two (omega arith) (omega arith)
-    (numbered (not (eqb (getD s 3 0) 1)) 2 three (omega arith) (omega arith)
-    (numbered (eqb (getD s 1 0) 0) 3 (sizesOf s) (omega arith) (omega arith)
+    (numbered (not (eqb (versionOf s) 1)) 2 three (omega arith) (omega arith)
+    (numbered (eqb (kindOf s) 0) 3 (sizesOf s) (omega arith) (omega arith)
     (numbered (eqb (serialOf s) 0) 4 five (omega arith) (omega arith)
-    (numbered (ltb 2032 (arrayLength s)) 5 six (omega arith) (omega arith)
-    (numbered (ltb 134217728 (messageLength s)) 6 (Sizes (headLength s) (messageLength s)) (omega arith) (omega arith) never)))))
+    (numbered (ltb arrayLimit (arrayLength s)) 5 six (omega arith) (omega arith)
+    (numbered (ltb messageLimit (messageLength s)) 6 (Sizes (headLength s) (messageLength s)) (omega arith) (omega arith) never)))))
     e
   where
     never : Sizes (headLength s) (messageLength s) ≡ Broken n → (1 ≤ n) × (n ≤ 6)
@@ -94,14 +95,14 @@ pub fixed-good : (s : List ℕ) {head message : ℕ} → fixedPart s ≡ Sizes h
 unfolding fixedPart sizesOf
 fixed-good s {head} {message} e =
     let last : Fixed = Sizes (headLength s) (messageLength s) in
-    let six : Fixed = cond (ltb 134217728 (messageLength s)) (Broken 6) (Sizes (headLength s) (messageLength s)) in
-    let five : Fixed = cond (ltb 2032 (arrayLength s)) (Broken 5) six in
+    let six : Fixed = cond (ltb messageLimit (messageLength s)) (Broken 6) (Sizes (headLength s) (messageLength s)) in
+    let five : Fixed = cond (ltb arrayLimit (arrayLength s)) (Broken 5) six in
     let e₁ = passes (not (isOrder (getD s 0 0))) 1 _ e in
-    let e₂ = passes (not (eqb (getD s 3 0) 1)) 2 _ (e₁ .1) in
-    let e₃ = passes (eqb (getD s 1 0) 0) 3 (sizesOf s) (e₂ .1) in
+    let e₂ = passes (not (eqb (versionOf s) 1)) 2 _ (e₁ .1) in
+    let e₃ = passes (eqb (kindOf s) 0) 3 (sizesOf s) (e₂ .1) in
     let e₄ = passes (eqb (serialOf s) 0) 4 five (e₃ .1) in
-    let e₅ = passes (ltb 2032 (arrayLength s)) 5 six (e₄ .1) in
-    let e₆ = passes (ltb 134217728 (messageLength s)) 6 last (e₅ .1) in
+    let e₅ = passes (ltb arrayLimit (arrayLength s)) 5 six (e₄ .1) in
+    let e₆ = passes (ltb messageLimit (messageLength s)) 6 last (e₅ .1) in
     let u : Sizes (headLength s) (messageLength s) ≡ Sizes head message = e₆ .1 in
     let x : head ≡ headLength s = cc in
     let y : message ≡ messageLength s = cc in
@@ -109,6 +110,6 @@ fixed-good s {head} {message} e =
       serial = e₄ .0;
       head-is = x;
       message-is = y;
-      array = ltb-false 2032 (arrayLength s) (e₅ .0);
-      message-small = rw y (ltb-false 134217728 (messageLength s) (e₆ .0));
+      array = ltb-false arrayLimit (arrayLength s) (e₅ .0);
+      message-small = rw y (ltb-false messageLimit (messageLength s) (e₆ .0));
     }

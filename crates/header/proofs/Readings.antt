@@ -17,42 +17,43 @@ use Rattle.header.specs.declared.Fixed.{Fixed}
 use Rattle.header.specs.declared.Fixed.the-variants as fixed
 use Rattle.header.specs.declared.Reading.{Reading}
 use Rattle.header.specs.declared.Reading.the-variants.{Short, Broken, Whole}
-use Rattle.header.specs.Fixed.{orderOf, kindOf, bodyLength, serialOf, arrayLength, headLength, messageLength, fixedPart, fixedAnswer}
-use Rattle.header.specs.Fields.{Fields, placeOf, noFields, walk, fieldsOf}
+use Rattle.header.specs.Fixed.{fixedLength, arrayLimit, headLimit, orderOf, kindOf, bodyLength, serialOf, arrayLength, headLength}
+use Rattle.header.specs.Fixed.{messageLength, fixedPart, fixedAnswer}
+use Rattle.header.specs.Fields.{Fields, placeOf, fieldsIn, fieldsOf}
 use Rattle.header.specs.Values.{goodValues}
 use Rattle.header.specs.Required.{hasRequired}
 use Rattle.header.specs.Header.{headerOf, judgedHead, orSeven, readHead, readHeader, readingAnswer}
 use Rattle.header.specs.Contracts.{SizedHead, ValuesFit}
 use Rattle.header.proofs.Front.{word-in-front, head-front, head-low, fixed-front, fixed-append, Good, fixed-good}
-use Rattle.header.proofs.Walk.{fits-none, walk-fits}
+use Rattle.header.proofs.Walk.{array-fits}
 
 -- ---- what a reading comes to
 
-pub read-few : (s : List ℕ) → length s < 16 → readHeader s ≡ Short
+pub read-few : (s : List ℕ) → length s < fixedLength → readHeader s ≡ Short
 unfolding readHeader
-read-few s h = rw (lt-ltb (length s) 16 h)
+read-few s h = rw (lt-ltb (length s) fixedLength h)
 
-module _ (s : List ℕ) (k : 16 ≤ length s) where
+module _ (s : List ℕ) (k : fixedLength ≤ length s) where
   pub read-broken : {n : ℕ} → fixedPart s ≡ fixed.Broken n → readHeader s ≡ Broken n
   unfolding readHeader
-  read-broken e = rw (le-ltb (length s) 16 k, e)
+  read-broken e = rw (le-ltb (length s) fixedLength k, e)
 
   module _ {head message : ℕ} (e : fixedPart s ≡ fixed.Sizes head message) where
     pub read-short : length s < head → readHeader s ≡ Short
     unfolding readHeader
-    read-short h = rw (le-ltb (length s) 16 k, e, lt-ltb (length s) head h)
+    read-short h = rw (le-ltb (length s) fixedLength k, e, lt-ltb (length s) head h)
 
     pub read-whole : head ≤ length s → readHeader s ≡ readHead (take head s)
     unfolding readHeader
-    read-whole h = rw (le-ltb (length s) 16 k, e, le-ltb (length s) head h)
+    read-whole h = rw (le-ltb (length s) fixedLength k, e, le-ltb (length s) head h)
 
 -- the bytes that the fixed part says are a head are as long as their array says
 pub head-of : (s : List ℕ) {head message : ℕ} → fixedPart s ≡ fixed.Sizes head message → head ≤ length s → SizedHead (take head s)
 unfolding headLength
 head-of s {head} {message} e h =
     let g : Good s head message = fixed-good s e in
-    let a : arrayLength s ≤ 2032 = g .array in
-    let m : 16 ≤ head = rw (g .head-is) (omega arith) in
+    let a : arrayLength s ≤ arrayLimit = g .array in
+    let m : fixedLength ≤ head = rw (g .head-is) (omega arith) in
     let n : arrayLength (take head s) ≡ arrayLength s = word-in-front head s m 12 (omega arith) in
     record {
       sized = rw (length-take-le head s h, n) (g .head-is);
@@ -60,7 +61,7 @@ head-of s {head} {message} e h =
     }
 
 -- a fault of the fixed part is the answer of the whole head
-pub fixed-answers : (s : List ℕ) → 16 ≤ length s → 0 < fixedAnswer (fixedPart s) → readingAnswer (readHeader s) ≡ fixedAnswer (fixedPart s)
+pub fixed-answers : (s : List ℕ) → fixedLength ≤ length s → 0 < fixedAnswer (fixedPart s) → readingAnswer (readHeader s) ≡ fixedAnswer (fixedPart s)
 fixed-answers s k l = go (fixedPart s) refl l
   where
     go : (f : Fixed) → fixedPart s ≡ f → 0 < fixedAnswer f → readingAnswer (readHeader s) ≡ fixedAnswer f
@@ -103,7 +104,7 @@ head-number h e = subst Decided e (head-decided h)
 -- ---- bytes behind the head do not matter
 
 -- whatever the fixed part says of the head's length, n bytes are enough for it
-module _ (n : ℕ) (s : List ℕ) (h : 16 ≤ n) (enough : (head message : ℕ) → fixedPart s ≡ fixed.Sizes head message → head ≤ n) where
+module _ (n : ℕ) (s : List ℕ) (h : fixedLength ≤ n) (enough : (head message : ℕ) → fixedPart s ≡ fixed.Sizes head message → head ≤ n) where
   read-enough : readHeader (take n s) ≡ readHeader s
   read-enough = go (decLe (length s) n)
     where
@@ -122,19 +123,19 @@ module _ (n : ℕ) (s : List ℕ) (h : 16 ≤ n) (enough : (head message : ℕ) 
       go (yes l) = ap readHeader (take-all n s l)
       go (no l) = more (omega arith) (fixedPart s) refl
 
-pub read-front : (n : ℕ) (s : List ℕ) → 16 ≤ n → headLength s ≤ n → readHeader (take n s) ≡ readHeader s
+pub read-front : (n : ℕ) (s : List ℕ) → fixedLength ≤ n → headLength s ≤ n → readHeader (take n s) ≡ readHeader s
 read-front n s h k = read-enough n s h (λ head message e. subst (λ (x : ℕ). x ≤ n) (sym (fixed-good s e .head-is)) k)
 
 pub read-append : (s t : List ℕ) → (readHeader s ≡ Short → ⊥) → readHeader (s ++ t) ≡ readHeader s
-read-append s t u = go (decLe 16 (length s))
+read-append s t u = go (decLe fixedLength (length s))
   where
-    go : Dec (16 ≤ length s) → readHeader (s ++ t) ≡ readHeader s
+    go : Dec (fixedLength ≤ length s) → readHeader (s ++ t) ≡ readHeader s
     go (no k) = absurd (u (read-few s (omega arith)))
     go (yes k) =
         sym (read-enough (length s) (s ++ t) k (λ head message e. long k head message (sym (fixed-append s t k) ∙ e) (decLe head (length s))))
         ∙ ap readHeader (take-at s t (length s) refl)
       where
-        long : 16 ≤ length s → (head message : ℕ) → fixedPart s ≡ fixed.Sizes head message → Dec (head ≤ length s) → head ≤ length s
+        long : fixedLength ≤ length s → (head message : ℕ) → fixedPart s ≡ fixed.Sizes head message → Dec (head ≤ length s) → head ≤ length s
         long i head message e (yes l) = l
         long i head message e (no l) = absurd (u (read-short s i e (omega arith)))
 
@@ -143,9 +144,9 @@ read-append s t u = go (decLe 16 (length s))
 pub record Fitting (s : List ℕ) (d : Header) : Type 0 where
   pub sizes : fixedPart s ≡ fixed.Sizes (headLength s) (messageLength s)
   pub head-is : d .head ≡ headLength s
-  pub head-low : 16 ≤ d .head
+  pub head-low : fixedLength ≤ d .head
   pub head-inside : d .head ≤ length s
-  pub head-small : d .head ≤ 2048
+  pub head-small : d .head ≤ headLimit
   pub serial-is : d .serial ≡ serialOf s
   pub body-is : d .body ≡ bodyLength s
   pub path-fits : d .path .at + d .path .len ≤ d .head
@@ -156,10 +157,10 @@ pub record Fitting (s : List ℕ) (d : Header) : Type 0 where
 -- the fields of a head as long as its array says lie in it
 fields-fit : (h : List ℕ) (fs : Fields) → SizedHead h → fieldsOf h ≡ some fs → ValuesFit h fs
 unfolding fieldsOf
-fields-fit h fs w e = go (allZero (drop (16 + arrayLength h) h)) e
+fields-fit h fs w e = go (allZero (drop (fixedLength + arrayLength h) h)) e
   where
-    go : (b : Bool) → cond b (walk (arrayLength h + 1) (orderOf h) h (16 + arrayLength h) 16 noFields) none ≡ some fs → ValuesFit h fs
-    go true k = walk-fits (arrayLength h + 1) (orderOf h) h (16 + arrayLength h) 16 noFields fs (rw (w .sized) (omega arith)) (fits-none h) k
+    go : (b : Bool) → cond b (fieldsIn (orderOf h) h (fixedLength + arrayLength h)) none ≡ some fs → ValuesFit h fs
+    go true k = array-fits (orderOf h) h (fixedLength + arrayLength h) fs (rw (w .sized) (omega arith)) k
     go false k = impossible cc
 
 -- a whole head is that of fields that were found in it
@@ -172,7 +173,7 @@ head-whole h d e = go (fieldsOf h) refl e
     go (some fs) i k =
         (fs, i, judged-is h fs (λ r. r ≡ Whole d → d ≡ headerOf h fs) (λ x. impossible cc) (λ x. impossible cc) (λ x. cc) k)
 
-module _ (s : List ℕ) (d : Header) (u : readHeader s ≡ Whole d) (k : 16 ≤ length s) {head message : ℕ} (e : fixedPart s ≡ fixed.Sizes head message)
+module _ (s : List ℕ) (d : Header) (u : readHeader s ≡ Whole d) (k : fixedLength ≤ length s) {head message : ℕ} (e : fixedPart s ≡ fixed.Sizes head message)
     (l : head ≤ length s) where
   -- a place that is one of the fields'
   in-place : (fs : Fields) (p : Place) (code : ℕ) → p ≡ placeOf fs code → ValuesFit (take head s) fs → d .head ≡ head → p .at + p .len ≤ d .head
@@ -190,7 +191,7 @@ module _ (s : List ℕ) (d : Header) (u : readHeader s ≡ Whole d) (k : 16 ≤ 
       let i : head ≡ headLength s = g .head-is in
       let j : message ≡ messageLength s = g .message-is in
       let n : length (take head s) ≡ head = length-take-le head s l in
-      let m : 16 ≤ head = subst (λ (x : ℕ). 16 ≤ x) (sym i) (head-low s) in
+      let m : fixedLength ≤ head = subst (λ (x : ℕ). fixedLength ≤ x) (sym i) (head-low s) in
       let o : d .head ≡ headLength s = ap (λ (x : Header). x .head) q ∙ head-front head s m in
       let p : d .head ≡ head = o ∙ sym i in
       record {
@@ -198,7 +199,7 @@ module _ (s : List ℕ) (d : Header) (u : readHeader s ≡ Whole d) (k : 16 ≤ 
         head-is = o;
         head-low = omega arith;
         head-inside = omega arith;
-        head-small = let y : length (take head s) ≤ 2048 = w .small in omega arith;
+        head-small = let y : length (take head s) ≤ headLimit = w .small in omega arith;
         serial-is = ap (λ (x : Header). x .serial) q ∙ word-in-front head s m 8 (omega arith);
         body-is = ap (λ (x : Header). x .body) q ∙ word-in-front head s m 4 (omega arith);
         path-fits = in-place fs (d .path) 1 (ap (λ (x : Header). x .path) q) t p;
@@ -208,9 +209,9 @@ module _ (s : List ℕ) (d : Header) (u : readHeader s ≡ Whole d) (k : 16 ≤ 
       }
 
 pub whole-fits : (s : List ℕ) (d : Header) → readHeader s ≡ Whole d → Fitting s d
-whole-fits s d u = go (decLe 16 (length s))
+whole-fits s d u = go (decLe fixedLength (length s))
   where
-    sizes : 16 ≤ length s → (r : Fixed) → fixedPart s ≡ r → Fitting s d
+    sizes : fixedLength ≤ length s → (r : Fixed) → fixedPart s ≡ r → Fitting s d
     sizes k (fixed.Broken n) e =
         let x : readHeader s ≡ Broken n = read-broken s k e in
         impossible cc
@@ -222,7 +223,7 @@ whole-fits s d u = go (decLe 16 (length s))
             let x : readHeader s ≡ Short = read-short s k e (omega arith) in
             impossible cc
 
-    go : Dec (16 ≤ length s) → Fitting s d
+    go : Dec (fixedLength ≤ length s) → Fitting s d
     go (yes k) = sizes k (fixedPart s) refl
     go (no k) =
         let x : readHeader s ≡ Short = read-few s (omega arith) in

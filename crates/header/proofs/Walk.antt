@@ -2,7 +2,7 @@
 use mathlib.Core.Path.{_≡_, refl, sym, subst, _∙_}
 use mathlib.Core.Bool.{Bool, true, false, cond, not, _&&_}
 use mathlib.Core.List.{List, [], _∷_}
-use mathlib.Core.Option.{Option, none, some}
+use mathlib.Core.Option.{none, some}
 use Prim.Native.Nat.{ℕ, zero, suc, _+_, _-_, _≤_, _<_}
 use native.Mathlib.Decide.{decLe}
 use native.Mathlib.Omega.{arith}
@@ -11,35 +11,31 @@ use lib.ListN.{length, take, drop, getD, set, length-set, getD-replicate, List·
 use lib.Seq.{getD-set-same, getD-set-other}
 use borrow.Author.Tests.{eq-eqb, ne-eqb, eqb-true, eqb-false, ltb-true, leb-true, not-true}
 use Rattle.wire.specs.Bytes.{byte, allZero}
+use Rattle.wire.specs.Lists.{every}
 use Rattle.wire.specs.Words.{wordAt, roundUp8}
 use Rattle.wire.specs.declared.Order.{Order}
 use Rattle.wire.proofs.Texts.{impossible, both-first, both-second}
 use Rattle.wire.proofs.Below.{row-each}
 use Rattle.header.specs.declared.Element.{Element}
 use Rattle.header.specs.declared.Element.the-variants.{At, Bad}
-use Rattle.header.specs.Codes.{letterOf}
-use Rattle.header.specs.Fields.{Fields, absent, placeOf, noFields, textIn, valueAt, framed, elementAt, walk}
+use Rattle.header.specs.Codes.{codeLimit, Field, fieldTable, letterIn, letterOf}
+use Rattle.header.specs.Fixed.{fixedLength}
+use Rattle.header.specs.Fields.{Fields, absent, placeOf, noFields, textIn, valueAt, framed, elementAt, walk, fieldsIn}
 use Rattle.header.specs.Contracts.{ValuesFit}
 
 -- ---- the letters
 
-other : (code k : ℕ) → 9 < code → k ≤ 9 → eqb code k ≡ false
-other code k h l = ne-eqb code k (λ e. omega arith)
+-- of any fields whose codes are below the limit
+unlettered : (fs : List Field) (code : ℕ) → every (λ (f : Field). ltb (f .code) codeLimit) fs ≡ true → codeLimit ≤ code → 0 ≡ letterIn fs code
+unlettered [] code t h = refl
+unlettered (f ∷ fs) code t h =
+    let u = both-second (ltb (f .code) codeLimit) (every (λ (g : Field). ltb (g .code) codeLimit) fs) t in
+    let l = ltb-true (f .code) codeLimit (both-first (ltb (f .code) codeLimit) (every (λ (g : Field). ltb (g .code) codeLimit) fs) t) in
+    rw (ne-eqb code (f .code) (λ e. omega arith)) (unlettered fs code u h)
 
-pub no-letter : (code : ℕ) → 9 < code → 0 ≡ letterOf code
+pub no-letter : (code : ℕ) → codeLimit ≤ code → 0 ≡ letterOf code
 unfolding letterOf
-no-letter code h =
-    rw (
-      other code 1 h (omega arith),
-      other code 2 h (omega arith),
-      other code 3 h (omega arith),
-      other code 4 h (omega arith),
-      other code 5 h (omega arith),
-      other code 6 h (omega arith),
-      other code 7 h (omega arith),
-      other code 8 h (omega arith),
-      other code 9 h (omega arith),
-    )
+no-letter code h = unlettered fieldTable code refl h
 
 -- ---- where an element stands
 
@@ -91,23 +87,23 @@ value-valued o h end code letter at {c} {a} {l} {s} e = go (eqb letter (byte "g"
     go false false n t k = lower (omega arith) (text-valued h end code (at + 4) (wordAt o h at) k)
 
 -- a code with a letter is one of the table
-framed-code : (h : List ℕ) (at : ℕ) → framed h at ≡ true → getD h at 0 ≤ 9
+framed-code : (h : List ℕ) (at : ℕ) → framed h at ≡ true → getD h at 0 < codeLimit
 unfolding framed
 framed-code h at t = go (letterOf (getD h at 0)) refl t
   where
     go : (l : ℕ) → l ≡ letterOf (getD h at 0) → not (eqb l 0) && eqb (getD h (at + 1) 0) 1 && eqb (getD h (at + 2) 0) l && eqb (getD h (at + 3) 0) 0 ≡ true
-        → getD h at 0 ≤ 9
-    go l e u = known (decLe (getD h at 0) 9)
+        → getD h at 0 < codeLimit
+    go l e u = known (decLe codeLimit (getD h at 0))
       where
-        known : Dec (getD h at 0 ≤ 9) → getD h at 0 ≤ 9
-        known (yes k) = k
-        known (no k) =
+        known : Dec (codeLimit ≤ getD h at 0) → getD h at 0 < codeLimit
+        known (no k) = omega arith
+        known (yes k) =
             let f : not (eqb l 0) ≡ true =
             row-each true (not (eqb l 0) ∷ eqb (getD h (at + 1) 0) 1 ∷ eqb (getD h (at + 2) 0) l ∷ eqb (getD h (at + 3) 0) 0 ∷ []) u 0 in
-            absurd (eqb-false l 0 (not-true (eqb l 0) f) (e ∙ sym (no-letter (getD h at 0) (omega arith))))
+            absurd (eqb-false l 0 (not-true (eqb l 0) f) (e ∙ sym (no-letter (getD h at 0) k)))
 
 pub record Stands (end from code at len stop : ℕ) : Type 0 where
-  pub known : code < 10
+  pub known : code < codeLimit
   pub above : from < at
   pub inside : at + len ≤ stop
   pub ends : stop ≤ end
@@ -122,7 +118,7 @@ element-stands o h end from {c} {a} {l} {s} e = go (allZero (take (roundUp8 from
     go true t k =
         let v : Valued end (roundUp8 from + 4) (getD h (roundUp8 from) 0) c a l s =
         value-valued o h end (getD h (roundUp8 from) 0) (letterOf (getD h (roundUp8 from) 0)) (roundUp8 from + 4) k in
-        let f : getD h (roundUp8 from) 0 ≤ 9 =
+        let f : getD h (roundUp8 from) 0 < codeLimit =
         framed-code h (roundUp8 from) (both-second (allZero (take (roundUp8 from - from) (drop from h))) (framed h (roundUp8 from)) t) in
         record { known = omega arith; above = omega arith; inside = v .inside; ends = v .ends }
     go false t k = impossible cc
@@ -150,22 +146,22 @@ module _ (fuel : ℕ) (o : Order) (h : List ℕ) (end from : ℕ) (fs : Fields) 
 
 -- ---- what a walk has found lies in the head
 
-pub fits-none : (h : List ℕ) → ValuesFit h noFields
-fits-none h = record { sized = refl; inside = λ code. go code (decLe 10 code) }
+fits-none : (h : List ℕ) → ValuesFit h noFields
+fits-none h = record { sized = refl; inside = λ code. go code (decLe codeLimit code) }
   where
-    go : (code : ℕ) → Dec (10 ≤ code) → placeOf noFields code .at + placeOf noFields code .len ≤ length h
+    go : (code : ℕ) → Dec (codeLimit ≤ code) → placeOf noFields code .at + placeOf noFields code .len ≤ length h
     go code (yes l) = rw (List·getD-eq-default noFields absent l) (omega arith)
-    go code (no l) = rw (getD-replicate 10 code absent absent (omega arith)) (omega arith)
+    go code (no l) = rw (getD-replicate codeLimit code absent absent (omega arith)) (omega arith)
 
-fits-more : {h : List ℕ} {fs : Fields} (c a l : ℕ) → ValuesFit h fs → c < 10 → a + l ≤ length h → ValuesFit h (set fs c (record { at = a; len = l }))
+fits-more : {h : List ℕ} {fs : Fields} (c a l : ℕ) → ValuesFit h fs → c < codeLimit → a + l ≤ length h → ValuesFit h (set fs c (record { at = a; len = l }))
 fits-more {h} {fs} c a l f k m =
-    let z : length fs ≡ 10 = f .sized in
+    let z : length fs ≡ codeLimit = f .sized in
     record { sized = length-set fs c (record { at = a; len = l }) ∙ z; inside = λ code. go code (eqb code c) refl }
   where
     go : (code : ℕ) (b : Bool) → eqb code c ≡ b
         → placeOf (set fs c (record { at = a; len = l })) code .at + placeOf (set fs c (record { at = a; len = l })) code .len ≤ length h
     go code true e =
-        let z : length fs ≡ 10 = f .sized in
+        let z : length fs ≡ codeLimit = f .sized in
         let i : code ≡ c = eqb-true code c e in
         rw (i, getD-set-same fs c (record { at = a; len = l }) absent (omega arith)) m
     go code false e = rw (getD-set-other fs c code (record { at = a; len = l }) absent (eqb-false code c e)) (f .inside code)
@@ -195,9 +191,12 @@ module _ (fuel : ℕ) (o : Order) (h : List ℕ) (end from : ℕ) (fs gs : Field
       subst (ValuesFit h) x f
   step-fits false b = step-element (eqb-false from end b) (elementAt o h end from) refl
 
-pub walk-fits : (fuel : ℕ) (o : Order) (h : List ℕ) (end from : ℕ) (fs gs : Fields) → end ≤ length h → ValuesFit h fs
+walk-fits : (fuel : ℕ) (o : Order) (h : List ℕ) (end from : ℕ) (fs gs : Fields) → end ≤ length h → ValuesFit h fs
     → walk fuel o h end from fs ≡ some gs → ValuesFit h gs
 unfolding walk
 walk-fits zero o h end from fs gs k f e = impossible cc
 walk-fits (suc fuel) o h end from fs gs k f e =
     step-fits fuel o h end from fs gs k f e (λ s fs′ f′ e′. walk-fits fuel o h end s fs′ gs k f′ e′) (eqb from end) refl
+
+pub array-fits : (o : Order) (h : List ℕ) (end : ℕ) (fs : Fields) → end ≤ length h → fieldsIn o h end ≡ some fs → ValuesFit h fs
+array-fits o h end fs k e = walk-fits (end - fixedLength + 1) o h end fixedLength noFields fs k (fits-none h) e

@@ -27,6 +27,38 @@ error = 3
 abbrev pub signal : ℕ
 signal = 4
 
+-- the codes of the fields (rule 2.7)
+abbrev pub pathCode : ℕ
+pathCode = 1
+
+abbrev pub interfaceCode : ℕ
+interfaceCode = 2
+
+abbrev pub memberCode : ℕ
+memberCode = 3
+
+abbrev pub errorNameCode : ℕ
+errorNameCode = 4
+
+abbrev pub replySerialCode : ℕ
+replySerialCode = 5
+
+abbrev pub destinationCode : ℕ
+destinationCode = 6
+
+abbrev pub senderCode : ℕ
+senderCode = 7
+
+abbrev pub signatureCode : ℕ
+signatureCode = 8
+
+abbrev pub descriptorsCode : ℕ
+descriptorsCode = 9
+
+-- every field's code is below this number, and 0 is no field's
+abbrev pub codeLimit : ℕ
+codeLimit = 10
+
 -- a header field: its code, the letter of its type, the rule of its value, and the types of message that require it (rule 2.7)
 pub record Field : Type 0 where
   pub code : ℕ
@@ -34,18 +66,18 @@ pub record Field : Type 0 where
   pub rule : Rule
   pub required : List ℕ
 
--- path, interface, member, error name, reply serial, destination, sender, signature, descriptors (rule 2.7)
+-- the nine fields (rule 2.7)
 abbrev pub fieldTable : List Field
 fieldTable =
-    record { code = 1; letter = byte "o"; rule = name Path; required = call ∷ signal ∷ [] }
-    ∷ record { code = 2; letter = byte "s"; rule = name Interface; required = signal ∷ [] }
-    ∷ record { code = 3; letter = byte "s"; rule = name Member; required = call ∷ signal ∷ [] }
-    ∷ record { code = 4; letter = byte "s"; rule = name Interface; required = error ∷ [] }
-    ∷ record { code = 5; letter = byte "u"; rule = serial; required = return ∷ error ∷ [] }
-    ∷ record { code = 6; letter = byte "s"; rule = name BusName; required = [] }
-    ∷ record { code = 7; letter = byte "s"; rule = name BusName; required = [] }
-    ∷ record { code = 8; letter = byte "g"; rule = signature; required = [] }
-    ∷ record { code = 9; letter = byte "u"; rule = anyValue; required = [] }
+    record { code = pathCode; letter = byte "o"; rule = name Path; required = call ∷ signal ∷ [] }
+    ∷ record { code = interfaceCode; letter = byte "s"; rule = name Interface; required = signal ∷ [] }
+    ∷ record { code = memberCode; letter = byte "s"; rule = name Member; required = call ∷ signal ∷ [] }
+    ∷ record { code = errorNameCode; letter = byte "s"; rule = name Interface; required = error ∷ [] }
+    ∷ record { code = replySerialCode; letter = byte "u"; rule = serial; required = return ∷ error ∷ [] }
+    ∷ record { code = destinationCode; letter = byte "s"; rule = name BusName; required = [] }
+    ∷ record { code = senderCode; letter = byte "s"; rule = name BusName; required = [] }
+    ∷ record { code = signatureCode; letter = byte "g"; rule = signature; required = [] }
+    ∷ record { code = descriptorsCode; letter = byte "u"; rule = anyValue; required = [] }
     ∷ []
 
 abbrev pub letterIn : List Field → ℕ → ℕ

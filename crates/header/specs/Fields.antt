@@ -11,8 +11,8 @@ use Rattle.wire.specs.declared.Order.{Order}
 use Rattle.header.specs.declared.Place.{Place}
 use Rattle.header.specs.declared.Element.{Element}
 use Rattle.header.specs.declared.Element.the-variants.{At, Bad}
-use Rattle.header.specs.Fixed.{orderOf, arrayLength}
-use Rattle.header.specs.Codes.{letterOf}
+use Rattle.header.specs.Fixed.{fixedLength, orderOf, arrayLength}
+use Rattle.header.specs.Codes.{codeLimit, letterOf}
 
 -- ---- places
 
@@ -35,7 +35,7 @@ abbrev pub placeOf : Fields → ℕ → Place
 placeOf fs code = getD fs code absent
 
 abbrev pub noFields : Fields
-noFields = replicate 10 absent
+noFields = replicate codeLimit absent
 
 -- ---- one element, in an array that ends at `end`
 
@@ -66,8 +66,7 @@ elementAt o h end from =
 
 -- ---- all elements
 
--- the fields of the elements from `from` on, beside those of `fs`: the last one ends at `end`, and no code is repeated (rule 2.8). An element has
--- more than one byte, so a fuel of one more than the array's length is enough
+-- the fields of the elements from `from` on, beside those of `fs`: the last one ends at `end`, and no code is repeated (rule 2.8)
 unfoldable pub walk : ℕ → Order → List ℕ → ℕ → ℕ → Fields → Option Fields
 walk zero o h end from fs = none
 walk (suc fuel) o h end from fs =
@@ -84,7 +83,11 @@ walk (suc fuel) o h end from fs =
           ]
     ]
 
+-- the fields of the array that ends at `end`. An element has more than one byte, so a fuel of one more than the array's length is enough
+abbrev pub fieldsIn : Order → List ℕ → ℕ → Option Fields
+fieldsIn o h end = walk (end - fixedLength + 1) o h end fixedLength noFields
+
 -- the fields of the head h, or none where the array is malformed; what stands behind the array is padding (rule 2.8)
 unfoldable pub fieldsOf : List ℕ → Option Fields
 fieldsOf h =
-    cond (allZero (drop (16 + arrayLength h) h)) (walk (arrayLength h + 1) (orderOf h) h (16 + arrayLength h) 16 noFields) none
+    cond (allZero (drop (fixedLength + arrayLength h) h)) (fieldsIn (orderOf h) h (fixedLength + arrayLength h)) none

@@ -10,7 +10,8 @@ use Rattle.header.specs.declared.Fixed.{Fixed}
 use Rattle.header.specs.declared.Fixed.the-variants as fixed
 use Rattle.header.specs.declared.Reading.{Reading}
 use Rattle.header.specs.declared.Reading.the-variants.{Short, Broken, Whole}
-use Rattle.header.specs.Fixed.{orderOf, kindOf, flagsOf, bodyLength, serialOf, headLength, fixedPart}
+use Rattle.header.specs.Fixed.{fixedLength, orderOf, kindOf, flagsOf, bodyLength, serialOf, headLength, fixedPart}
+use Rattle.header.specs.Codes.{pathCode, interfaceCode, memberCode, errorNameCode, replySerialCode, destinationCode}
 use Rattle.header.specs.Fields.{Fields, placeOf, textAt, fieldsOf}
 use Rattle.header.specs.Values.{numberIn, goodValues}
 use Rattle.header.specs.Required.{hasRequired}
@@ -24,12 +25,12 @@ headerOf h fs =
       serial = serialOf h;
       body = bodyLength h;
       head = headLength h;
-      «reply_serial» = numberIn (orderOf h) (textAt h (placeOf fs 5));
-      path = placeOf fs 1;
-      interface = placeOf fs 2;
-      member = placeOf fs 3;
-      «error_name» = placeOf fs 4;
-      destination = placeOf fs 6;
+      «reply_serial» = numberIn (orderOf h) (textAt h (placeOf fs replySerialCode));
+      path = placeOf fs pathCode;
+      interface = placeOf fs interfaceCode;
+      member = placeOf fs memberCode;
+      «error_name» = placeOf fs errorNameCode;
+      destination = placeOf fs destinationCode;
     }
 
 -- 8, then 9 (rules 2.9, 2.10 and 2.11)
@@ -50,7 +51,7 @@ afterFixed s (fixed.Broken n) = Broken n
 afterFixed s (fixed.Sizes head message) = cond (ltb (length s) head) Short (readHead (take head s))
 
 unfoldable pub readHeader : List ℕ → Reading
-readHeader s = cond (ltb (length s) 16) Short (afterFixed s (fixedPart s))
+readHeader s = cond (ltb (length s) fixedLength) Short (afterFixed s (fixedPart s))
 
 -- the answer number of each case: 10 says that more bytes are needed, and 0 that the head has none of the faults (rules 2.4 and 2.11)
 abbrev pub readingAnswer : Reading → ℕ

@@ -10,7 +10,7 @@ use Rattle.wire.specs.declared.Order.{Order}
 use Rattle.names.specs.Names.{validName}
 use Rattle.signature.specs.Signature.{validSignature}
 use Rattle.header.specs.declared.Place.{Place}
-use Rattle.header.specs.Codes.{Rule, name, serial, signature, anyValue, ruleOf}
+use Rattle.header.specs.Codes.{Rule, name, serial, signature, anyValue, codeLimit, ruleOf}
 use Rattle.header.specs.Fields.{Fields, placeOf, present, textAt}
 
 -- the number in the four bytes of a value; 0 where a value has fewer, as an absent one (rule 2.12)
@@ -32,4 +32,4 @@ unfoldable pub goodField : Order → List ℕ → Place → ℕ → Bool
 goodField o h p code = not (present p) || goodValue o code (textAt h p)
 
 unfoldable pub goodValues : Order → List ℕ → Fields → Bool
-goodValues o h fs = below (λ code. goodField o h (placeOf fs code) code) 10
+goodValues o h fs = below (λ code. goodField o h (placeOf fs code) code) codeLimit

@@ -11,7 +11,7 @@ use Rattle.wire.specs.Words.{wordAt}
 use Rattle.wire.specs.declared.Order.the-variants.{Little}
 use Rattle.wire.proofs.Below.{row-each, Testing, begin}
 use Rattle.wire.proofs.Texts.{impossible}
-use Rattle.image.specs.Image.{totalLength, ruleCountAt, ruleCount, ruleOffset, ruleSize, rulesEnd, stringOffset}
+use Rattle.image.specs.Image.{sectionsAt, totalLength, ruleCountAt, ruleCount, ruleOffset, ruleSize, rulesEnd, stringOffset}
 use Rattle.image.specs.Good.{goodCounts, goodSections, goodHeader, goodRule, goodSection, goodImage, outcomeOf}
 use Rattle.image.specs.Contracts.{GoodImageHeader, RuleAt, GoodImage}
 use Rattle.image.specs.declared.Section.{Section}
@@ -24,14 +24,14 @@ module _ (image : List ℕ) where
   pub header-holds : goodHeader image ≡ true → GoodImageHeader image
   unfolding goodHeader goodCounts goodSections
   header-holds h =
-      let k = row-each true (leb 32 (length image) ∷ leb (length image) 65536 ∷ goodCounts image ∷ goodSections image ∷ []) h in
+      let k = row-each true (leb sectionsAt (length image) ∷ leb (length image) 65536 ∷ goodCounts image ∷ goodSections image ∷ []) h in
       let c = row-each true
       (eqb (totalLength image) (length image) ∷ leb (ruleCount Connect image) 256 ∷ leb (ruleCount Own image) 256
       ∷ leb (ruleCount Transaction image) 512 ∷ []) (k 2) in
       let s =
       row-each
       true
-      (eqb (ruleOffset Connect image) 32
+      (eqb (ruleOffset Connect image) sectionsAt
       ∷ eqb (ruleOffset Own image) (rulesEnd Connect image)
       ∷ eqb (ruleOffset Transaction image) (rulesEnd Own image)
       ∷ eqb (stringOffset image) (rulesEnd Transaction image)
@@ -39,21 +39,17 @@ module _ (image : List ℕ) where
       ∷ [])
       (k 3)
       in
-      let p = eqb-true (ruleOffset Connect image) 32 (s 0) in
-      let q = eqb-true (ruleOffset Own image) (rulesEnd Connect image) (s 1) in
-      let r = eqb-true (ruleOffset Transaction image) (rulesEnd Own image) (s 2) in
-      let t = eqb-true (stringOffset image) (rulesEnd Transaction image) (s 3) in
       record {
-        low = leb-true 32 (length image) (k 0);
+        low = leb-true sectionsAt (length image) (k 0);
         high = leb-true (length image) 65536 (k 1);
         total = eqb-true (totalLength image) (length image) (c 0);
         connects = leb-true (ruleCount Connect image) 256 (c 1);
         owns = leb-true (ruleCount Own image) 256 (c 2);
         transactions = leb-true (ruleCount Transaction image) 512 (c 3);
-        connects-at = p;
-        owns-at = omega arith;
-        transactions-at = omega arith;
-        strings-at = omega arith;
+        connects-at = eqb-true (ruleOffset Connect image) sectionsAt (s 0);
+        owns-at = eqb-true (ruleOffset Own image) (rulesEnd Connect image) (s 1);
+        transactions-at = eqb-true (ruleOffset Transaction image) (rulesEnd Own image) (s 2);
+        strings-at = eqb-true (stringOffset image) (rulesEnd Transaction image) (s 3);
         strings-inside = leb-true (stringOffset image) (length image) (s 4);
       }
 
@@ -63,9 +59,9 @@ module _ (image : List ℕ) where
   -- ---- the sections
 
   rule-inside : GoodImageHeader image → (s : Section) (i : ℕ) → i < ruleCount s image → ruleOffset s image + ruleSize s * i + ruleSize s ≤ length image
-  rule-inside h Connect i l = omega (arith, h .connects-at, h .strings-at, h .strings-inside)
-  rule-inside h Own i l = omega (arith, h .owns-at, h .strings-at, h .strings-inside)
-  rule-inside h Transaction i l = omega (arith, h .transactions-at, h .strings-at, h .strings-inside)
+  rule-inside h Connect i l = omega arith
+  rule-inside h Own i l = omega arith
+  rule-inside h Transaction i l = omega arith
 
   -- the loop over the section's rules, whose count the header has at c: it begins, and goes on to the next rule
   module _ (s : Section) (c : ℕ) (e : c ≡ ruleCountAt s) where

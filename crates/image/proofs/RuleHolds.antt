@@ -13,11 +13,12 @@ use Rattle.wire.proofs.Below.{row-each, below-at}
 use Rattle.names.specs.Names.{validName}
 use Rattle.names.specs.declared.Form.{Form}
 use Rattle.names.specs.declared.Form.the-variants.{Interface, WellKnown, Member, Path}
-use Rattle.image.specs.Image.{ruleCount, rulePlace, stringOffset}
-use Rattle.image.specs.Rules.{Span, textOf, policyRule}
+use Rattle.image.specs.Image.{ruleCount, ruleSize, rulePlace, stringOffset}
+use Rattle.image.specs.Rules.{Span, textOf, PolicyRule, policyRule}
 use Rattle.image.specs.Good.{goodString, goodOrAny, goodOwned, goodSubject, goodMatcher, goodConnectRule, goodOwnRule, goodStrings}
 use Rattle.image.specs.Good.{goodTransactionRule, goodRule}
 use Rattle.image.specs.Contracts.{GoodImage}
+use Rattle.image.specs.declared.Section.{Section}
 use Rattle.image.specs.declared.Section.the-variants.{Connect, Own, Transaction}
 use Rattle.image.proofs.Holds.{each-part}
 
@@ -46,8 +47,8 @@ module _ (image : List ℕ) (s : Span) where
             omega arith
         go false e k = string-inside form k
 
-    owned-inside : (m : ℕ) → goodOwned image m s ≡ true → Inside image s
-    unfolding goodOwned
+    -- what the test of an own rule with a matcher m says
+    owned-inside : (m : ℕ) → cond (eqb m 0) (eqb (s .offset) 0 && eqb (s .len) 0) (goodString WellKnown image s) ≡ true → Inside image s
     owned-inside m h = go (eqb m 0) h
       where
         go : (b : Bool) → cond b (eqb (s .offset) 0 && eqb (s .len) 0) (goodString WellKnown image s) ≡ true → Inside image s
@@ -59,17 +60,14 @@ module _ (image : List ℕ) (s : Span) where
 
 -- ---- rules
 
-pub connect-context : {image : List ℕ} → GoodImage image → (i : ℕ) → i < ruleCount Connect image → policyRule Connect image i .context ≤ 3
+connect-context : {image : List ℕ} → GoodImage image → (i : ℕ) → i < ruleCount Connect image → policyRule Connect image i .context ≤ 3
 unfolding goodRule goodConnectRule
 connect-context {image} g i l =
     let r = policyRule Connect image i in
     let k =
     row-each
     true
-    ((eqb (r .context) 0 || eqb (r .context) 3)
-    ∷ goodMatcher (r .verdict) (r .matcher) (r .reserved)
-    ∷ (leb 1 (r .matcher) || eqb (r .id) 0)
-    ∷ [])
+    ((eqb (r .context) 0 || eqb (r .context) 3) ∷ goodMatcher r ∷ (leb 1 (r .matcher) || eqb (r .id) 0) ∷ [])
     (below-at (goodRule Connect image) (ruleCount Connect image) (each-part image (g .is) 1) i l)
     in
     ⊎-elim
@@ -77,35 +75,33 @@ connect-context {image} g i l =
     (λ (e : eqb (r .context) 3 ≡ true). omega (arith, eqb-true (r .context) 3 e))
     (either (eqb (r .context) 0) (eqb (r .context) 3) (k 0))
 
-subject-context : (context subject : ℕ) → goodSubject context subject ≡ true → context ≤ 3
-subject-context context subject h = leb-true context 3 (both-first (leb context 3) (eqb context 1 || eqb context 2 || eqb subject 0) h)
+subject-context : (r : PolicyRule) → goodSubject r ≡ true → r .context ≤ 3
+subject-context r h =
+    leb-true (r .context) 3 (both-first (leb (r .context) 3) (eqb (r .context) 1 || eqb (r .context) 2 || eqb (r .subject) 0) h)
 
 pub record OwnHolds (image : List ℕ) (i : ℕ) : Type 0 where
-  pub place : rulePlace Own image i + 16 ≤ length image
+  pub place : rulePlace Own image i + ruleSize Own ≤ length image
   pub context : policyRule Own image i .context ≤ 3
   pub name : Inside image (policyRule Own image i .name)
 
 pub own-holds : {image : List ℕ} → GoodImage image → (i : ℕ) → i < ruleCount Own image → OwnHolds image i
-unfolding goodRule goodOwnRule
+unfolding goodRule goodOwnRule goodOwned
 own-holds {image} g i l =
     let r = policyRule Own image i in
     let k =
     row-each
     true
-    (goodSubject (r .context) (r .subject)
-    ∷ goodMatcher (r .verdict) (r .matcher) (r .reserved)
-    ∷ goodOwned image (r .matcher) (r .name)
-    ∷ [])
+    (goodSubject r ∷ goodMatcher r ∷ goodOwned image r ∷ [])
     (below-at (goodRule Own image) (ruleCount Own image) (each-part image (g .is) 2) i l)
     in
     record {
       place = omega arith;
-      context = subject-context (r .context) (r .subject) (k 0);
+      context = subject-context r (k 0);
       name = owned-inside image (r .name) (g .header .strings-inside) (r .matcher) (k 2);
     }
 
 pub record TransactionHolds (image : List ℕ) (i : ℕ) : Type 0 where
-  pub place : rulePlace Transaction image i + 40 ≤ length image
+  pub place : rulePlace Transaction image i + ruleSize Transaction ≤ length image
   pub context : policyRule Transaction image i .context ≤ 3
   pub name : Inside image (policyRule Transaction image i .name)
   pub path : Inside image (policyRule Transaction image i .path)
@@ -119,7 +115,7 @@ transaction-holds {image} g i l =
     let k =
     row-each
     true
-    (goodSubject (r .context) (r .subject)
+    (goodSubject r
     ∷ leb (r .verdict) 1
     ∷ leb (r .direction) 1
     ∷ (eqb (r .type) 0 || eqb (r .type) 1 || eqb (r .type) 4)
@@ -140,9 +136,15 @@ transaction-holds {image} g i l =
     let in-image = g .header .strings-inside in
     record {
       place = omega arith;
-      context = subject-context (r .context) (r .subject) (k 0);
+      context = subject-context r (k 0);
       name = or-any-inside image (r .name) in-image WellKnown (s 0);
       path = or-any-inside image (r .path) in-image Path (s 1);
       interface = or-any-inside image (r .interface) in-image Interface (s 2);
       member = or-any-inside image (r .member) in-image Member (s 3);
     }
+
+-- a rule of any section has one of the four contexts
+pub rule-context : {image : List ℕ} → GoodImage image → (s : Section) (i : ℕ) → i < ruleCount s image → policyRule s image i .context ≤ 3
+rule-context g Connect i l = connect-context g i l
+rule-context g Own i l = own-holds g i l .context
+rule-context g Transaction i l = transaction-holds g i l .context

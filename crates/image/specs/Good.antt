@@ -8,7 +8,7 @@ use Rattle.wire.specs.Lists.{below}
 use Rattle.names.specs.Names.{validName}
 use Rattle.names.specs.declared.Form.{Form}
 use Rattle.names.specs.declared.Form.the-variants.{Interface, WellKnown, Member, Path}
-use Rattle.image.specs.Image.{totalLength, ruleCount, ruleOffset, rulesEnd, stringOffset}
+use Rattle.image.specs.Image.{sectionsAt, totalLength, ruleCount, ruleOffset, rulesEnd, stringOffset}
 use Rattle.image.specs.Rules.{Span, textOf, PolicyRule, policyRule}
 use Rattle.image.specs.declared.Section.{Section}
 use Rattle.image.specs.declared.Section.the-variants.{Connect, Own, Transaction}
@@ -25,10 +25,10 @@ goodCounts image =
     && leb (ruleCount Own image) 256
     && leb (ruleCount Transaction image) 512
 
--- each section begins where the one before it ends, the first at byte 32, and the strings run to the end of the image (rule 5.3)
+-- each section begins where the one before it ends, the first behind the header, and the strings run to the end of the image (rule 5.3)
 unfoldable pub goodSections : List ℕ → Bool
 goodSections image =
-    eqb (ruleOffset Connect image) 32
+    eqb (ruleOffset Connect image) sectionsAt
     && eqb (ruleOffset Own image) (rulesEnd Connect image)
     && eqb (ruleOffset Transaction image) (rulesEnd Own image)
     && eqb (stringOffset image) (rulesEnd Transaction image)
@@ -36,7 +36,7 @@ goodSections image =
 
 -- an image has 32 bytes at least, its header, and 65,536 at most (rule 5.1)
 unfoldable pub goodHeader : List ℕ → Bool
-goodHeader image = leb 32 (length image) && leb (length image) 65536 && goodCounts image && goodSections image
+goodHeader image = leb sectionsAt (length image) && leb (length image) 65536 && goodCounts image && goodSections image
 
 -- ---- strings
 
@@ -49,32 +49,27 @@ unfoldable pub goodOrAny : Form → List ℕ → Span → Bool
 goodOrAny form image s = cond (eqb (s .len) 0) (eqb (s .offset) 0) (goodString form image s)
 
 -- an own rule about any name cites no string, and any other cites a well-known name (rules 5.5 and 5.8)
-unfoldable pub goodOwned : List ℕ → ℕ → Span → Bool
-goodOwned image matcher s = cond (eqb matcher 0) (eqb (s .offset) 0 && eqb (s .len) 0) (goodString WellKnown image s)
+unfoldable pub goodOwned : List ℕ → PolicyRule → Bool
+goodOwned image r =
+    cond (eqb (r .matcher) 0) (eqb (r .name .offset) 0 && eqb (r .name .len) 0) (goodString WellKnown image (r .name))
 
 -- ---- rules
 
 -- there are four contexts, and only those of groups (1) and users (2) have a subject (rule 5.7)
-abbrev pub goodSubject : ℕ → ℕ → Bool
-goodSubject context subject = leb context 3 && (eqb context 1 || eqb context 2 || eqb subject 0)
+abbrev pub goodSubject : PolicyRule → Bool
+goodSubject r = leb (r .context) 3 && (eqb (r .context) 1 || eqb (r .context) 2 || eqb (r .subject) 0)
 
 -- verdict 0 or 1, matcher 0 to 2, zero: three bytes that connect and own rules share (rules 5.4 and 5.5)
-abbrev pub goodMatcher : ℕ → ℕ → ℕ → Bool
-goodMatcher verdict matcher reserved = leb verdict 1 && leb matcher 2 && eqb reserved 0
+abbrev pub goodMatcher : PolicyRule → Bool
+goodMatcher r = leb (r .verdict) 1 && leb (r .matcher) 2 && eqb (r .reserved) 0
 
 -- connect rules are default or mandatory, and one that is about anybody has no id (rule 5.4)
 unfoldable pub goodConnectRule : PolicyRule → Bool
-goodConnectRule r =
-    (eqb (r .context) 0 || eqb (r .context) 3)
-    && goodMatcher (r .verdict) (r .matcher) (r .reserved)
-    && (leb 1 (r .matcher) || eqb (r .id) 0)
+goodConnectRule r = (eqb (r .context) 0 || eqb (r .context) 3) && goodMatcher r && (leb 1 (r .matcher) || eqb (r .id) 0)
 
 -- an own rule's bytes and its string (rule 5.5)
 unfoldable pub goodOwnRule : List ℕ → PolicyRule → Bool
-goodOwnRule image r =
-    goodSubject (r .context) (r .subject)
-    && goodMatcher (r .verdict) (r .matcher) (r .reserved)
-    && goodOwned image (r .matcher) (r .name)
+goodOwnRule image r = goodSubject r && goodMatcher r && goodOwned image r
 
 -- the four strings of a transaction rule, each with its own form (rules 5.6 and 5.8)
 unfoldable pub goodStrings : List ℕ → PolicyRule → Bool
@@ -87,7 +82,7 @@ goodStrings image r =
 -- a transaction rule's bytes and its strings; returns and errors have no rules (rule 5.6)
 unfoldable pub goodTransactionRule : List ℕ → PolicyRule → Bool
 goodTransactionRule image r =
-    goodSubject (r .context) (r .subject)
+    goodSubject r
     && leb (r .verdict) 1
     && leb (r .direction) 1
     && (eqb (r .type) 0 || eqb (r .type) 1 || eqb (r .type) 4)

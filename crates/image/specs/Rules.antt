@@ -4,7 +4,8 @@ use Prim.Native.Nat.{ℕ, _+_}
 use lib.ListN.{getD}
 use Rattle.wire.specs.Words.{wordAt}
 use Rattle.wire.specs.declared.Order.the-variants.{Little}
-use Rattle.image.specs.Image.{rulePlace, stringAt}
+use Rattle.image.specs.Image.{verdictByte, matcherByte, directionByte, reservedByte, typeByte, subjectWord, lenOffset}
+use Rattle.image.specs.Image.{nameSpan, pathSpan, interfaceSpan, memberSpan, rulePlace, stringAt}
 use Rattle.image.specs.declared.Section.{Section}
 
 -- where a rule's string stands: an offset into the string area, and a length
@@ -13,7 +14,7 @@ pub record Span : Type 0 where
   pub len : ℕ
 
 abbrev pub spanAt : List ℕ → ℕ → Span
-spanAt image at = record { offset = wordAt Little image at; len = wordAt Little image (at + 4) }
+spanAt image at = record { offset = wordAt Little image at; len = wordAt Little image (at + lenOffset) }
 
 -- the bytes that it cites (rule 5.8)
 abbrev pub textOf : List ℕ → Span → List ℕ
@@ -41,17 +42,17 @@ abbrev pub ruleFrom : List ℕ → ℕ → PolicyRule
 ruleFrom image at =
     record {
       context = getD image at 0;
-      verdict = getD image (at + 1) 0;
-      matcher = getD image (at + 2) 0;
-      direction = getD image (at + 2) 0;
-      reserved = getD image (at + 3) 0;
-      type = getD image (at + 3) 0;
-      id = wordAt Little image (at + 4);
-      subject = wordAt Little image (at + 4);
-      name = spanAt image (at + 8);
-      path = spanAt image (at + 16);
-      interface = spanAt image (at + 24);
-      member = spanAt image (at + 32);
+      verdict = getD image (at + verdictByte) 0;
+      matcher = getD image (at + matcherByte) 0;
+      direction = getD image (at + directionByte) 0;
+      reserved = getD image (at + reservedByte) 0;
+      type = getD image (at + typeByte) 0;
+      id = wordAt Little image (at + subjectWord);
+      subject = wordAt Little image (at + subjectWord);
+      name = spanAt image (at + nameSpan);
+      path = spanAt image (at + pathSpan);
+      interface = spanAt image (at + interfaceSpan);
+      member = spanAt image (at + memberSpan);
     }
 
 -- rule i of the section

@@ -4,7 +4,6 @@ use Prim.Native.Nat.{ℕ, _+_, _/_}
 use lib.ListN.{length, take, set, replicate}
 use Rattle.wire.specs.Bytes.{bytes}
 use Rattle.wire.specs.Words.{wordBytes}
-use Rattle.image.specs.Good.{imageAnswer}
 
 -- the image of the sections' bytes, behind the header that they take
 abbrev pub imageOf : List ℕ → List ℕ → List ℕ → List ℕ → List ℕ

@@ -1,10 +1,10 @@
 // The policy image: whether a lent image is good, and the places of its rules and strings.
 ghost use mathlib.Core.Path.{_≡_};
 ghost use Prim.Native.Nat.{_+_, _*_, _≤_, _<_};
-ghost use lib.ListN.{length, getD};
+ghost use lib.ListN.{length};
 ghost use Rattle.wire.specs.Words.{wordAt};
 ghost use Rattle.wire.specs.declared.Order.the-variants.{Little};
-ghost use Rattle.image.specs.Image.{ruleCountAt};
+ghost use Rattle.image.specs.Image.{sectionsAt, ruleCountAt, subjectWord, spanWidth, nameSpan, ruleSize};
 ghost use Rattle.image.specs.Rules.{spanAt, textOf, ruleFrom};
 ghost use Rattle.image.specs.Good.{goodCounts, goodSections, goodHeader, goodString, goodOrAny, goodOwned, goodStrings, goodSubject, goodMatcher};
 ghost use Rattle.image.specs.Good.{goodRule, goodSection, outcomeOf};
@@ -24,20 +24,54 @@ pub enum Section {
     Transaction,
 }
 
-// Where the header has the count and the offset of each section, and the offset of the strings.
+// Where the header has the count and the offset of each section, and the offset of the strings; behind it stands the first section.
 pub const CONNECT_COUNT: usize = 4;
 
-pub const CONNECT_OFFSET: usize = 8;
+pub const CONNECT_OFFSET: usize = CONNECT_COUNT + 4;
 
-pub const OWN_COUNT: usize = 12;
+pub const OWN_COUNT: usize = CONNECT_OFFSET + 4;
 
-pub const OWN_OFFSET: usize = 16;
+pub const OWN_OFFSET: usize = OWN_COUNT + 4;
 
-pub const TRANSACTION_COUNT: usize = 20;
+pub const TRANSACTION_COUNT: usize = OWN_OFFSET + 4;
 
-pub const TRANSACTION_OFFSET: usize = 24;
+pub const TRANSACTION_OFFSET: usize = TRANSACTION_COUNT + 4;
 
-pub const STRING_OFFSET: usize = 28;
+pub const STRING_OFFSET: usize = TRANSACTION_OFFSET + 4;
+
+pub const SECTIONS_AT: usize = STRING_OFFSET + 4;
+
+// Where the parts of a rule stand, behind its context: bytes, the word of the id or subject, and strings, each an offset and a length.
+pub const VERDICT_BYTE: usize = 1;
+
+pub const MATCHER_BYTE: usize = 2;
+
+pub const DIRECTION_BYTE: usize = 2;
+
+const RESERVED_BYTE: usize = 3;
+
+pub const TYPE_BYTE: usize = 3;
+
+pub const SUBJECT_WORD: usize = 4;
+
+pub const LEN_OFFSET: usize = 4;
+
+const SPAN_WIDTH: usize = LEN_OFFSET + 4;
+
+pub const NAME_SPAN: usize = SUBJECT_WORD + 4;
+
+pub const PATH_SPAN: usize = NAME_SPAN + SPAN_WIDTH;
+
+pub const INTERFACE_SPAN: usize = PATH_SPAN + SPAN_WIDTH;
+
+pub const MEMBER_SPAN: usize = INTERFACE_SPAN + SPAN_WIDTH;
+
+// How many bytes a rule of each section has.
+pub const CONNECT_SIZE: usize = SUBJECT_WORD + 4;
+
+pub const OWN_SIZE: usize = NAME_SPAN + SPAN_WIDTH;
+
+pub const TRANSACTION_SIZE: usize = MEMBER_SPAN + SPAN_WIDTH;
 
 // The little-endian number in the four bytes at `at`.
 pub fn word(image: &[u8], at: usize) -> usize
@@ -50,7 +84,7 @@ pub fn word(image: &[u8], at: usize) -> usize
 // ---- the header
 
 fn counts_fit(image: &[u8]) -> bool
-    requires { ⌜ 32 ≤ length (now image) ⌝ }
+    requires { ⌜ sectionsAt ≤ length (now image) ⌝ }
     ensures { λ r. ⌜ r ≡ goodCounts (now (image .entry)) ⌝ }
 {
     (word(image, 0) == image.len())
@@ -60,24 +94,24 @@ fn counts_fit(image: &[u8]) -> bool
 }
 
 fn sections_follow(image: &[u8]) -> bool
-    requires { ⌜ 32 ≤ length (now image) ⌝ }
+    requires { ⌜ sectionsAt ≤ length (now image) ⌝ }
     ensures { λ r. ⌜ r ≡ goodSections (now (image .entry)) ⌝ }
 {
     let connects = word(image, CONNECT_OFFSET);
     let owns = word(image, OWN_OFFSET);
     let transactions = word(image, TRANSACTION_OFFSET);
     let strings = word(image, STRING_OFFSET);
-    (connects == 32)
-        & (owns == connects + 8 * word(image, CONNECT_COUNT))
-        & (transactions == owns + 16 * word(image, OWN_COUNT))
-        & (strings == transactions + 40 * word(image, TRANSACTION_COUNT))
+    (connects == SECTIONS_AT)
+        & (owns == connects + CONNECT_SIZE * word(image, CONNECT_COUNT))
+        & (transactions == owns + OWN_SIZE * word(image, OWN_COUNT))
+        & (strings == transactions + TRANSACTION_SIZE * word(image, TRANSACTION_COUNT))
         & (strings <= image.len())
 }
 
 fn has_header(image: &[u8]) -> bool
     ensures { λ r. ⌜ r ≡ goodHeader (now (image .entry)) ⌝ }
 {
-    if image.len() < 32 {
+    if image.len() < SECTIONS_AT {
         return false;
     }
     if 65536 < image.len() {
@@ -90,11 +124,11 @@ fn has_header(image: &[u8]) -> bool
 
 // The string whose offset and length stand at `at` lies inside the string area, which starts at `strings`, and is a name of the form.
 fn is_string(form: names::Form, image: &[u8], strings: usize, at: usize) -> bool
-    requires { ⌜ (at + 8 ≤ length (now image)) × Strings (now image) strings ⌝ }
+    requires { ⌜ (at + spanWidth ≤ length (now image)) × Strings (now image) strings ⌝ }
     ensures { λ r. ⌜ r ≡ goodString form (now (image .entry)) (spanAt (now (image .entry)) at) ⌝ }
 {
     let from = strings + word(image, at);
-    let to = from + word(image, at + 4);
+    let to = from + word(image, at + LEN_OFFSET);
     if image.len() < to {
         return false;
     }
@@ -102,83 +136,87 @@ fn is_string(form: names::Form, image: &[u8], strings: usize, at: usize) -> bool
 }
 
 fn is_string_or_any(form: names::Form, image: &[u8], strings: usize, at: usize) -> bool
-    requires { ⌜ (at + 8 ≤ length (now image)) × Strings (now image) strings ⌝ }
+    requires { ⌜ (at + spanWidth ≤ length (now image)) × Strings (now image) strings ⌝ }
     ensures { λ r. ⌜ r ≡ goodOrAny form (now (image .entry)) (spanAt (now (image .entry)) at) ⌝ }
 {
-    if word(image, at + 4) == 0 {
+    if word(image, at + LEN_OFFSET) == 0 {
         return word(image, at) == 0;
     }
     is_string(form, image, strings, at)
 }
 
-fn is_owned(image: &[u8], strings: usize, matcher: u8, at: usize) -> bool
-    requires { ⌜ (at + 8 ≤ length (now image)) × Strings (now image) strings ⌝ }
-    ensures { λ r. ⌜ r ≡ goodOwned (now (image .entry)) matcher (spanAt (now (image .entry)) at) ⌝ }
+// The own rule at `at` is about any name, or cites a name.
+fn is_owned(image: &[u8], strings: usize, at: usize) -> bool
+    requires { ⌜ (at + ruleSize Own ≤ length (now image)) × Strings (now image) strings ⌝ }
+    ensures { λ r. ⌜ r ≡ goodOwned (now (image .entry)) (ruleFrom (now (image .entry)) at) ⌝ }
 {
-    if matcher == 0 {
-        return (word(image, at) == 0) & (word(image, at + 4) == 0);
+    let name = at + NAME_SPAN;
+    if image[at + MATCHER_BYTE] == 0 {
+        return (word(image, name) == 0) & (word(image, name + LEN_OFFSET) == 0);
     }
-    is_string(names::Form::WellKnown, image, strings, at)
+    is_string(names::Form::WellKnown, image, strings, name)
 }
 
 // ---- rules
 
-// The context at `at`, and the subject behind the four bytes there.
+// The context and the subject of the rule at `at`.
 fn is_subject(image: &[u8], at: usize) -> bool
-    requires { ⌜ at + 8 ≤ length (now image) ⌝ }
-    ensures { λ r. ⌜ r ≡ goodSubject (getD (now (image .entry)) at 0) (wordAt Little (now (image .entry)) (at + 4)) ⌝ }
+    requires { ⌜ at + nameSpan ≤ length (now image) ⌝ }
+    ensures { λ r. ⌜ r ≡ goodSubject (ruleFrom (now (image .entry)) at) ⌝ }
 {
     let context = image[at];
-    (context <= 3) & ((context == 1) | (context == 2) | (word(image, at + 4) == 0))
+    (context <= 3) & ((context == 1) | (context == 2) | (word(image, at + SUBJECT_WORD) == 0))
 }
 
-// The three bytes behind the context at `at`: verdict, matcher, zero.
+// The verdict, the matcher and the zero of the connect or own rule at `at`.
 fn is_matcher(image: &[u8], at: usize) -> bool
-    requires { ⌜ at + 4 ≤ length (now image) ⌝ }
-    ensures { λ r. ⌜ r ≡ goodMatcher (getD (now (image .entry)) (at + 1) 0) (getD (now (image .entry)) (at + 2) 0) (getD (now (image .entry)) (at + 3) 0) ⌝ }
+    requires { ⌜ at + subjectWord ≤ length (now image) ⌝ }
+    ensures { λ r. ⌜ r ≡ goodMatcher (ruleFrom (now (image .entry)) at) ⌝ }
 {
-    (image[at + 1] <= 1) & (image[at + 2] <= 2) & (image[at + 3] == 0)
+    (image[at + VERDICT_BYTE] <= 1)
+        & (image[at + MATCHER_BYTE] <= 2)
+        & (image[at + RESERVED_BYTE] == 0)
 }
 
 fn is_connect(image: &[u8], from: usize, i: usize) -> bool
     requires { ⌜ RuleAt (now image) Connect from i ⌝ }
     ensures { λ r. ⌜ r ≡ goodRule Connect (now (image .entry)) i ⌝ }
 {
-    let at = from + 8 * i;
+    let at = from + CONNECT_SIZE * i;
     let context = image[at];
     ((context == 0) | (context == 3))
         & is_matcher(image, at)
-        & ((1 <= image[at + 2]) | (word(image, at + 4) == 0))
+        & ((1 <= image[at + MATCHER_BYTE]) | (word(image, at + SUBJECT_WORD) == 0))
 }
 
 fn is_own(image: &[u8], strings: usize, from: usize, i: usize) -> bool
     requires { ⌜ RuleAt (now image) Own from i × Strings (now image) strings ⌝ }
     ensures { λ r. ⌜ r ≡ goodRule Own (now (image .entry)) i ⌝ }
 {
-    let at = from + 16 * i;
-    is_subject(image, at) & is_matcher(image, at) & is_owned(image, strings, image[at + 2], at + 8)
+    let at = from + OWN_SIZE * i;
+    is_subject(image, at) & is_matcher(image, at) & is_owned(image, strings, at)
 }
 
 // The four strings of the transaction rule at `at`: each means any, or is a name of its form.
 fn has_strings(image: &[u8], strings: usize, at: usize) -> bool
-    requires { ⌜ (at + 40 ≤ length (now image)) × Strings (now image) strings ⌝ }
+    requires { ⌜ (at + ruleSize Transaction ≤ length (now image)) × Strings (now image) strings ⌝ }
     ensures { λ r. ⌜ r ≡ goodStrings (now (image .entry)) (ruleFrom (now (image .entry)) at) ⌝ }
 {
-    is_string_or_any(names::Form::WellKnown, image, strings, at + 8)
-        & is_string_or_any(names::Form::Path, image, strings, at + 16)
-        & is_string_or_any(names::Form::Interface, image, strings, at + 24)
-        & is_string_or_any(names::Form::Member, image, strings, at + 32)
+    is_string_or_any(names::Form::WellKnown, image, strings, at + NAME_SPAN)
+        & is_string_or_any(names::Form::Path, image, strings, at + PATH_SPAN)
+        & is_string_or_any(names::Form::Interface, image, strings, at + INTERFACE_SPAN)
+        & is_string_or_any(names::Form::Member, image, strings, at + MEMBER_SPAN)
 }
 
 fn is_transaction(image: &[u8], strings: usize, from: usize, i: usize) -> bool
     requires { ⌜ RuleAt (now image) Transaction from i × Strings (now image) strings ⌝ }
     ensures { λ r. ⌜ r ≡ goodRule Transaction (now (image .entry)) i ⌝ }
 {
-    let at = from + 40 * i;
-    let of = image[at + 3];
+    let at = from + TRANSACTION_SIZE * i;
+    let of = image[at + TYPE_BYTE];
     if is_subject(image, at)
-        & (image[at + 1] <= 1)
-        & (image[at + 2] <= 1)
+        & (image[at + VERDICT_BYTE] <= 1)
+        & (image[at + DIRECTION_BYTE] <= 1)
         & ((of == 0) | (of == 1) | (of == 4))
     {
         has_strings(image, strings, at)
@@ -205,7 +243,7 @@ pub fn text(image: &[u8], strings: usize, at: usize) -> &[u8]
     ensures { λ r. ⌜ now r ≡ textOf (now (image .entry)) (spanAt (now (image .entry)) at) ⌝ }
 {
     let from = strings + word(image, at);
-    let to = from + word(image, at + 4);
+    let to = from + word(image, at + LEN_OFFSET);
     &image[from..to]
 }
 

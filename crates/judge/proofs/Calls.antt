@@ -3,12 +3,10 @@ use mathlib.Core.Path.{_≡_, refl, sym, ap, _∙_}
 use mathlib.Core.List.{List, _++_}
 use Prim.Native.Nat.{ℕ, _+_, _-_, _*_, _≤_, _<_}
 use native.Mathlib.Omega.{arith}
-use lib.ListN.{length, take, drop, getD}
-use mir.Syntax.{w8}
-use mir.Val.{Fits}
+use lib.ListN.{length, take, drop}
 use borrow.Author.Needs.{needs}
 use Rattle.wire.specs.Words.{wordBytes}
-use Rattle.wire.proofs.Words.{word-length}
+use Rattle.wire.proofs.Words.{Octets, word-length}
 use Rattle.tables.specs.Cut.{cutOut, Cell, without}
 use Rattle.tables.proofs.Written.{put-joined, part-cell, remove-written}
 use Rattle.memory.specs.Layout.{memoryLength, slotStart, pendingAt, firstCallee, callWidth, callRoom, pendingLength, serialOffset}
@@ -20,7 +18,7 @@ use Rattle.judge.specs.Steps.{Began, CallRemoved}
 
 -- ---- one more
 
-pub call-began : (m m₁ m₂ m₃ : List ℕ) (i n callee serial : ℕ) → Seated m i → n ≡ length (peerAt m i .pending) → n < callRoom → ((j : ℕ) → Fits w8 (getD m j 0))
+pub call-began : (m m₁ m₂ m₃ : List ℕ) (i n callee serial : ℕ) → Seated m i → n ≡ length (peerAt m i .pending) → n < callRoom → Octets m
     → m₁ ≡ take (slotStart i + firstCallee + callWidth * n) m ++ (wordBytes callee ++ drop (slotStart i + firstCallee + callWidth * n + 4) m)
     → m₂ ≡ take (slotStart i + firstCallee + callWidth * n + serialOffset) m₁
     ++ (wordBytes serial ++ drop (slotStart i + firstCallee + callWidth * n + serialOffset + 4) m₁)
@@ -49,7 +47,7 @@ pub call-cell : (m : List ℕ) (i n k : ℕ) → Seated m i → n ≤ callRoom �
     (4 + callWidth * n)
 call-cell m i n k p f l = part-cell callWidth callRoom k n m (slotStart i + pendingAt) (omega (arith, p .sized, p .below)) f l
 
-pub call-ended : (m t : List ℕ) (i n k : ℕ) → Seated m i → n ≡ length (peerAt m i .pending) → n ≤ callRoom → k < n → ((j : ℕ) → Fits w8 (getD m j 0))
+pub call-ended : (m t : List ℕ) (i n k : ℕ) → Seated m i → n ≡ length (peerAt m i .pending) → n ≤ callRoom → k < n → Octets m
     → t
     ≡ wordBytes (n - 1)
     ++ cutOut callWidth (callWidth * n) (callWidth * k)

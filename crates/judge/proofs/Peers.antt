@@ -5,11 +5,10 @@ use mathlib.Core.List.{List}
 use Prim.Native.Nat.{ℕ, _≤_, _<_}
 use native.Mathlib.Omega.{arith}
 use native.Mathlib.Nat.{zero-add}
-use lib.ListN.{length, getD}
-use mir.Syntax.{w8}
-use mir.Val.{Fits}
+use lib.ListN.{length}
 use borrow.Author.Needs.{needs}
 use borrow.Author.Tests.{le-leb, lt-leb, lt-ltb, le-ltb, not-true, not-false}
+use Rattle.wire.proofs.Words.{Octets}
 use Rattle.header.specs.declared.Header.{Header}
 use Rattle.policy.specs.Matching.{messageOf}
 use Rattle.policy.specs.Decisions.{send, receive}
@@ -43,18 +42,18 @@ module _ {m : List ℕ} {i n : ℕ} (h : n ≡ length (peerAt m i .pending)) {c 
 
 -- ---- what changes no state leaves memory as it is
 
-pub left-as-is : {m : List ℕ} {i : ℕ} (p : Seated m i) (b : (j : ℕ) → Fits w8 (getD m j 0)) {r j : Judgement} → r ≡ j
+pub left-as-is : {m : List ℕ} {i : ℕ} (p : Seated m i) (b : Octets m) {r j : Judgement} → r ≡ j
     → JudgementLeft (record { judgement = j; state = stateOf m }) r m
 left-as-is {m} p b e = record { judgement = e; memory = sym (good-is m (λ j. b j .fits) (p .held .held)) }
 
 -- ---- a wait: 25, 26
 
 module _ {m : List ℕ} {i n : ℕ} (g : Seated m i) (h : n ≡ length (peerAt m i .pending)) {c s f : ℕ} (a : CallAt m i c s 0 f) where
-  pub wait-twice : ((k : ℕ) → Fits w8 (getD m k 0)) → f < n → {r : Judgement} → r ≡ refusal 25 → Waits m i c s r m
+  pub wait-twice : Octets m → f < n → {r : Judgement} → r ≡ refusal 25 → Waits m i c s r m
   wait-twice b l q = record { left = λ p x e y. rw (e, y, waits-yes h a l) (left-as-is g b q) }
 
   module _ (l : n ≤ f) where
-    pub wait-full : ((k : ℕ) → Fits w8 (getD m k 0)) → {t : ℕ} → t ≤ n → 16 ≤ t → {r : Judgement} → r ≡ refusal 26 → Waits m i c s r m
+    pub wait-full : Octets m → {t : ℕ} → t ≤ n → 16 ≤ t → {r : Judgement} → r ≡ refusal 26 → Waits m i c s r m
     wait-full b k z q =
         let t = le-leb 16 (length (peerAt m i .pending)) (omega arith) in
         record { left = λ p x e y. rw (e, y, waits-no h a l, t) (left-as-is g b q) }
@@ -72,7 +71,7 @@ module _ {m : List ℕ} {i j : ℕ} (x : Header) {c : ℕ} (e : c ≡ numberAt m
   pub delivers-call : expectsReply x ≡ true → {r : Judgement} {m′ : List ℕ} → Waits m i c (x .serial) r m′ → Delivers m i j x r m′
   delivers-call y w = record { left = rw y (w .left (peerAt m j) x (sym e) refl) }
 
-  pub delivers-signal : Seated m i → ((k : ℕ) → Fits w8 (getD m k 0)) → expectsReply x ≡ false
+  pub delivers-signal : Seated m i → Octets m → expectsReply x ≡ false
       → Delivers m i j x (record { answer = 0; receiver = to.Peer c }) m
   delivers-signal p b y = record { left = rw y (left-as-is p b (ap (λ (k : ℕ). record { answer = 0; receiver = to.Peer k }) e)) }
 
@@ -93,7 +92,7 @@ module _ {image m : List ℕ} {i j : ℕ} {head : List ℕ} {x : Header} {s : Bo
 
 pub ruleset answers = (answer-send, answer-receive, answer-none, needs)
 
-module _ {image m : List ℕ} {i j : ℕ} {head : List ℕ} {x : Header} (p : Seated m i) (b : (k : ℕ) → Fits w8 (getD m k 0)) {n : ℕ}
+module _ {image m : List ℕ} {i j : ℕ} {head : List ℕ} {x : Header} (p : Seated m i) (b : Octets m) {n : ℕ}
     (a : PolicyAnswer image m i j head x n) where
   -- whether send and receive allow
   abbrev sends : Bool
@@ -131,7 +130,7 @@ pub ruleset to-peer = (peer-refused, peer-delivered, needs)
 
 -- ---- a reply: 24
 
-module _ {m : List ℕ} {i j : ℕ} (p : Seated m i) (x : Header) (b : (k : ℕ) → Fits w8 (getD m k 0)) {c : ℕ} (e : c ≡ numberAt m i)
+module _ {m : List ℕ} {i j : ℕ} (p : Seated m i) (x : Header) (b : Octets m) {c : ℕ} (e : c ≡ numberAt m i)
     {n : ℕ} (h : n ≡ length (peerAt m j .pending)) {f : ℕ} (a : CallAt m j c (x .«reply_serial») 0 f) where
   pub reply-none : n ≤ f → {r : Judgement} → r ≡ refusal 24 → RepliesTo m i j x r m
   reply-none l q = record { left = rw (← e, waits-no h a l) (left-as-is p b q) }

@@ -5,16 +5,14 @@ use mathlib.Core.List.{List, [], _∷_}
 use Prim.Native.Nat.{ℕ, _+_, _-_, _*_, _<_}
 use native.Mathlib.Omega.{arith}
 use native.Mathlib.Nat.{sub-zero}
-use lib.ListN.{length, take, drop, getD}
-use mir.Syntax.{w8}
-use mir.Val.{Fits}
+use lib.ListN.{length, take, drop}
 use borrow.Author.Needs.{needs}
 use borrow.Author.Tests.{not-true, not-false}
 use Rattle.wire.specs.Words.{wordAt}
 use Rattle.wire.specs.declared.Order.the-variants.{Little}
-use Rattle.wire.proofs.Words.{cut-at}
+use Rattle.wire.proofs.Words.{Octets, cut-at}
 use Rattle.header.specs.declared.Header.{Header}
-use Rattle.policy.specs.Names.{namesIn, cellOf, busName}
+use Rattle.policy.specs.Names.{namesIn, cellOf, busName, nameWidth}
 use Rattle.policy.specs.Matching.{Message, messageOf}
 use Rattle.policy.specs.Decisions.{send, receive, mayTransact}
 use Rattle.policy.specs.declared.Uid.{Uid}
@@ -22,7 +20,7 @@ use Rattle.policy.proofs.Cells.{bus-names}
 use Rattle.rules.specs.Judge.{refusal}
 use Rattle.rules.specs.declared.Judgement.{Judgement}
 use Rattle.rules.specs.declared.Receiver.the-variants as to
-use Rattle.memory.specs.Layout.{memoryLength, slotStart, firstName, nameWidth, uidAt}
+use Rattle.memory.specs.Layout.{memoryLength, slotStart, firstName, uidAt}
 use Rattle.memory.specs.Places.{numberAt}
 use Rattle.memory.proofs.Reading.{slot-free, slot-peer}
 use Rattle.memory.proofs.Held.{held-counted}
@@ -45,7 +43,7 @@ asks-peer image direction m i names head x e g q = record { is = q ∙ rw (e, g 
 
 pub ruleset asking-peer = (asks-peer, needs)
 
-pub says-is : (image : List ℕ) (direction : ℕ) (m : List ℕ) (s o : ℕ) (head : List ℕ) (x : Header) → Seated m o → ((j : ℕ) → Fits w8 (getD m j 0))
+pub says-is : (image : List ℕ) (direction : ℕ) (m : List ℕ) (s o : ℕ) (head : List ℕ) (x : Header) → Seated m o → Octets m
     → {n : ℕ} → n ≡ length (peerAt m o .names)
     → {end : ℕ} → end ≡ slotStart o + firstName + nameWidth * n
     → {r : Bool}

@@ -3,11 +3,9 @@ use mathlib.Core.Path.{_≡_, subst}
 use mathlib.Core.Bool.{Bool, true, false, cond}
 use mathlib.Core.List.{List, [], _∷_}
 use Prim.Native.Nat.{ℕ, _≤_, _<_}
-use lib.ListN.{getD}
-use mir.Syntax.{w8}
-use mir.Val.{Fits}
 use borrow.Author.Needs.{needs}
 use borrow.Author.Tests.{lt-ltb, le-ltb, eq-eqb, ne-eqb}
+use Rattle.wire.proofs.Words.{Octets}
 use Rattle.header.specs.Codes.{call}
 use Rattle.header.specs.declared.Header.{Header}
 use Rattle.header.proofs.Readings.{Fitting, whole-fits}
@@ -27,7 +25,7 @@ use Rattle.judge.specs.Steps.{Stands, Seeks, Resolved, ToBus, ToAll, ToP
 use Rattle.judge.proofs.Peers.{left-as-is}
 
 -- the bus is told, and nothing waits
-told : {image m : List ℕ} {i : ℕ} {head : List ℕ} {x : Header} → Seated m i → ((j : ℕ) → Fits w8 (getD m j 0))
+told : {image m : List ℕ} {i : ℕ} {head : List ℕ} {x : Header} → Seated m i → Octets m
     → {r : Judgement} → ToBus image m i head x r → JudgementLeft (toBus image (stateOf m) (peerAt m i) (messageOf head x)) r m
 told {image} {m} {i} {head} {x} a b {r} t = go (maySend image (peerAt m i) (busName ∷ []) (messageOf head x)) (t .is)
   where
@@ -46,7 +44,7 @@ module _ {m : List ℕ} {i : ℕ} {d : Destination} where
   pub replies-at : Stands m d → {j : ℕ} → d ≡ At j → {x : Header} {r : Judgement} {m′ : List ℕ} → RepliesTo m i j x r m′ → Replies m i d x r m′
   replies-at s {j} e w = let p = stands-at s e in record { left = rw (e, slot-peer m j (p .below) (p .some)) (w .left) }
 
-  module _ (a : Seated m i) (b : (j : ℕ) → Fits w8 (getD m j 0)) (x : Header) {r : Judgement} (q : r ≡ refusal 24) where
+  module _ (a : Seated m i) (b : Octets m) (x : Header) {r : Judgement} (q : r ≡ refusal 24) where
     pub replies-absent : d ≡ Absent → Replies m i d x r m
     replies-absent e = record { left = rw e (left-as-is a b q) }
 
@@ -64,7 +62,7 @@ module _ {image m : List ℕ} {i : ℕ} {d : Destination} {head : List ℕ} {x :
   pub directs-at : Stands m d → {j : ℕ} → d ≡ At j → {r : Judgement} {m′ : List ℕ} → ToPeer image m i j head x r m′ → Directs image m i d head x r m′
   directs-at s {j} e w = let p = stands-at s e in record { left = rw (e, slot-peer m j (p .below) (p .some)) (w .left) }
 
-  module _ (a : Seated m i) (b : (j : ℕ) → Fits w8 (getD m j 0)) where
+  module _ (a : Seated m i) (b : Octets m) where
     pub directs-unknown : d ≡ Unknown → {r : Judgement} → r ≡ refusal 21 → Directs image m i d head x r m
     directs-unknown e q = record { left = rw e (left-as-is a b q) }
 
@@ -101,7 +99,7 @@ module _ {image m : List ℕ} {i : ℕ} {head : List ℕ} {x : Header} (a : Judg
   pub seeks-of : Seeks m head (x .destination)
   seeks-of = record { held = a .sender .held; inside = rw (a .long) (fits .destination-fits) }
 
-  pub judge-other : ((j : ℕ) → Fits w8 (getD m j 0)) → 4 < x .kind → {r : Judgement} → r ≡ refusal 20 → Judges image m i head x r m
+  pub judge-other : Octets m → 4 < x .kind → {r : Judgement} → r ≡ refusal 20 → Judges image m i head x r m
   unfolding judged
   judge-other b h q = rw (lt-ltb 4 (x .kind) h) (left-as-is (a .sender) b q)
 

@@ -3,7 +3,11 @@ mod address;
 mod pending;
 
 use address::Destination;
+use header::CALL;
+use header::ERROR;
 use header::Header;
+use header::RETURN;
+use header::SIGNAL;
 use memory::FIRST_NAME;
 use memory::GID_ROOM;
 use memory::NAME_WIDTH;
@@ -26,15 +30,6 @@ ghost use Rattle.memory.specs.Layout.{gidRoom};
 ghost use Rattle.slots.specs.Slots.{At, Seated};
 ghost use Rattle.judge.specs.Judging.{JudgedMessage, Judges};
 ghost use Rattle.judge.specs.Steps.{Stands, Asks, Says, ToBus, Reaches, ToAll, Waits, Delivers, PolicyAnswer, ToPeer, RepliesTo, Replies, Directs};
-
-// The types of messages (rule 2.2).
-const CALL: u8 = 1;
-
-const RETURN: u8 = 2;
-
-const ERROR: u8 = 3;
-
-const SIGNAL: u8 = 4;
 
 // ---- policy
 

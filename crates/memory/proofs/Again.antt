@@ -13,14 +13,13 @@ use Rattle.wire.specs.Bytes.{same}
 use Rattle.wire.specs.Words.{wordAt, wordBytes}
 use Rattle.wire.proofs.Texts.{both-first, both-second}
 use Rattle.wire.proofs.Parts.{pad-fits}
-use Rattle.names.specs.Names.{wellKnown}
+use Rattle.names.specs.Names.{wellKnown, nameLimit}
 use Rattle.policy.specs.Names.{cellOf, nameOf, busName}
 use Rattle.stream.specs.Tail.{Tail}
 use Rattle.rules.specs.State.{Pending, Slot, isPeer}
 use Rattle.rules.specs.Addresses.{ownable}
 use Rattle.rules.specs.Pending.{sameCall}
 use Rattle.rules.specs.Calls.{isOwner}
-use Rattle.memory.specs.Layout.{nameLimit}
 use Rattle.memory.specs.Encoding.{pendingBytes, pendingOf, wordOf}
 use Rattle.memory.specs.Good.{nobody, goodNames, goodPending, goodSlots}
 use Rattle.memory.specs.Sound.{word32}
@@ -57,7 +56,7 @@ words-back xs e = maps-back word32 wordBytes wordOf (λ x h. word-back x (ltb-tr
 
 pub ownable-short : (name : List ℕ) → ownable name ≡ true → length name ≤ nameLimit
 unfolding wellKnown
-ownable-short name e = leb-true (length name) 255 (both-first (leb (length name) 255) _ (both-first (wellKnown name) (not (same name busName)) e))
+ownable-short name e = leb-true (length name) nameLimit (both-first (leb (length name) nameLimit) _ (both-first (wellKnown name) (not (same name busName)) e))
 
 pub names-back : (xs : List (List ℕ)) (later : List (Slot Tail)) → goodNames xs later ≡ true → map nameOf (map cellOf xs) ≡ xs
 unfolding goodNames

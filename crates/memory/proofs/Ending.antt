@@ -1,12 +1,12 @@
 -- A table of pending calls from which those of one callee are taken out, call by call.
 use mathlib.Core.List.{List, [], _++_, map, append-nil, _∷_}
 use mathlib.Core.Path.{_≡_, refl, sym, ap, ap₂, _∙_}
-use Prim.Native.Nat.{ℕ, zero, suc, _+_, _-_, _*_, _≤_, _<_, min}
+use Prim.Native.Nat.{ℕ, zero, suc, _+_, _-_, _*_, _≤_, min, _<_}
 use native.Mathlib.Omega.{arith}
 use lib.ListN.{length, getD, take, drop}
-use mir.Syntax.{w8}
-use mir.Val.{Fits}
 use borrow.Author.Needs.{needs}
+use Rattle.wire.proofs.Words.{Octets}
+use Rattle.wire.specs.Bytes.{Below}
 use Rattle.wire.specs.Words.{wordAt, wordBytes}
 use Rattle.wire.specs.declared.Order.the-variants.{Little}
 use Rattle.tables.specs.Tables.{parts, tableBytes, tableOf}
@@ -23,16 +23,16 @@ use Rattle.memory.proofs.Again.{pending-back}
 use Rattle.memory.proofs.Removal.{Leaving, leaving-begins, leaving-out, leaving-stays, leaving-ends}
 
 -- what is read off bytes is given back by its own bytes
-parts-back : (n : ℕ) (d : List ℕ) → ((i : ℕ) → getD d i 0 < 256)
+parts-back : (n : ℕ) (d : List ℕ) → Below 256 d
     → map pendingOf (map pendingBytes (map pendingOf (parts callWidth n d))) ≡ map pendingOf (parts callWidth n d)
 unfolding parts
 parts-back zero d b = refl
 parts-back (suc n) d b =
-    let f : (i : ℕ) → getD (take callWidth d) i 0 < 256 = bytes-take callWidth d b in
+    let f : Below 256 (take callWidth d) = bytes-take callWidth d b in
     ap₂ _∷_ (pending-back (pendingOf (take callWidth d)) (word-fits (take callWidth d) 0 f) (word-fits (take callWidth d) serialOffset f))
     (parts-back n (drop callWidth d) (bytes-drop callWidth d b))
 
-table-back : (t : List ℕ) → ((i : ℕ) → getD t i 0 < 256)
+table-back : (t : List ℕ) → Below 256 t
     → map pendingOf (map pendingBytes (tableOf callWidth callRoom pendingOf t)) ≡ tableOf callWidth callRoom pendingOf t
 unfolding tableOf
 table-back t b = parts-back (min (wordAt Little t 0) callRoom) (drop 4 t) (bytes-drop 4 t b)
@@ -48,7 +48,7 @@ pub record Ending (c : ℕ) (ws₀ : List Pending) (t : List ℕ) (n j : ℕ) : 
   pub below : j ≤ n
   pub left : Leaving c ws₀ calls j
 
-pub ending-begins : (c : ℕ) (t : List ℕ) (n : ℕ) → length t ≡ pendingLength → ((i : ℕ) → Fits w8 (getD t i 0))
+pub ending-begins : (c : ℕ) (t : List ℕ) (n : ℕ) → length t ≡ pendingLength → Octets t
     → t ≡ tableBytes callWidth callRoom pendingBytes (tableOf callWidth callRoom pendingOf t) → n ≡ wordAt Little t 0
     → Ending c (tableOf callWidth callRoom pendingOf t) t n 0
 ending-begins c t n l b e en =

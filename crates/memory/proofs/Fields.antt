@@ -12,11 +12,11 @@ use Rattle.tables.specs.Tables.{tableBytes, tableOf}
 use Rattle.wire.proofs.Parts.{part-put, part-nested}
 use Rattle.tables.proofs.Words.{word-front}
 use Rattle.tables.proofs.Table.{table-length, table-count, table-again}
-use Rattle.policy.specs.Names.{cellOf}
+use Rattle.policy.specs.Names.{cellOf, nameWidth}
 use Rattle.stream.specs.Tail.{Tail}
 use Rattle.rules.specs.State.{Pending, Peer, free, peer, State, putSlot, withNames, withPending, withStream}
 use Rattle.memory.specs.Layout.{slotLength, slotStart, gidsAt, gidWidth, gidRoom, pendingAt, callWidth}
-use Rattle.memory.specs.Layout.{callRoom, namesAt, nameWidth, nameRoom, takenAt, streamLength, restAt}
+use Rattle.memory.specs.Layout.{callRoom, namesAt, nameRoom, takenAt, streamLength, restAt}
 use Rattle.memory.specs.Encoding.{pendingBytes, streamBytes, restBytes, peerBytes, slotBytes, memoryOf}
 use Rattle.memory.proofs.Frame.{head-length, put-memory, memory-at}
 

@@ -13,11 +13,11 @@ use Rattle.tables.specs.Tables.{cells}
 use Rattle.wire.proofs.Parts.{take-past, drop-past}
 use Rattle.tables.proofs.Cells.{cells-length, cells-put, cells-at, cells-zeros}
 use Rattle.tables.proofs.Table.{table-length}
-use Rattle.policy.specs.Names.{cellOf}
+use Rattle.policy.specs.Names.{nameLimit, cellOf, nameWidth}
 use Rattle.stream.specs.Tail.{Tail}
 use Rattle.rules.specs.State.{Pending, Peer, Slot, free, peer, State, putSlot}
 use Rattle.rules.specs.Calls.{empty}
-use Rattle.memory.specs.Layout.{memoryLength, slotsAt, slotLength, slotStart, callWidth, nameWidth, headRoom, keptLength, restLength, nameLimit}
+use Rattle.memory.specs.Layout.{memoryLength, slotsAt, slotLength, slotStart, callWidth, headRoom, keptLength, restLength}
 use Rattle.memory.specs.Encoding.{pendingBytes, headBytes, restBytes, peerBytes, slotBytes, memoryOf}
 
 -- ---- widths

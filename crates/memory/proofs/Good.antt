@@ -2,13 +2,13 @@
 use mathlib.Core.Bool.{Bool, true, false, cond, _&&_}
 use mathlib.Core.List.{List, [], _∷_, _++_, map}
 use mathlib.Core.Path.{_≡_, refl, sym, ap, ap₂, _∙_}
-use Prim.Native.Nat.{ℕ, zero, suc, _+_, _*_, _<_, min}
+use Prim.Native.Nat.{ℕ, zero, suc, _+_, _*_, min, _<_}
 use native.Mathlib.Omega.{arith}
 use lib.Dec.{eqb}
-use lib.ListN.{length, getD, take, drop, set, length-drop, take-append-drop}
+use lib.ListN.{length, take, drop, set, length-drop, take-append-drop}
 use borrow.Author.Tests.{eqb-true, lt-ltb}
 use Rattle.wire.specs.Lists.{every}
-use Rattle.wire.specs.Bytes.{same}
+use Rattle.wire.specs.Bytes.{Below, same}
 use Rattle.wire.specs.Words.{wordAt, wordBytes}
 use Rattle.wire.specs.declared.Order.the-variants.{Little}
 use Rattle.wire.proofs.Texts.{both-first, both-second, both-true, same-eq}
@@ -65,7 +65,7 @@ plain-slots (suc n) d l e =
     (plain-slots n (drop slotLength d) (length-drop slotLength d ∙ omega arith) (both-second (same (slotBytes (slotOf b)) b) (plainSlots r) e))
     ∙ take-append-drop slotLength d
 
-pub good-is : (m : List ℕ) → ((i : ℕ) → getD m i 0 < 256) → good m ≡ true → memoryOf (stateOf m) ≡ m
+pub good-is : (m : List ℕ) → Below 256 m → good m ≡ true → memoryOf (stateOf m) ≡ m
 unfolding memoryOf stateOf
 good-is m b e =
     let l : length m ≡ memoryLength = good-sized m e in
@@ -74,23 +74,23 @@ good-is m b e =
 
 -- ---- the numbers read off bytes are of 32 bits
 
-every-parts : {A : Type 0} (t : A → Bool) (dec : List ℕ → A) (w : ℕ) → ((b : List ℕ) → ((i : ℕ) → getD b i 0 < 256) → t (dec b) ≡ true)
-    → (n : ℕ) (m : List ℕ) → ((i : ℕ) → getD m i 0 < 256) → every t (map dec (parts w n m)) ≡ true
+every-parts : {A : Type 0} (t : A → Bool) (dec : List ℕ → A) (w : ℕ) → ((b : List ℕ) → Below 256 b → t (dec b) ≡ true)
+    → (n : ℕ) (m : List ℕ) → Below 256 m → every t (map dec (parts w n m)) ≡ true
 unfolding parts
 every-parts t dec w f zero m b = refl
 every-parts t dec w f (suc n) m b =
     both-true (t (dec (take w m))) (every t (map dec (parts w n (drop w m)))) (f (take w m) (bytes-take w m b))
     (every-parts t dec w f n (drop w m) (bytes-drop w m b))
 
-every-table : {A : Type 0} (t : A → Bool) (dec : List ℕ → A) (w k : ℕ) → ((b : List ℕ) → ((i : ℕ) → getD b i 0 < 256) → t (dec b) ≡ true)
-    → (m : List ℕ) → ((i : ℕ) → getD m i 0 < 256) → every t (tableOf w k dec m) ≡ true
+every-table : {A : Type 0} (t : A → Bool) (dec : List ℕ → A) (w k : ℕ) → ((b : List ℕ) → Below 256 b → t (dec b) ≡ true)
+    → (m : List ℕ) → Below 256 m → every t (tableOf w k dec m) ≡ true
 unfolding tableOf
 every-table t dec w k f m b = every-parts t dec w f (min (wordAt Little m 0) k) (drop 4 m) (bytes-drop 4 m b)
 
-word-narrow : (a : ℕ) (b : List ℕ) → ((i : ℕ) → getD b i 0 < 256) → word32 (wordAt Little b a) ≡ true
+word-narrow : (a : ℕ) (b : List ℕ) → Below 256 b → word32 (wordAt Little b a) ≡ true
 word-narrow a b f = lt-ltb (wordAt Little b a) 4294967296 (word-fits b a f)
 
-pub slot-narrow : (b : List ℕ) → ((i : ℕ) → getD b i 0 < 256) → narrow (slotOf b) ≡ true
+pub slot-narrow : (b : List ℕ) → Below 256 b → narrow (slotOf b) ≡ true
 unfolding slotOf peerOf narrow
 slot-narrow b f = go (eqb (wordAt Little b 0) 0)
   where
@@ -103,7 +103,7 @@ slot-narrow b f = go (eqb (wordAt Little b 0) 0)
         (bytes-drop pendingAt b f) in
         rw (u, v, x)
 
-pub good-sound : (m : List ℕ) → ((i : ℕ) → getD m i 0 < 256) → good m ≡ true → Sound (stateOf m)
+pub good-sound : (m : List ℕ) → Below 256 m → good m ≡ true → Sound (stateOf m)
 unfolding stateOf
 good-sound m b e =
     record {
@@ -116,7 +116,7 @@ good-sound m b e =
 
 -- ---- a slot and the last number put in good memory
 
-module _ (m : List ℕ) (b : (i : ℕ) → getD m i 0 < 256) (g : good m ≡ true) where
+module _ (m : List ℕ) (b : Below 256 m) (g : good m ≡ true) where
   pub framed : (i : ℕ) (x : Slot Tail) → i < 16
       → memoryOf (putSlot (stateOf m) i x) ≡ take (slotStart i) m ++ (slotBytes x ++ drop (slotStart i + slotLength) m)
   framed i x h = rw (good-is m b g) at (put-memory (stateOf m) i x (rw (sixteen m) h))

@@ -1,10 +1,10 @@
 -- A head in bytes is a table of single bytes, so that the laws of tables are its laws too.
 use mathlib.Core.List.{List, [], _∷_, map}
 use mathlib.Core.Path.{_≡_, refl, sym, ap}
-use Prim.Native.Nat.{ℕ, zero, suc, _≤_, _<_, min}
+use Prim.Native.Nat.{ℕ, zero, suc, _≤_, min}
 use native.Mathlib.Omega.{arith}
-use lib.ListN.{length, getD, take, drop, length-drop}
-use Rattle.wire.specs.Bytes.{front}
+use lib.ListN.{length, take, drop, length-drop}
+use Rattle.wire.specs.Bytes.{Below, front}
 use Rattle.wire.specs.Words.{wordAt}
 use Rattle.wire.specs.declared.Order.the-variants.{Little}
 use Rattle.tables.specs.Tables.{cells, parts, tableBytes, tableOf}
@@ -37,7 +37,7 @@ pub head-of : (d : List ℕ) → keptLength ≤ length d → take (min (wordAt L
 unfolding tableOf
 head-of d h = sym (fronts (min (wordAt Little d 0) headRoom) (drop 4 d) (omega (arith, length-drop 4 d)))
 
-pub single-plain : (b : List ℕ) → length b ≡ 1 → ((i : ℕ) → getD b i 0 < 256) → single (front b) ≡ b
+pub single-plain : (b : List ℕ) → length b ≡ 1 → Below 256 b → single (front b) ≡ b
 single-plain [] l f = absurd (omega arith)
 single-plain (x ∷ []) l f = refl
 single-plain (x ∷ y ∷ b) l f = absurd (omega arith)

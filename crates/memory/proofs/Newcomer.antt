@@ -10,12 +10,12 @@ use Rattle.wire.proofs.Words.{word-length}
 use Rattle.tables.specs.Tables.{cells, tableBytes}
 use Rattle.tables.proofs.Table.{table-spread}
 use Rattle.tables.proofs.Same.{pad-none}
-use Rattle.policy.specs.Names.{cellOf}
+use Rattle.policy.specs.Names.{cellOf, nameWidth}
 use Rattle.stream.specs.Tail.{tails}
 use Rattle.rules.specs.State.{peer}
 use Rattle.rules.specs.Calls.{newcomer}
 use Rattle.memory.specs.Layout.{slotLength, firstGid, gidWidth, gidRoom, pendingAt, callWidth, callRoom, pendingLength, namesAt}
-use Rattle.memory.specs.Layout.{nameWidth, nameRoom, namesLength, takenAt, headRoom, keptLength, streamLength, restLength}
+use Rattle.memory.specs.Layout.{nameRoom, namesLength, takenAt, headRoom, keptLength, streamLength, restLength}
 use Rattle.memory.specs.Encoding.{pendingBytes, headBytes, restBytes, peerBytes, slotBytes}
 use Rattle.memory.proofs.Frame.{word-zero}
 use Rattle.memory.proofs.Heads.{single, head-table}

@@ -2,10 +2,11 @@
 use mathlib.Core.Path.{_≡_, refl}
 use mathlib.Core.Bool.{Bool, true, false, cond, _&&_}
 use mathlib.Core.List.{List, [], _∷_, _++_}
-use Prim.Native.Nat.{ℕ, zero, suc, _+_, _<_, min}
+use Prim.Native.Nat.{ℕ, zero, suc, _+_, min, _<_}
 use lib.Dec.{ltb, eqb}
-use lib.ListN.{getD, take, drop}
+use lib.ListN.{take, drop}
 use borrow.Author.Tests.{lt-ltb, ltb-true}
+use Rattle.wire.specs.Bytes.{Below}
 use Rattle.wire.specs.Lists.{every, distinct}
 use Rattle.wire.specs.Words.{wordAt}
 use Rattle.wire.specs.declared.Order.the-variants.{Little}
@@ -46,18 +47,18 @@ module _ {A : Type 0} (t : A → Bool) where
 
 -- ---- numbers below k
 
-pub every-below : (k : ℕ) (l : List ℕ) → ((i : ℕ) → getD l i 0 < k) → every (λ n. ltb n k) l ≡ true
+pub every-below : (k : ℕ) (l : List ℕ) → Below k l → every (λ n. ltb n k) l ≡ true
 every-below k [] h = refl
 every-below k (x ∷ l) h = both-true (ltb x k) (every (λ n. ltb n k) l) (lt-ltb x k (h 0)) (every-below k l (λ i. h (suc i)))
 
-pub below-every : (k : ℕ) (l : List ℕ) → 0 < k → every (λ n. ltb n k) l ≡ true → (i : ℕ) → getD l i 0 < k
+pub below-every : (k : ℕ) (l : List ℕ) → 0 < k → every (λ n. ltb n k) l ≡ true → Below k l
 below-every k [] h e i = h
 below-every k (x ∷ l) h e zero = ltb-true x k (both-first (ltb x k) (every (λ n. ltb n k) l) e)
 below-every k (x ∷ l) h e (suc i) = below-every k l h (both-second (ltb x k) (every (λ n. ltb n k) l) e) i
 
 -- ---- the head in a slot
 
-pub slot-octets : (b : List ℕ) → ((i : ℕ) → getD b i 0 < 256) → headOctets (slotOf b) ≡ true
+pub slot-octets : (b : List ℕ) → Below 256 b → headOctets (slotOf b) ≡ true
 unfolding slotOf peerOf slotTail headOctets
 slot-octets b h = go (eqb (wordAt Little b 0) 0)
   where

@@ -4,16 +4,17 @@ use mathlib.Core.List.{List, [], _∷_, _++_}
 use mathlib.Core.Path.{_≡_, sym, ap, _∙_}
 use Prim.Native.Nat.{ℕ, _+_, _-_, _*_, _≤_, _<_}
 use native.Mathlib.Omega.{arith}
-use lib.ListN.{length, getD, take, drop}
+use lib.ListN.{length, take, drop}
 use lib.Seq.{drop-drop, take-take}
+use Rattle.wire.specs.Bytes.{Below}
 use Rattle.wire.specs.Words.{wordBytes}
 use Rattle.tables.specs.Tables.{tableBytes}
 use Rattle.wire.proofs.Parts.{drop-take}
 use Rattle.tables.proofs.Written.{append-written}
-use Rattle.policy.specs.Names.{cellOf}
+use Rattle.policy.specs.Names.{cellOf, nameWidth}
 use Rattle.stream.specs.Tail.{Tail}
 use Rattle.rules.specs.State.{Pending, Peer, peer, putSlot, withNames, withPending, withStream}
-use Rattle.memory.specs.Layout.{slotLength, slotStart, pendingAt, firstCallee, callWidth, callRoom, pendingLength, namesAt, firstName, nameWidth}
+use Rattle.memory.specs.Layout.{slotLength, slotStart, pendingAt, firstCallee, callWidth, callRoom, pendingLength, namesAt, firstName}
 use Rattle.memory.specs.Layout.{nameRoom, namesLength, takenAt, streamLength}
 use Rattle.memory.specs.Encoding.{pendingBytes, streamBytes, slotBytes, memoryOf, stateOf}
 use Rattle.memory.specs.Sound.{Held}
@@ -34,7 +35,7 @@ part-of m a b c h =
     ∙ take-take c x (drop b (drop a m)) (omega arith)
     ∙ ap (take c) (drop-drop b a m)
 
-module _ (m : List ℕ) (bytes : (j : ℕ) → getD m j 0 < 256) (g : Held m) (i : ℕ) (h : i < 16) (some : numberAt m i ≡ 0 → ⊥) where
+module _ (m : List ℕ) (bytes : Below 256 m) (g : Held m) (i : ℕ) (h : i < 16) (some : numberAt m i ≡ 0 → ⊥) where
   -- ---- the tables of slot i
 
   pub names-stand : take namesLength (drop (slotStart i + namesAt) m) ≡ tableBytes nameWidth nameRoom cellOf (peerFrom m (slotStart i) .names)

@@ -10,16 +10,15 @@ use borrow.Author.Tests.{ne-eqb}
 use Rattle.wire.specs.Words.{wordAt}
 use Rattle.wire.specs.declared.Order.the-variants.{Little}
 use Rattle.wire.proofs.Words.{word-drop}
-use Rattle.tables.specs.Tables.{parts, tableOf}
+use Rattle.tables.specs.Tables.{parts}
 use Rattle.wire.proofs.Parts.{drop-take}
 use Rattle.tables.proofs.Words.{word-take, word-part, word-front}
 use Rattle.tables.proofs.Cells.{parts-length, parts-at}
 use Rattle.tables.proofs.Table.{table-take, table-many, table-next}
-use Rattle.policy.specs.Names.{nameOf}
-use Rattle.stream.specs.Tail.{Tail}
-use Rattle.rules.specs.State.{Peer, free, peer}
+use Rattle.policy.specs.Names.{nameOf, nameWidth}
+use Rattle.rules.specs.State.{free, peer}
 use Rattle.memory.specs.Layout.{slotLength, slotStart, gidsAt, firstGid, gidWidth, gidRoom, pendingAt, firstCallee, firstSerial, callWidth, callRoom}
-use Rattle.memory.specs.Layout.{namesAt, firstName, nameWidth, nameRoom, takenAt, headAt, firstByte, headRoom, slotsAt, uidAt, serialOffset}
+use Rattle.memory.specs.Layout.{namesAt, firstName, nameRoom, takenAt, headAt, firstByte, headRoom, slotsAt, uidAt, serialOffset}
 use Rattle.memory.specs.Encoding.{wordOf, pendingOf, slotTail, peerOf, slotOf, stateOf}
 use Rattle.memory.specs.Places.{peerFrom, numberAt}
 

@@ -5,8 +5,9 @@ use mathlib.Core.List.{List, [], _∷_, map, append-nil}
 use mathlib.Core.Path.{_≡_, refl, ap₂}
 use Prim.Native.Nat.{ℕ, _≤_, _<_}
 use native.Mathlib.Omega.{arith}
-use lib.ListN.{length, getD, drop}
+use lib.ListN.{length, drop}
 use borrow.Author.Tests.{eq-eqb, ltb-true}
+use Rattle.wire.specs.Bytes.{Below}
 use Rattle.wire.specs.Lists.{every}
 use Rattle.wire.specs.Words.{wordAt}
 use Rattle.wire.specs.declared.Order.the-variants.{Little}
@@ -105,5 +106,5 @@ good-memory s g =
     )
 
 -- memory is good exactly where it is the bytes of a sound state
-pub good-iff : (m : List ℕ) → ((i : ℕ) → getD m i 0 < 256) → (good m ≡ true) ↔ ((s : State Tail) × Sound s × (memoryOf s ≡ m))
+pub good-iff : (m : List ℕ) → Below 256 m → (good m ≡ true) ↔ ((s : State Tail) × Sound s × (memoryOf s ≡ m))
 good-iff m b = (λ e. (stateOf m, good-sound m b e, good-is m b e), λ x. rw (← (x .2)) (good-memory (x .0) (x .1)))

@@ -3,8 +3,9 @@ use mathlib.Core.List.{List, [], _∷_, _++_, map, append-assoc}
 use mathlib.Core.Path.{_≡_, refl, sym, ap, ap₂, _∙_}
 use Prim.Native.Nat.{ℕ, zero, suc, _+_, _-_, _*_, _≤_, _<_}
 use native.Mathlib.Omega.{arith}
-use lib.ListN.{length, getD, take, drop, set, length-append, length-drop, take-append-drop}
+use lib.ListN.{length, take, drop, set, length-append, length-drop, take-append-drop}
 use lib.Seq.{take-at, drop-at, drop-drop, take-add, length-take-le}
+use Rattle.wire.specs.Bytes.{Below}
 use Rattle.wire.specs.Words.{wordAt, wordBytes}
 use Rattle.wire.specs.declared.Order.the-variants.{Little}
 use Rattle.wire.proofs.Words.{word-length}
@@ -22,7 +23,7 @@ use Rattle.memory.proofs.Slots.{free-back}
 
 -- ---- a slot's bytes put are read back
 
-word-first : (m : List ℕ) → slotsAt ≤ length m → ((i : ℕ) → getD m i 0 < 256) → wordBytes (wordAt Little m 0) ≡ take slotsAt m
+word-first : (m : List ℕ) → slotsAt ≤ length m → Below 256 m → wordBytes (wordAt Little m 0) ≡ take slotsAt m
 word-first m h b =
     sym (ap (take slotsAt) (word-cut m h b) ∙ take-at (wordBytes (wordAt Little m 0)) (drop slotsAt m) slotsAt (word-length (wordAt Little m 0)))
 
@@ -76,7 +77,7 @@ pub record Sweeping (f : Slot Tail → Slot Tail) (m₀ m : List ℕ) (i : ℕ) 
   pub sized : length m ≡ memoryLength
   pub left : memoryOf (mapped f (stateOf m₀)) ≡ take slotsAt m ++ swept (changed f) slotLength 16 i (drop slotsAt m)
 
-pub sweeping-begins : (f : Slot Tail → Slot Tail) (m : List ℕ) → ((i : ℕ) → getD m i 0 < 256) → length m ≡ memoryLength → Sweeping f m m 0
+pub sweeping-begins : (f : Slot Tail → Slot Tail) (m : List ℕ) → Below 256 m → length m ≡ memoryLength → Sweeping f m m 0
 unfolding memoryOf stateOf
 sweeping-begins f m b l =
     let d = drop slotsAt m in

@@ -8,18 +8,18 @@ use Rattle.wire.specs.Bytes.{pad}
 use Rattle.wire.specs.Words.{wordAt, wordBytes}
 use Rattle.wire.specs.declared.Order.the-variants.{Little}
 use Rattle.tables.specs.Tables.{cells, parts, tableBytes, tableOf}
-use Rattle.policy.specs.Names.{cellOf, nameOf}
+use Rattle.policy.specs.Names.{cellOf, nameOf, nameWidth}
 use Rattle.stream.specs.Tail.{Tail}
 use Rattle.rules.specs.State.{Pending, Peer, Slot, free, peer, State}
 use Rattle.memory.specs.Layout.{slotLength, slotsAt, uidAt, gidsAt, gidWidth, gidRoom, pendingAt, serialOffset, callWidth, callRoom}
-use Rattle.memory.specs.Layout.{namesAt, nameWidth, nameRoom, takenAt, headAt, firstByte, headRoom, restLength}
+use Rattle.memory.specs.Layout.{namesAt, nameRoom, takenAt, headAt, firstByte, headRoom, restLength}
 
 -- ---- what a state is in bytes (rule 10.2)
 
 abbrev pub pendingBytes : Pending → List ℕ
 pendingBytes w = wordBytes (w .callee) ++ wordBytes (w .serial)
 
--- a head has room for the longest that passes, 2,048 bytes
+-- a head and its room
 unfoldable pub headBytes : List ℕ → List ℕ
 headBytes h = wordBytes (length h) ++ pad headRoom h
 

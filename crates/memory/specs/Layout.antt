@@ -1,5 +1,7 @@
 -- Where things stand in the guard's memory: the last number, then sixteen slots of one size. Every place is computed from what stands before it (rule 10.1).
 use Prim.Native.Nat.{ℕ, _+_, _*_}
+use Rattle.header.specs.Fixed.{headLimit}
+use Rattle.policy.specs.Names.{nameWidth}
 
 -- ---- how wide a thing is, and how many of it a slot has room for
 
@@ -19,19 +21,13 @@ callWidth = serialOffset + 4
 abbrev pub callRoom : ℕ
 callRoom = 16
 
--- the longest name, and a name behind its length byte
-abbrev pub nameLimit : ℕ
-nameLimit = 255
-
-abbrev pub nameWidth : ℕ
-nameWidth = 1 + nameLimit
-
+-- a name stands in a cell, nameWidth wide
 abbrev pub nameRoom : ℕ
 nameRoom = 4
 
--- bytes of a head
+-- bytes of a head, the longest that passes
 abbrev pub headRoom : ℕ
-headRoom = 2048
+headRoom = headLimit
 
 -- ---- tables: a count, and room for so many things
 

@@ -7,11 +7,11 @@ use lib.ListN.{take, drop}
 use Rattle.wire.specs.Words.{wordAt}
 use Rattle.wire.specs.declared.Order.the-variants.{Little}
 use Rattle.tables.specs.Tables.{tableOf}
-use Rattle.policy.specs.Names.{nameOf}
+use Rattle.policy.specs.Names.{nameOf, nameWidth}
 use Rattle.stream.specs.Tail.{Tail}
 use Rattle.rules.specs.State.{Peer, Slot, State, firstBy}
 use Rattle.memory.specs.Layout.{slotLength, slotStart, gidsAt, gidWidth, gidRoom, pendingAt, callWidth, callRoom}
-use Rattle.memory.specs.Layout.{namesAt, nameWidth, nameRoom, takenAt, headAt, firstByte, headRoom, uidAt}
+use Rattle.memory.specs.Layout.{namesAt, nameRoom, takenAt, headAt, firstByte, headRoom, uidAt}
 use Rattle.memory.specs.Encoding.{wordOf, pendingOf, slotBytes, slotOf, stateOf}
 
 -- ---- the peer whose slot begins at a

@@ -11,13 +11,11 @@ pub const CALL_WIDTH: usize = SERIAL_OFFSET + 4;
 
 pub const CALL_ROOM: usize = 16;
 
-pub const NAME_LIMIT: usize = 255;
-
-pub const NAME_WIDTH: usize = 1 + NAME_LIMIT;
+pub const NAME_WIDTH: usize = policy::NAME_WIDTH;
 
 pub const NAME_ROOM: usize = 4;
 
-pub const HEAD_ROOM: usize = 2048;
+pub const HEAD_ROOM: usize = header::HEAD_LIMIT;
 
 // A table is a count, and room for so many things.
 pub const GIDS_LENGTH: usize = 4 + GID_WIDTH * GID_ROOM;

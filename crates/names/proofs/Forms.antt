@@ -10,7 +10,7 @@ use borrow.Author.Needs.{needs}
 use borrow.Author.Tests.{le-leb, lt-leb, eq-eqb, ne-eqb, eqb-true, not-true, not-false}
 use Rattle.wire.specs.Bytes.{byte}
 use Rattle.wire.proofs.Words.{rest-at}
-use Rattle.names.specs.Names.{word, pieces, dotted, startsWith, wellKnown, unique, validName, counted}
+use Rattle.names.specs.Names.{word, pieces, nameLimit, dotted, startsWith, wellKnown, unique, validName, counted}
 use Rattle.names.specs.Names.{interfaceShape, wellKnownShape, memberShape, pathShape}
 use Rattle.names.specs.Near.{dots, listed, parted, several}
 use Rattle.names.specs.declared.Form.{Form}
@@ -20,7 +20,7 @@ use Rattle.names.proofs.Scan.{passed}
 -- ---- two elements or more, one alone, one or more: of a short text by the count, of a long one by the scan
 
 -- a dot is no byte of an element
-pub dot : (dash : Bool) → word dash 46 ≡ false
+pub dot : (dash : Bool) → word dash (byte ".") ≡ false
 dot true = refl
 dot false = refl
 
@@ -29,7 +29,7 @@ module _ (s : List ℕ) (dash lead : Bool) where
   unfolding several
   several-short e = rw e (passed (dots dash lead) (leb 2) s refl)
 
-  module _ {q : Bool} (f : q ≡ parted 46 s) where
+  module _ {q : Bool} (f : q ≡ parted (byte ".") s) where
     pub several-not : not q ≡ true → false ≡ several dash lead s
     unfolding several parted
     several-not t = rw (← f, not-true q t, and-false)
@@ -45,29 +45,29 @@ module _ (s : List ℕ) where
 
   -- ---- each form
 
-  module _ (h : 255 < length s) where
+  module _ (h : nameLimit < length s) where
     pub dotted-long : (dash : Bool) → false ≡ dotted (dots dash false) s
-    dotted-long dash = rw (lt-leb (length s) 255 h)
+    dotted-long dash = rw (lt-leb (length s) nameLimit h)
 
     pub unique-long : false ≡ validName Unique s
     unfolding validName unique
-    unique-long = rw (lt-leb (length s) 255 h)
+    unique-long = rw (lt-leb (length s) nameLimit h)
 
     pub member-too-long : false ≡ validName Member s
     unfolding validName
-    member-too-long = rw (lt-leb (length s) 255 h)
+    member-too-long = rw (lt-leb (length s) nameLimit h)
 
-  pub dotted-is : (dash : Bool) → length s ≤ 255 → {r : Bool} → r ≡ several dash false s → r ≡ dotted (dots dash false) s
+  pub dotted-is : (dash : Bool) → length s ≤ nameLimit → {r : Bool} → r ≡ several dash false s → r ≡ dotted (dots dash false) s
   unfolding several
-  dotted-is dash h e = rw (le-leb (length s) 255 h) e
+  dotted-is dash h e = rw (le-leb (length s) nameLimit h) e
 
   pub member-short : length s < 9 → {n : ℕ} → n ≡ counted memberShape s → eqb n 1 ≡ validName Member s
   unfolding validName
-  member-short h e = rw (e, passed memberShape (λ k. eqb k 1) s refl, le-leb (length s) 255 (omega arith))
+  member-short h e = rw (e, passed memberShape (λ k. eqb k 1) s refl, le-leb (length s) nameLimit (omega arith))
 
-  pub member-long : length s ≤ 255 → {r : Bool} → r ≡ listed memberShape s → r ≡ validName Member s
+  pub member-long : length s ≤ nameLimit → {r : Bool} → r ≡ listed memberShape s → r ≡ validName Member s
   unfolding validName listed
-  member-long h e = rw (le-leb (length s) 255 h) e
+  member-long h e = rw (le-leb (length s) nameLimit h) e
 
 -- the first byte is b
 starts : (b : ℕ) (s : List ℕ) → (length s ≡ 0 → ⊥) → getD s 0 0 ≡ b → startsWith b s ≡ true
@@ -94,10 +94,10 @@ module _ (s : List ℕ) where
   unfolding validName unique
   unique-not e = rw (starts-not (byte ":") s e, and-false)
 
-  pub unique-is : (length s ≡ 0 → ⊥) → getD s 0 0 ≡ byte ":" → length s ≤ 255 → {r : Bool} → r ≡ several true true (take (length s - 1) (drop 1 s))
+  pub unique-is : (length s ≡ 0 → ⊥) → getD s 0 0 ≡ byte ":" → length s ≤ nameLimit → {r : Bool} → r ≡ several true true (take (length s - 1) (drop 1 s))
       → r ≡ validName Unique s
   unfolding validName unique several
-  unique-is n e h f = rw (le-leb (length s) 255 h, starts (byte ":") s n e, ← rest-at 1 s) f
+  unique-is n e h f = rw (le-leb (length s) nameLimit h, starts (byte ":") s n e, ← rest-at 1 s) f
 
   pub path-none : length s ≡ 0 → false ≡ validName Path s
   unfolding validName

@@ -38,8 +38,11 @@ element shape (b ∷ e) = (shape .lead || not (digit b)) && every (word (shape .
 -- ---- names
 
 -- names have a limit, paths have none (rule 3.1)
+abbrev pub nameLimit : ℕ
+nameLimit = 255
+
 abbrev pub short : List ℕ → Bool
-short s = leb (length s) 255
+short s = leb (length s) nameLimit
 
 unfoldable pub startsWith : ℕ → List ℕ → Bool
 startsWith b [] = false

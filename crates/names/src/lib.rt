@@ -7,6 +7,9 @@ ghost use Rattle.names.specs.Names.{dotted, validName, counted, digit, w
 ghost use Rattle.names.specs.Near.{shaped, dots, near, pairs, listed, parted, several};
 ghost use Rattle.names.specs.Namespace.{inNamespace};
 
+// How long a name may be; a path has no limit.
+pub const NAME_LIMIT: usize = 255;
+
 pub enum Form {
     Interface,
     WellKnown,
@@ -217,7 +220,7 @@ fn is_several(s: &[u8], dash: bool, lead: bool) -> bool
 fn is_dotted(s: &[u8], dash: bool) -> bool
     ensures { λ r. ⌜ r ≡ dotted (dots dash false) (now (s .entry)) ⌝ }
 {
-    if 255 < s.len() {
+    if NAME_LIMIT < s.len() {
         return false;
     }
     is_several(s, dash, INTERFACE.lead)
@@ -232,7 +235,7 @@ fn is_unique(s: &[u8]) -> bool
     if s[0] != b':' {
         return false;
     }
-    if 255 < s.len() {
+    if NAME_LIMIT < s.len() {
         return false;
     }
     is_several(&s[1..], UNIQUE.dash, UNIQUE.lead)
@@ -244,7 +247,7 @@ fn is_member(s: &[u8]) -> bool
     if s.len() < 9 {
         return count(s, MEMBER) == 1;
     }
-    if 255 < s.len() {
+    if NAME_LIMIT < s.len() {
         return false;
     }
     is_listed(s, MEMBER)

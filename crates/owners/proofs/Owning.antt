@@ -12,16 +12,16 @@ use borrow.Author.Needs.{needs}
 use borrow.Author.Tests.{lt-ltb, le-ltb, le-leb, lt-leb, not-true, not-false}
 use Rattle.wire.specs.Words.{wordAt, wordBytes}
 use Rattle.wire.specs.declared.Order.the-variants.{Little}
-use Rattle.wire.proofs.Words.{put-at}
+use Rattle.wire.proofs.Words.{Octets, octets-below, put-at}
 use Rattle.wire.proofs.Parts.{drop-take, pad-fits, take-zeros}
 use Rattle.tables.proofs.Written.{put-sized, table-unused}
-use Rattle.policy.specs.Names.{cellOf, owns}
+use Rattle.policy.specs.Names.{nameLimit, cellOf, owns, nameWidth}
 use Rattle.policy.specs.Decisions.{mayOwn}
 use Rattle.policy.specs.declared.Uid.{Uid}
 use Rattle.rules.specs.State.{isPeer}
 use Rattle.rules.specs.Addresses.{ownable}
 use Rattle.rules.specs.Calls.{isOwner, own}
-use Rattle.memory.specs.Layout.{memoryLength, slotStart, namesAt, firstName, nameWidth, nameRoom, namesLength, nameLimit, uidAt}
+use Rattle.memory.specs.Layout.{memoryLength, slotStart, namesAt, firstName, nameRoom, namesLength, uidAt}
 use Rattle.memory.specs.Encoding.{stateOf}
 use Rattle.memory.specs.Sound.{Held}
 use Rattle.memory.specs.Calls.{stored, Did}
@@ -35,7 +35,7 @@ use Rattle.slots.specs.Slots.{peerAt, Seated, GidsOf}
 use Rattle.slots.specs.declared.Gids.{Gids}
 use Rattle.owners.specs.Writes.{nameBytes, Naming}
 use Rattle.owners.specs.Steps.{granted, claimed}
-use Rattle.slots.proofs.Found.{Octets, below, did-stay, peer-none, peer-place, peer-some, peer-seated, counted}
+use Rattle.slots.proofs.Found.{did-stay, peer-none, peer-place, peer-some, peer-seated, counted}
 use Rattle.slots.proofs.Zeros.{zero-rest}
 
 -- ---- what the policy is asked
@@ -110,7 +110,7 @@ module _ (m : List ℕ) (f : Octets m) (i : ℕ) (g : Seated m i) (name : List �
         let t : a + namesAt + k ≡ a + firstName + nameWidth * n = omega arith in
         let z : drop k (take namesLength d) ≡ replicate x 0
         = table-unused nameWidth nameRoom cellOf cell-length (peerAt m i .names) (take namesLength d) n
-        (names-stand m (below m f) (g .held) i (g .below) (g .some)) (sym many) (omega arith) in
+        (names-stand m (octets-below m f) (g .held) i (g .below) (g .some)) (sym many) (omega arith) in
         let y : drop k (take namesLength d) ≡ take x (drop (a + firstName + nameWidth * n) m)
         = ap (λ (c : ℕ). drop k (take c d)) s
         ∙ drop-take k x d
@@ -135,7 +135,7 @@ module _ (m : List ℕ) (f : Octets m) (i : ℕ) (g : Seated m i) (name : List �
         = ap (λ (x : List ℕ). u ∷ x) (sym (append-assoc name z t) ∙ ap (λ (x : List ℕ). x ++ t) (sym (pad-fits nameLimit name k))) in
         let e₃ : m₁ ≡ take c m ++ (cellOf name ++ t)
         = e₁ ∙ ap (λ (x : List ℕ). take c m ++ (nameBytes name ++ x)) y ∙ ap (λ (x : List ℕ). take c m ++ x) p in
-        let w = name-appended m (below m f) (g .held) i (g .below) (g .some) name m₁ m₂ n c (sym many) l refl e₃ e₂ in
+        let w = name-appended m (octets-below m f) (g .held) i (g .below) (g .some) name m₁ m₂ n c (sym many) l refl e₃ e₂ in
         rw (many, lt-leb 4 n l) (record { result = refl; memory = w })
 
 pub ruleset granting = (grant-full, grant-done, needs)

@@ -9,16 +9,17 @@ use lib.Dec.{ltb}
 use lib.ListN.{length, take, drop}
 use borrow.Author.Needs.{needs}
 use borrow.Author.Tests.{not-true, not-false, lt-ltb, le-ltb}
+use Rattle.wire.proofs.Words.{Octets, octets-below}
 use Rattle.wire.specs.Bytes.{same}
 use Rattle.wire.specs.Words.{wordAt, wordBytes}
 use Rattle.wire.specs.declared.Order.the-variants.{Little}
 use Rattle.tables.specs.Cut.{cutOut, Cell, without}
 use Rattle.tables.proofs.Written.{part-cell, remove-written}
-use Rattle.policy.specs.Names.{cellOf, owns}
+use Rattle.policy.specs.Names.{cellOf, owns, nameWidth}
 use Rattle.rules.specs.State.{isPeer, firstBy}
 use Rattle.rules.specs.Addresses.{ownable}
 use Rattle.rules.specs.Calls.{release, released}
-use Rattle.memory.specs.Layout.{slotStart, namesAt, nameWidth, nameRoom, namesLength}
+use Rattle.memory.specs.Layout.{slotStart, namesAt, nameRoom, namesLength}
 use Rattle.memory.specs.Encoding.{stateOf}
 use Rattle.memory.specs.Sound.{Held}
 use Rattle.memory.specs.Calls.{stored, Did}
@@ -29,7 +30,7 @@ use Rattle.memory.proofs.Puts.{names-stand, names-put}
 use Rattle.slots.specs.Slots.{peerAt, Seated, namePlace}
 use Rattle.slots.proofs.Cells.{owns-first}
 use Rattle.owners.specs.Steps.{givenUp}
-use Rattle.slots.proofs.Found.{Octets, below, did-stay, peer-none, peer-place, peer-some, peer-seated, counted}
+use Rattle.slots.proofs.Found.{did-stay, peer-none, peer-place, peer-some, peer-seated, counted}
 
 -- ---- 35, and the name taken out: j is its place, n how many names there are
 
@@ -66,8 +67,8 @@ module _ (m : List ℕ) (f : Octets m) (i : ℕ) (g : Seated m i) (name : List �
         let few : n ≤ nameRoom = omega (arith, counted m i g .fewNames) in
         let o : released name ns ≡ without j ns = released-without name ns ∙ ap (λ (k : ℕ). without k ns) (sym place) in
         let z = remove-written nameWidth nameRoom cellOf cell-length ns j m t (slotStart i + namesAt) n
-        (names-stand m (below m f) (g .held) i (g .below) (g .some)) (sym many) few h et
-        ∙ sym (names-put m (below m f) (g .held) i (g .below) (g .some) (without j ns)) in
+        (names-stand m (octets-below m f) (g .held) i (g .below) (g .some)) (sym many) few h et
+        ∙ sym (names-put m (octets-below m f) (g .held) i (g .below) (g .some) (without j ns)) in
         rw (owned, lt-ltb j n h, o) (record { result = refl; memory = z })
 
 pub ruleset giving = (give-none, give-table, give-done, needs)

@@ -3,7 +3,8 @@ use mathlib.Core.Path.{_≡_}
 use mathlib.Core.List.{List, _∷_}
 use Prim.Native.Nat.{ℕ, _+_, _≤_}
 use lib.ListN.{length}
-use Rattle.memory.specs.Layout.{memoryLength, nameLimit, nameWidth}
+use Rattle.memory.specs.Layout.{memoryLength}
+use Rattle.policy.specs.Names.{nameLimit, nameWidth}
 
 -- a name behind its length
 unfoldable pub nameBytes : List ℕ → List ℕ

@@ -8,7 +8,7 @@ use lib.Seq.{drop-at, drop-drop, take-take, length-take-le}
 use borrow.Author.Needs.{needs}
 use Rattle.wire.specs.Words.{wordAt}
 use Rattle.wire.specs.declared.Order.the-variants.{Little}
-use Rattle.wire.proofs.Words.{cut-at, put-at}
+use Rattle.wire.proofs.Words.{Octets, octets-below, cut-at, put-at}
 use Rattle.tables.specs.Tables.{tableBytes, tableOf}
 use Rattle.wire.proofs.Parts.{drop-take, drop-past, part-nested, cut-two}
 use Rattle.tables.proofs.Table.{table-take}
@@ -23,7 +23,6 @@ use Rattle.memory.proofs.Frame.{slot-length, memory-at}
 use Rattle.memory.proofs.CallsRemoved.{calls-removed-free, calls-removed-peer, pending-of}
 use Rattle.memory.proofs.Sweep.{Sweeping, sweeping-begins, sweeping-again, sweeping-ends}
 use Rattle.peers.specs.Steps.{PlainSlot, Encoded, endedAt, endedFor}
-use Rattle.slots.proofs.Found.{Octets, below}
 
 -- ---- in slot i
 
@@ -106,7 +105,7 @@ pub record RemovalInvariant (m₀ m : List ℕ) (c i : ℕ) : Type 0 where
 pub removal-begins : (m : List ℕ) (c : ℕ) → Octets m → Encoded m → RemovalInvariant m m c 0
 removal-begins m c f g =
     record {
-      sweeping = sweeping-begins (removeCallsTo c) m (below m f) (g .sized);
+      sweeping = sweeping-begins (removeCallsTo c) m (octets-below m f) (g .sized);
       whole = g .is;
       rest = refl;
     }

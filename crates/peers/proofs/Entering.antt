@@ -7,6 +7,7 @@ use native.Mathlib.Omega.{arith}
 use lib.ListN.{length, take, drop, replicate}
 use borrow.Author.Needs.{needs}
 use borrow.Author.Tests.{lt-ltb, le-ltb, not-true, not-false}
+use Rattle.wire.proofs.Words.{Octets, octets-below}
 use Rattle.wire.specs.Words.{wordBytes}
 use Rattle.tables.specs.Tables.{cells}
 use Rattle.policy.specs.Decisions.{mayConnect}
@@ -27,7 +28,7 @@ use Rattle.rules.specs.declared.Connected.{Connected}
 use Rattle.peers.specs.Writes.{newBytes}
 use Rattle.peers.specs.Steps.{Free, admitted, entered}
 use Rattle.slots.proofs.Zeros.{zero-rest}
-use Rattle.slots.proofs.Found.{Octets, below, did-stay, free-part}
+use Rattle.slots.proofs.Found.{did-stay, free-part}
 
 -- a newcomer's bytes are what was written, and the zeros of the slot
 seat-bytes : (m gids : List ℕ) (a n u : ℕ) → length gids ≤ gidRoom → take slotLength (drop a m) ≡ replicate slotLength 0
@@ -62,7 +63,7 @@ admit-seated m f i n uid gids m₁ m₂ g e₁ e₂ =
     let x = peer (newcomer tails n uid gids) in
     let q : m₁ ≡ take a m ++ (slotBytes x ++ drop (a + slotLength) m)
     = e₁ ∙ ap (λ (y : List ℕ). take a m ++ y) (seat-bytes m gids a n uid (g .few) (g .zeros ∙ free-bytes)) in
-    e₂ ∙ ap (λ (y : List ℕ). wordBytes n ++ drop slotsAt y) q ∙ sym (seated m (below m f) (g .held .held) n i x (g .below))
+    e₂ ∙ ap (λ (y : List ℕ). wordBytes n ++ drop slotsAt y) q ∙ sym (seated m (octets-below m f) (g .held .held) n i x (g .below))
 
 pub ruleset admitting = (admit-seated, needs)
 

@@ -1,14 +1,14 @@
 -- Each way through disconnect.
 use mathlib.Core.Path.{_≡_, refl, sym, ap, _∙_}
 use mathlib.Core.List.{List, _++_}
-use Prim.Native.Nat.{ℕ, _+_, _-_, _*_, _<_}
+use Prim.Native.Nat.{ℕ, _+_, _-_, _<_}
 use native.Mathlib.Omega.{arith}
 use lib.ListN.{length, take, drop, replicate, length-drop}
 use lib.Seq.{length-take-le}
 use borrow.Author.Needs.{needs}
 use Rattle.wire.specs.Words.{wordAt}
 use Rattle.wire.specs.declared.Order.the-variants.{Little}
-use Rattle.wire.proofs.Words.{cut-at, put-at}
+use Rattle.wire.proofs.Words.{Octets, octets-below, cut-at, put-at}
 use Rattle.stream.specs.Tail.{tails}
 use Rattle.rules.specs.State.{free, putSlot, isPeer}
 use Rattle.rules.specs.Pending.{removeCallsTo}
@@ -25,7 +25,7 @@ use Rattle.memory.proofs.Slots.{free-back}
 use Rattle.memory.proofs.Good.{framed}
 use Rattle.memory.proofs.Sweep.{put-again, put-length, swept-freed}
 use Rattle.peers.specs.Steps.{Encoded, endedFor, slotsWithout}
-use Rattle.slots.proofs.Found.{Octets, below, did-stay, peer-none, found-below, peer-place, peer-some}
+use Rattle.slots.proofs.Found.{did-stay, peer-none, found-below, peer-place, peer-some}
 
 -- ---- a slot wiped
 
@@ -50,7 +50,7 @@ module _ (m : List ℕ) (g : Held m) (i : ℕ) (h : i < 16) (z : List ℕ)
       let q : Encoded u
       = record {
         sized = put-length m (slotBytes free) i h (g .sized) (slot-length free);
-        is = ap memoryOf s ∙ framed m (below m f) (g .held) i free h;
+        is = ap memoryOf s ∙ framed m (octets-below m f) (g .held) i free h;
       } in
       rw wiped q
 

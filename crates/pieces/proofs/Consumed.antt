@@ -2,16 +2,14 @@
 use mathlib.Core.Path.{_≡_, refl, sym, ap, ap₂, subst, _∙_}
 use mathlib.Core.Bool.{true, false}
 use mathlib.Core.List.{List, _++_, append-assoc}
-use Prim.Native.Nat.{ℕ, _+_, _-_, _*_, _≤_, _<_}
+use Prim.Native.Nat.{ℕ, _+_, _-_, _≤_, _<_}
 use native.Mathlib.Omega.{arith}
 use lib.ListN.{length, take, drop, getD, replicate, length-append, length-drop, length-replicate}
 use lib.Seq.{take-at, drop-at, drop-drop, take-append-le, length-take-le}
-use mir.Syntax.{w8}
-use mir.Val.{Fits}
 use Rattle.wire.specs.Bytes.{pad}
 use Rattle.wire.specs.Words.{wordBytes}
 use Rattle.wire.proofs.Texts.{impossible, pad-length}
-use Rattle.wire.proofs.Words.{word-length}
+use Rattle.wire.proofs.Words.{Octets, word-length}
 use Rattle.header.specs.Header.{readHeader}
 use Rattle.header.specs.declared.Header.{Header}
 use Rattle.header.specs.declared.Reading.the-variants.{Whole}
@@ -97,7 +95,7 @@ abbrev peerOr : Peer Tail → Slot Tail → Peer Tail
 peerOr d free = d
 peerOr d (peer p) = p
 
-module _ (m : List ℕ) (f : (j : ℕ) → Fits w8 (getD m j 0)) (i : ℕ) (s : Seated m i) where
+module _ (m : List ℕ) (f : Octets m) (i : ℕ) (s : Seated m i) where
   -- the state in which the message is consumed
   abbrev pub consumed : State Tail
   consumed = putSlot (stateOf m) i (peer (withStream (peerAt m i) fresh))

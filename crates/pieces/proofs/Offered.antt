@@ -4,10 +4,9 @@ use mathlib.Core.Bool.{Bool, true, false}
 use mathlib.Core.List.{List}
 use Prim.Native.Nat.{ℕ, _-_, _<_}
 use native.Mathlib.Omega.{arith}
-use lib.ListN.{take, getD, List·getD-eq-default}
-use mir.Syntax.{w8}
-use mir.Val.{Fits}
+use lib.ListN.{take, List·getD-eq-default}
 use borrow.Author.Needs.{needs}
+use Rattle.wire.proofs.Words.{Octets}
 use Rattle.wire.specs.Bytes.{pad}
 use Rattle.header.specs.declared.Header.{Header}
 use Rattle.image.specs.Contracts.{GoodImage}
@@ -79,7 +78,7 @@ module _ (image : List ℕ) (s : State Tail) (i : ℕ) (p : Peer Tail) (o : Offe
       ≡ record { state = judged image z i q h x .state; result = record { judgement = judged image z i q h x .judgement; taken = o .taken } }
   whole-step h x e z q a b = rw (e, a, b)
 
-module _ (image m bytes after : List ℕ) (f : (j : ℕ) → Fits w8 (getD m j 0)) (i : ℕ) (s : Seated m i) (r : Advance)
+module _ (image m bytes after : List ℕ) (f : Octets m) (i : ℕ) (s : Seated m i) (r : Advance)
     (d : FedAt m i (offer tails (peerAt m i .stream) bytes) r after) where
   verdict-is : (e : Event) → r .event ≡ e
       → verdictOf (pad headRoom (offer tails (peerAt m i .stream) bytes .stream .head)) e ≡ offer tails (peerAt m i .stream) bytes .verdict
@@ -132,7 +131,7 @@ module _ (m : List ℕ) (g : Held m) (n i : ℕ) (d : FoundSlot (isPeer n) m 0 i
   slot-is : slotAt (stateOf m) i ≡ peer (peerAt m i)
   slot-is = slot-peer m i inside (found-some n m 0 i d inside)
 
-module _ (image m bytes : List ℕ) (f : (j : ℕ) → Fits w8 (getD m j 0)) (g : Held m) (n i : ℕ) (d : FoundSlot (isPeer n) m 0 i) (r : Taken) where
+module _ (image m bytes : List ℕ) (f : Octets m) (g : Held m) (n i : ℕ) (d : FoundSlot (isPeer n) m 0 i) (r : Taken) where
   first-is : firstBy (isPeer n) (stateOf m .slots) ≡ i
   first-is = found-first (isPeer n) m i d
 

@@ -1,14 +1,13 @@
 -- A message that is whole in its piece is judged where it stands: its stream is between two messages before and after.
 use mathlib.Core.Path.{_≡_, refl, sym, ap, _∙_}
-use mathlib.Core.Bool.{true, false}
+use mathlib.Core.Bool.{false}
 use mathlib.Core.List.{List}
-use Prim.Native.Nat.{ℕ, _+_, _-_, _≤_, _<_}
+use Prim.Native.Nat.{ℕ, _+_, _-_, _≤_}
 use native.Mathlib.Omega.{arith}
-use lib.ListN.{length, take, getD}
+use lib.ListN.{length, take}
 use lib.Seq.{length-take-le, set-getD}
-use mir.Syntax.{w8}
-use mir.Val.{Fits}
 use borrow.Author.Needs.{needs}
+use Rattle.wire.proofs.Words.{Octets}
 use Rattle.wire.specs.Words.{wordAt}
 use Rattle.wire.specs.declared.Order.the-variants.{Little}
 use Rattle.header.specs.Header.{readHeader}
@@ -17,11 +16,10 @@ use Rattle.header.specs.declared.Reading.{Reading}
 use Rattle.header.specs.declared.Reading.the-variants.{Whole}
 use Rattle.header.proofs.Readings.{read-front, whole-fits}
 use Rattle.image.specs.Contracts.{GoodImage}
-use Rattle.stream.specs.Stream.{whole, Offer, offer}
-use Rattle.stream.specs.Tail.{Tail, tails, closed, fresh, goodTail}
+use Rattle.stream.specs.Stream.{Offer, offer}
+use Rattle.stream.specs.Tail.{Tail, tails, closed, fresh}
 use Rattle.stream.proofs.Once.{offer-once, none-taken}
 use Rattle.rules.specs.State.{Slot, free, peer, isPeer, putSlot, withStream}
-use Rattle.rules.specs.Judge.{judged}
 use Rattle.rules.specs.Calls.{offeredTo, piece}
 use Rattle.rules.specs.declared.Judgement.{Judgement}
 use Rattle.rules.specs.declared.Taken.{Taken}
@@ -39,7 +37,7 @@ use Rattle.pieces.proofs.Offered.{whole-step, piece-seat, piece-offered
 pub once-small : (bytes : List ℕ) (x : Header) {q : Reading} → q ≡ readHeader bytes → q ≡ Whole x → x .head ≤ headRoom
 once-small bytes x a b = whole-fits bytes x (sym a ∙ b) .head-small
 
-module _ (image m bytes : List ℕ) (f : (j : ℕ) → Fits w8 (getD m j 0)) (i : ℕ) (s : Seated m i) (n : peerAt m i .stream .taken ≡ 0) where
+module _ (image m bytes : List ℕ) (f : Octets m) (i : ℕ) (s : Seated m i) (n : peerAt m i .stream .taken ≡ 0) where
   stream-is : peerAt m i .stream ≡ fresh
   stream-is = none-taken (peerAt m i .stream) (fine m f i s .tail) n
 
@@ -92,7 +90,7 @@ pub ruleset once = (once-small, once-open, once-ready, once-judged, needs)
 pub none-stands : (m : List ℕ) (i : ℕ) {w : ℕ} → w ≡ wordAt Little m (slotStart i + takenAt) → w ≡ 0 → peerAt m i .stream .taken ≡ 0
 none-stands m i e z = sym e ∙ z
 
-pub piece-once : (image m bytes : List ℕ) → ((j : ℕ) → Fits w8 (getD m j 0)) → Held m → (n i : ℕ) → FoundSlot (isPeer n) m 0 i → (i ≡ 16 → ⊥)
+pub piece-once : (image m bytes : List ℕ) → Octets m → Held m → (n i : ℕ) → FoundSlot (isPeer n) m 0 i → (i ≡ 16 → ⊥)
     → {w : ℕ} → w ≡ wordAt Little m (slotStart i + takenAt) → w ≡ 0 → (r : Taken) (after : List ℕ)
     → Did (stored (offeredTo tails image (stateOf m) i (peerAt m i) (offer tails (peerAt m i .stream) bytes))) r after
     → Did (stored (piece tails image (stateOf m) n bytes)) r after

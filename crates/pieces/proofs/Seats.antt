@@ -2,17 +2,15 @@
 use mathlib.Core.Path.{_≡_, refl, sym, ap, subst, _∙_}
 use mathlib.Core.Bool.{Bool, false}
 use mathlib.Core.List.{List, _++_, append-assoc}
-use Prim.Native.Nat.{ℕ, _+_, _-_, _*_, _≤_, _<_, min}
+use Prim.Native.Nat.{ℕ, _+_, _-_, _≤_, min, _<_}
 use native.Mathlib.Omega.{arith}
 use lib.ListN.{length, take, drop, getD, replicate, length-drop, replicate-append-replicate}
 use lib.Seq.{drop-drop, take-take, length-take-le}
-use mir.Syntax.{w8}
-use mir.Val.{Fits}
 use borrow.Author.Needs.{needs}
 use Rattle.wire.specs.Bytes.{pad}
 use Rattle.wire.specs.Words.{wordAt, wordBytes}
 use Rattle.wire.specs.declared.Order.the-variants.{Little}
-use Rattle.wire.proofs.Words.{cut-at, put-at}
+use Rattle.wire.proofs.Words.{Octets, cut-at, put-at}
 use Rattle.wire.proofs.Parts.{drop-take, zeros-front}
 use Rattle.tables.proofs.Words.{word-part}
 use Rattle.stream.specs.Stream.{offer}
@@ -37,7 +35,7 @@ fresh-bytes : streamBytes fresh ≡ replicate streamLength 0
 unfolding wordBytes headBytes pad
 fresh-bytes = refl
 
-module _ (m : List ℕ) (f : (j : ℕ) → Fits w8 (getD m j 0)) (i : ℕ) (s : Seated m i) where
+module _ (m : List ℕ) (f : Octets m) (i : ℕ) (s : Seated m i) where
   pub sound : Sound (stateOf m)
   sound = good-sound m (λ j. f j .fits) (s .held .held)
 

@@ -8,7 +8,7 @@ use lib.ListN.{length, take, drop, getD}
 use Rattle.wire.specs.Bytes.{same, pad}
 use Rattle.wire.proofs.From.{first, skip}
 use Rattle.wire.proofs.Words.{cut-at}
-use Rattle.policy.specs.Names.{nameOf, cellNames, namesIn, cellOf, busName, owns}
+use Rattle.policy.specs.Names.{nameWidth, nameOf, cellNames, namesIn, cellOf, busName, owns}
 
 -- the part that the code cuts out of a cell at `at` is the cell's name
 pub cell-name : (s : List ℕ) (at n : ℕ) → n ≡ getD s at 0 → take (at + 1 + n - (at + 1)) (drop (at + 1) s) ≡ nameOf (drop at s)
@@ -16,33 +16,33 @@ cell-name s at n g = cut-at (at + 1) n s ∙ rw (g, first s at, skip s at 1 (at 
 
 -- the name is one of those if it is one of those from cell j on
 pub record Among (names name : List ℕ) (j : ℕ) : Type 0 where
-  pub left : owns (namesIn names) name ≡ owns (cellNames (length names / 256 - j) (drop (256 * j) names)) name
+  pub left : owns (namesIn names) name ≡ owns (cellNames (length names / nameWidth - j) (drop (nameWidth * j) names)) name
 
 pub among-begins : {names name : List ℕ} → Among names name 0
 unfolding namesIn
-among-begins {names} = let e : length names / 256 - 0 ≡ length names / 256 = omega arith in record { left = rw e }
+among-begins {names} = let e : length names / nameWidth - 0 ≡ length names / nameWidth = omega arith in record { left = rw e }
 
 module _ {names name : List ℕ} {j : ℕ} (v : Among names name j) where
   -- cell j, and those behind it
-  split : j < length names / 256
+  split : j < length names / nameWidth
       → owns (namesIn names) name
-      ≡ owns (nameOf (drop (256 * j) names) ∷ cellNames (length names / 256 - (j + 1)) (drop (256 * (j + 1)) names)) name
+      ≡ owns (nameOf (drop (nameWidth * j) names) ∷ cellNames (length names / nameWidth - (j + 1)) (drop (nameWidth * (j + 1)) names)) name
   unfolding cellNames
   split h =
-      let e : length names / 256 - j ≡ suc (length names / 256 - (j + 1)) = omega arith in
-      v .left ∙ rw (e, skip names (256 * j) 256 (256 * (j + 1)) (omega arith))
+      let e : length names / nameWidth - j ≡ suc (length names / nameWidth - (j + 1)) = omega arith in
+      v .left ∙ rw (e, skip names (nameWidth * j) nameWidth (nameWidth * (j + 1)) (omega arith))
 
-  pub among-here : j < length names / 256 → {r : Bool} → r ≡ same (nameOf (drop (256 * j) names)) name → r ≡ true → owns (namesIn names) name ≡ true
+  pub among-here : j < length names / nameWidth → {r : Bool} → r ≡ same (nameOf (drop (nameWidth * j) names)) name → r ≡ true → owns (namesIn names) name ≡ true
   unfolding owns
   among-here h e t = split h ∙ rw (← e, t)
 
-  pub among-more : j < length names / 256 → {r : Bool} → r ≡ same (nameOf (drop (256 * j) names)) name → r ≡ false → Among names name (j + 1)
+  pub among-more : j < length names / nameWidth → {r : Bool} → r ≡ same (nameOf (drop (nameWidth * j) names)) name → r ≡ false → Among names name (j + 1)
   unfolding owns
   among-more h e t = record { left = split h ∙ rw (← e, t) }
 
-  pub among-ends : length names / 256 ≤ j → owns (namesIn names) name ≡ false
+  pub among-ends : length names / nameWidth ≤ j → owns (namesIn names) name ≡ false
   unfolding owns cellNames
-  among-ends h = let e : length names / 256 - j ≡ 0 = omega arith in v .left ∙ rw e
+  among-ends h = let e : length names / nameWidth - j ≡ 0 = omega arith in v .left ∙ rw e
 
 -- the bus owns just its own name
 pub bus-names : namesIn (cellOf busName) ≡ busName ∷ []

@@ -12,7 +12,7 @@ use lib.Dec.{eqb}
 use borrow.Author.Tests.{leb-true, leb-false, ltb-true, ltb-false, eqb-true, eqb-false}
 use Rattle.image.specs.Image.{ruleCount}
 use Rattle.image.specs.declared.Section.{Section}
-use Rattle.policy.specs.Precedence.{givesWay, takeOver, heard, deciding, Beats, Decides, NoneMatches}
+use Rattle.policy.specs.Precedence.{givesWay, heard, deciding, Beats, Decides, NoneMatches}
 use Rattle.policy.specs.Decisions.{contextIn, decidesIn}
 
 -- what holds of each number below n, and of n, holds of each below n + 1

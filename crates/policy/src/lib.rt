@@ -8,6 +8,9 @@ pub struct Uid(pub u32);
 
 pub struct Gid(pub u32);
 
+// A cell holds a name behind its length byte.
+pub const NAME_WIDTH: usize = 1 + names::NAME_LIMIT;
+
 // The directions of transaction rules: which party's policy is asked.
 pub const SEND: u8 = 0;
 
@@ -46,11 +49,11 @@ pub fn is_bus(name: &[u8]) -> bool
 }
 
 // The one cell of the bus, which owns just its own name.
-pub fn bus_cell() -> [u8; 256]
+pub fn bus_cell() -> [u8; NAME_WIDTH]
     ensures { λ r. ⌜ r ≡ cellOf busName ⌝ }
 {
     let bus = BUS_NAME;
-    let mut cell = [0u8; 256];
+    let mut cell = [0u8; NAME_WIDTH];
     cell[0] = 20;
     wire::copy(&mut cell[1..21], &bus);
     cell

@@ -15,7 +15,8 @@ use Rattle.names.specs.Names.{validName}
 use Rattle.names.specs.declared.Form.{Form}
 use Rattle.signature.specs.Signature.{validSignature}
 use Rattle.header.specs.declared.Place.{Place}
-use Rattle.header.specs.Codes.{name, anyValue, ruleOf}
+use Rattle.header.specs.Codes.{name, anyValue, call, return, error, signal, codeLimit, pathCode, interfaceCode, memberCode, errorNameCode}
+use Rattle.header.specs.Codes.{replySerialCode, destinationCode, senderCode, signatureCode, descriptorsCode, ruleOf}
 use Rattle.header.specs.Fields.{Fields, placeOf, present}
 use Rattle.header.specs.Values.{numberIn, obeys, goodValue, goodField, goodValues}
 use Rattle.header.specs.Required.{hasRequired}
@@ -38,20 +39,29 @@ module _ (o : Order) (code : ℕ) (t : List ℕ) where
   unfolding goodValue
   a-name k e f g i = i ∙ rw (e, g)
 
-  pub a-serial : code ≡ 5 → {n : ℕ} → n ≡ numberIn o t → not (eqb n 0) ≡ goodValue o code t
+  pub a-serial : code ≡ replySerialCode → {n : ℕ} → n ≡ numberIn o t → not (eqb n 0) ≡ goodValue o code t
   unfolding goodValue
   a-serial e f = rw (e, f)
 
-  pub a-signature : code ≡ 8 → {r : Bool} → r ≡ validSignature t → r ≡ goodValue o code t
+  pub a-signature : code ≡ signatureCode → {r : Bool} → r ≡ validSignature t → r ≡ goodValue o code t
   unfolding goodValue
   a-signature e i = i ∙ rw e
 
-  pub anything : (code ≡ 1 → ⊥) → (code ≡ 2 → ⊥) → (code ≡ 3 → ⊥) → (code ≡ 4 → ⊥) → (code ≡ 5 → ⊥) → (code ≡ 6 → ⊥) → (code ≡ 7 → ⊥) → (code ≡ 8 → ⊥)
-      → true ≡ goodValue o code t
+  pub anything : (code ≡ pathCode → ⊥) → (code ≡ interfaceCode → ⊥) → (code ≡ memberCode → ⊥) → (code ≡ errorNameCode → ⊥)
+      → (code ≡ replySerialCode → ⊥) → (code ≡ destinationCode → ⊥) → (code ≡ senderCode → ⊥) → (code ≡ signatureCode → ⊥) → true ≡ goodValue o code t
   unfolding goodValue
   anything a b c d e f g h =
-      rw (ne-eqb code 1 a, ne-eqb code 2 b, ne-eqb code 3 c, ne-eqb code 4 d, ne-eqb code 5 e, ne-eqb code 6 f, ne-eqb code 7 g, ne-eqb code 8 h)
-      (go (eqb code 9))
+      rw (
+        ne-eqb code pathCode a,
+        ne-eqb code interfaceCode b,
+        ne-eqb code memberCode c,
+        ne-eqb code errorNameCode d,
+        ne-eqb code replySerialCode e,
+        ne-eqb code destinationCode f,
+        ne-eqb code senderCode g,
+        ne-eqb code signatureCode h,
+      )
+      (go (eqb code descriptorsCode))
     where
       go : (x : Bool) → true ≡ obeys o (cond x anyValue anyValue) t
       go true = refl
@@ -73,7 +83,7 @@ pub ruleset field = (not-there, there, needs)
 -- ---- all values
 
 abbrev pub Checking : Order → List ℕ → Fields → ℕ → Type 0
-Checking o h fs code = Testing (λ n. goodField o h (placeOf fs n) n) 10 code
+Checking o h fs code = Testing (λ n. goodField o h (placeOf fs n) n) codeLimit code
 
 pub place-fits : {h : List ℕ} {fs : Fields} (code : ℕ) → ValuesFit h fs → placeOf fs (code - 1) .at + placeOf fs (code - 1) .len ≤ length h
 place-fits code f = f .inside (code - 1)
@@ -92,25 +102,25 @@ pub ruleset checking = (begin, more, place-fits, checking-stops, checking-ends, 
 -- ---- required fields
 
 module _ (kind : ℕ) (fs : Fields) where
-  pub for-call : kind ≡ 1 → {a b : Bool} → a ≡ present (placeOf fs 1) → b ≡ present (placeOf fs 3) → a && b ≡ hasRequired kind fs
+  pub for-call : kind ≡ call → {a b : Bool} → a ≡ present (placeOf fs pathCode) → b ≡ present (placeOf fs memberCode) → a && b ≡ hasRequired kind fs
   unfolding hasRequired
-  for-call e p q = rw (e, p, q, and-true (present (placeOf fs 3)))
+  for-call e p q = rw (e, p, q, and-true (present (placeOf fs memberCode)))
 
-  pub for-return : kind ≡ 2 → {a : Bool} → a ≡ present (placeOf fs 5) → a ≡ hasRequired kind fs
+  pub for-return : kind ≡ return → {a : Bool} → a ≡ present (placeOf fs replySerialCode) → a ≡ hasRequired kind fs
   unfolding hasRequired
-  for-return e p = rw (e, p, and-true (present (placeOf fs 5)))
+  for-return e p = rw (e, p, and-true (present (placeOf fs replySerialCode)))
 
-  pub for-error : kind ≡ 3 → {a b : Bool} → a ≡ present (placeOf fs 4) → b ≡ present (placeOf fs 5) → a && b ≡ hasRequired kind fs
+  pub for-error : kind ≡ error → {a b : Bool} → a ≡ present (placeOf fs errorNameCode) → b ≡ present (placeOf fs replySerialCode) → a && b ≡ hasRequired kind fs
   unfolding hasRequired
-  for-error e p q = rw (e, p, q, and-true (present (placeOf fs 5)))
+  for-error e p q = rw (e, p, q, and-true (present (placeOf fs replySerialCode)))
 
-  pub for-signal : kind ≡ 4 → {a b c : Bool} → a ≡ present (placeOf fs 1) → b ≡ present (placeOf fs 2) → c ≡ present (placeOf fs 3)
-      → a && b && c ≡ hasRequired kind fs
+  pub for-signal : kind ≡ signal → {a b c : Bool} → a ≡ present (placeOf fs pathCode) → b ≡ present (placeOf fs interfaceCode)
+      → c ≡ present (placeOf fs memberCode) → a && b && c ≡ hasRequired kind fs
   unfolding hasRequired
-  for-signal e p q r = rw (e, p, q, r, and-true (present (placeOf fs 3)), and-assoc)
+  for-signal e p q r = rw (e, p, q, r, and-true (present (placeOf fs memberCode)), and-assoc)
 
-  pub for-other : (kind ≡ 1 → ⊥) → (kind ≡ 2 → ⊥) → (kind ≡ 3 → ⊥) → (kind ≡ 4 → ⊥) → true ≡ hasRequired kind fs
+  pub for-other : (kind ≡ call → ⊥) → (kind ≡ return → ⊥) → (kind ≡ error → ⊥) → (kind ≡ signal → ⊥) → true ≡ hasRequired kind fs
   unfolding hasRequired
-  for-other a b c d = rw (ne-eqb kind 1 a, ne-eqb kind 2 b, ne-eqb kind 3 c, ne-eqb kind 4 d)
+  for-other a b c d = rw (ne-eqb kind call a, ne-eqb kind return b, ne-eqb kind error c, ne-eqb kind signal d)
 
 pub ruleset required = (for-call, for-return, for-error, for-signal, for-other, needs)

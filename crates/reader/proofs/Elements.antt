@@ -14,7 +14,7 @@ use Rattle.wire.specs.declared.Order.{Order}
 use Rattle.header.specs.declared.Element.{Element}
 use Rattle.header.specs.declared.Element.the-variants.{At, Bad}
 use Rattle.wire.proofs.Below.{below-at}
-use Rattle.header.specs.Codes.{letterOf}
+use Rattle.header.specs.Codes.{codeLimit, letterOf}
 use Rattle.header.specs.Fixed.{orderOf}
 use Rattle.header.specs.Fields.{textIn, valueAt, framed, elementAt}
 use Rattle.header.proofs.Walk.{no-letter}
@@ -24,9 +24,9 @@ use Rattle.reader.specs.Contracts.{elementIn}
 abbrev letters : List ℕ
 letters = 0 ∷ byte "o" ∷ byte "s" ∷ byte "s" ∷ byte "s" ∷ byte "u" ∷ byte "s" ∷ byte "s" ∷ byte "g" ∷ byte "u" ∷ []
 
-pub a-letter : (code : ℕ) → code ≤ 9 → getD letters code 0 ≡ letterOf code
+pub a-letter : (code : ℕ) → code < codeLimit → getD letters code 0 ≡ letterOf code
 unfolding letterOf
-a-letter code h = eqb-true (getD letters code 0) (letterOf code) (below-at (λ i. eqb (getD letters i 0) (letterOf i)) 10 refl code (omega arith))
+a-letter code h = eqb-true (getD letters code 0) (letterOf code) (below-at (λ i. eqb (getD letters i 0) (letterOf i)) codeLimit refl code h)
 
 -- a test of no matter
 idle : (b : Bool) → Bad ≡ cond b Bad Bad

@@ -11,41 +11,43 @@ use borrow.Author.Needs.{needs}
 use Rattle.wire.specs.declared.Order.{Order}
 use Rattle.header.specs.declared.Element.{Element}
 use Rattle.header.specs.declared.Element.the-variants.{At, Bad}
-use Rattle.header.specs.Fields.{Fields, placeOf, noFields, elementAt, walk}
+use Rattle.header.specs.Codes.{codeLimit}
+use Rattle.header.specs.Fields.{Fields, placeOf, noFields, elementAt, walk, fieldsIn}
 use Rattle.header.proofs.Walk.{Stands, element-stands, walk-end, walk-bad, walk-again, walk-more}
 use Rattle.reader.specs.Contracts.{Inside}
+use Rattle.header.specs.Fixed.{fixedLength}
 
 pub record Walking (o : Order) (h : List ℕ) (end : ℕ) (fs : Fields) (from : ℕ) : Type 0 where
   pub fuel : ℕ
   pub enough : end - from < fuel
   pub inside : Inside h end from
-  pub sized : length fs ≡ 10
-  pub left : walk (end - 16 + 1) o h end 16 noFields ≡ walk fuel o h end from fs
+  pub sized : length fs ≡ codeLimit
+  pub left : fieldsIn o h end ≡ walk fuel o h end from fs
 
-pub walking-begins : {o : Order} {h : List ℕ} {end : ℕ} → Inside h end 16 → Walking o h end noFields 16
-walking-begins {o} {h} {end} i = record { fuel = end - 16 + 1; enough = omega arith; inside = i; sized = refl; left = refl }
+pub walking-begins : {o : Order} {h : List ℕ} {end : ℕ} → Inside h end fixedLength → Walking o h end noFields fixedLength
+walking-begins {o} {h} {end} i = record { fuel = end - fixedLength + 1; enough = omega arith; inside = i; sized = refl; left = refl }
 
 module _ {o : Order} {h : List ℕ} {end : ℕ} {fs : Fields} {from : ℕ} (w : Walking o h end fs from) where
   -- whatever the fuel, a step of the walk says what the whole finds
-  by-step : {x : Option Fields} → ((fuel : ℕ) → walk (suc fuel) o h end from fs ≡ x) → x ≡ walk (end - 16 + 1) o h end 16 noFields
+  by-step : {x : Option Fields} → ((fuel : ℕ) → walk (suc fuel) o h end from fs ≡ x) → x ≡ fieldsIn o h end
   by-step {x} step = go (w .fuel) (w .enough) (w .left)
     where
-      go : (fuel : ℕ) → end - from < fuel → walk (end - 16 + 1) o h end 16 noFields ≡ walk fuel o h end from fs → x ≡ walk (end - 16 + 1) o h end 16 noFields
+      go : (fuel : ℕ) → end - from < fuel → fieldsIn o h end ≡ walk fuel o h end from fs → x ≡ fieldsIn o h end
       go zero l k = absurd (omega arith)
       go (suc fuel) l k = sym (k ∙ step fuel)
 
-  pub walking-ends : from ≡ end → some fs ≡ walk (end - 16 + 1) o h end 16 noFields
+  pub walking-ends : from ≡ end → some fs ≡ fieldsIn o h end
   walking-ends e = by-step (λ fuel. walk-end fuel o h end from fs e)
 
   module _ (n : from ≡ end → ⊥) {r : Element} (p : r ≡ elementAt o h end from) where
-    pub walking-bad : r ≡ Bad → none ≡ walk (end - 16 + 1) o h end 16 noFields
+    pub walking-bad : r ≡ Bad → none ≡ fieldsIn o h end
     walking-bad q = by-step (λ fuel. walk-bad fuel o h end from fs n (sym p ∙ q))
 
     module _ {c a l s : ℕ} (q : r ≡ At c a l s) where
       pub stands : Stands end from c a l s
       stands = element-stands o h end from (sym p ∙ q)
 
-      pub code-inside : c < 10
+      pub code-inside : c < codeLimit
       code-inside = stands .known
 
       pub code-scaled : mir.Val.Fits w64 (c * 16)
@@ -54,13 +56,13 @@ module _ {o : Order} {h : List ℕ} {end : ℕ} {fs : Fields} {from : ℕ} (w : 
       pub walking-falls : end - s < end - from
       walking-falls = omega (arith, stands)
 
-      pub walking-again : (placeOf fs c .at ≡ 0 → ⊥) → none ≡ walk (end - 16 + 1) o h end 16 noFields
+      pub walking-again : (placeOf fs c .at ≡ 0 → ⊥) → none ≡ fieldsIn o h end
       walking-again z = by-step (λ fuel. walk-again fuel o h end from fs n (sym p ∙ q) z)
 
       pub walking-more : placeOf fs c .at ≡ 0 → Walking o h end (set fs c (record { at = a; len = l })) s
       walking-more z = go (w .fuel) (w .enough) (w .left)
         where
-          go : (fuel : ℕ) → end - from < fuel → walk (end - 16 + 1) o h end 16 noFields ≡ walk fuel o h end from fs
+          go : (fuel : ℕ) → end - from < fuel → fieldsIn o h end ≡ walk fuel o h end from fs
               → Walking o h end (set fs c (record { at = a; len = l })) s
           go zero m k = absurd (omega arith)
           go (suc fuel) m k =

@@ -5,7 +5,7 @@ use mathlib.Core.List.{List}
 use Prim.Native.Nat.{ℕ, _+_, _-_, _≤_, _<_}
 use native.Mathlib.Omega.{arith}
 use native.Mathlib.Nat.{add-sub-cancel-left, sub-zero}
-use lib.ListN.{length, take, drop, getD}
+use lib.ListN.{length, take, drop}
 use borrow.Author.Needs.{needs}
 use borrow.Author.Tests.{not-true, not-false}
 use Rattle.wire.specs.Bytes.{allZero}
@@ -14,49 +14,54 @@ use Rattle.wire.specs.declared.Order.{Order}
 use Rattle.wire.proofs.Words.{rest-at}
 use Rattle.reader.specs.declared.Found.{Found}
 use Rattle.header.specs.declared.Header.{Header}
+use Rattle.header.specs.declared.Place.{Place}
 use Rattle.header.specs.declared.Fixed.{Fixed}
 use Rattle.header.specs.declared.Fixed.the-variants as fixed
 use Rattle.header.specs.declared.Reading.{Reading}
 use Rattle.header.specs.declared.Reading.the-variants.{Short, Broken, Whole}
-use Rattle.header.specs.Fixed.{orderOf, arrayLength, headLength, fixedPart}
-use Rattle.header.specs.Fields.{Fields, placeOf, noFields, walk, fieldsOf}
+use Rattle.header.specs.Fixed.{fixedLength, orderOf, arrayLength, headLength, fixedPart, arrayWord, bodyWord, flagsOf, kindOf, serialWord}
+use Rattle.header.specs.Codes.{pathCode, interfaceCode, memberCode, errorNameCode, replySerialCode, destinationCode}
+use Rattle.header.specs.Fields.{Fields, placeOf, fieldsIn, fieldsOf}
 use Rattle.header.specs.Values.{numberIn, goodValues}
 use Rattle.header.specs.Required.{hasRequired}
 use Rattle.header.specs.Header.{headerOf, judgedHead, readHead, readHeader}
 use Rattle.header.specs.Contracts.{SizedHead, ValuesFit}
-use Rattle.header.proofs.Walk.{fits-none, walk-fits}
+use Rattle.header.proofs.Walk.{array-fits}
 use Rattle.header.proofs.Readings.{read-few, read-broken, read-short, read-whole, head-of}
 use Rattle.reader.specs.Contracts.{Inside, Reads, foundIn}
 
 -- ---- 8, then 9
 
 module _ {h : List ℕ} {o : Order} {fs : Fields} (w : Reads h o fs) where
-  pub a-header : (n b r : ℕ) → n ≡ wordAt o h 8 → b ≡ wordAt o h 4
-      → r ≡ numberIn o (take (placeOf fs 5 .at + placeOf fs 5 .len - placeOf fs 5 .at) (drop (placeOf fs 5 .at) h))
+  abbrev reply : Place
+  reply = placeOf fs replySerialCode
+
+  pub a-header : (n b r : ℕ) → n ≡ wordAt o h serialWord → b ≡ wordAt o h bodyWord
+      → r ≡ numberIn o (take (reply .at + reply .len - reply .at) (drop (reply .at) h))
       → _≡_ {A = Header}
       (record {
-        kind = getD h 1 0;
-        flags = getD h 2 0;
+        kind = kindOf h;
+        flags = flagsOf h;
         serial = n;
         body = b;
         head = length h;
         «reply_serial» = r;
-        path = placeOf fs 1;
-        interface = placeOf fs 2;
-        member = placeOf fs 3;
-        «error_name» = placeOf fs 4;
-        destination = placeOf fs 6;
+        path = placeOf fs pathCode;
+        interface = placeOf fs interfaceCode;
+        member = placeOf fs memberCode;
+        «error_name» = placeOf fs errorNameCode;
+        destination = placeOf fs destinationCode;
       })
       (headerOf h fs)
   unfolding headerOf headLength
-  a-header n b r e f g = rw (e, f, g, add-sub-cancel-left (placeOf fs 5 .at) (placeOf fs 5 .len), w .order, w .head .sized)
+  a-header n b r e f g = rw (e, f, g, add-sub-cancel-left (reply .at) (reply .len), w .order, w .head .sized)
 
   module _ {g : Bool} (e : g ≡ goodValues o h fs) where
     pub bad-value : not g ≡ true → Broken 8 ≡ judgedHead h fs
     unfolding judgedHead
     bad-value t = rw (← w .order, ← e, t)
 
-    module _ (t : not g ≡ false) {q : Bool} (f : q ≡ hasRequired (getD h 1 0) fs) where
+    module _ (t : not g ≡ false) {q : Bool} (f : q ≡ hasRequired (kindOf h) fs) where
       pub missing : not q ≡ true → Broken 9 ≡ judgedHead h fs
       unfolding judgedHead
       missing u = rw (← w .order, ← e, t, ← f, u)
@@ -69,14 +74,14 @@ pub ruleset judging = (a-header, bad-value, missing, whole, needs)
 
 -- ---- 7
 
-module _ (h : List ℕ) (o : Order) (a : ℕ) (w : SizedHead h) (p : o ≡ orderOf h) (q : a ≡ wordAt o h 12) where
+module _ (h : List ℕ) (o : Order) (a : ℕ) (w : SizedHead h) (p : o ≡ orderOf h) (q : a ≡ wordAt o h arrayWord) where
   array-is : arrayLength h ≡ a
   array-is = rw (← p, ← q)
 
-  pub array-inside : 16 + a ≤ length h
+  pub array-inside : fixedLength + a ≤ length h
   array-inside = rw (w .sized, array-is) (omega arith)
 
-  pub walk-inside : Inside h (16 + a) 16
+  pub walk-inside : Inside h (fixedLength + a) fixedLength
   walk-inside =
       record {
         above = omega arith;
@@ -85,15 +90,15 @@ module _ (h : List ℕ) (o : Order) (a : ℕ) (w : SizedHead h) (p : o ≡ order
         small = w .small;
       }
 
-  module _ {z : Bool} (e : z ≡ allZero (take (length h - (16 + a)) (drop (16 + a) h))) where
+  module _ {z : Bool} (e : z ≡ allZero (take (length h - (fixedLength + a)) (drop (fixedLength + a) h))) where
     pub unpadded : not z ≡ true → Broken 7 ≡ readHead h
     unfolding readHead fieldsOf
-    unpadded t = rw (array-is, ← rest-at (16 + a) h, ← e, not-true z t)
+    unpadded t = rw (array-is, ← rest-at (fixedLength + a) h, ← e, not-true z t)
 
-    module _ (t : not z ≡ false) (f : Found) (i : foundIn f ≡ walk (16 + a - 16 + 1) (orderOf h) h (16 + a) 16 noFields) where
+    module _ (t : not z ≡ false) (f : Found) (i : foundIn f ≡ fieldsIn (orderOf h) h (fixedLength + a)) where
       fields-are : fieldsOf h ≡ foundIn f
       unfolding fieldsOf
-      fields-are = rw (array-is, ← rest-at (16 + a) h, ← e, not-false z t, i, add-sub-cancel-left 16 a)
+      fields-are = rw (array-is, ← rest-at (fixedLength + a) h, ← e, not-false z t, i)
 
       pub malformed : not (f .good) ≡ true → Broken 7 ≡ readHead h
       unfolding readHead
@@ -101,12 +106,10 @@ module _ (h : List ℕ) (o : Order) (a : ℕ) (w : SizedHead h) (p : o ≡ order
 
       module _ (u : not (f .good) ≡ false) where
         pub places-fit : ValuesFit h (f .places)
-        places-fit =
-            walk-fits (16 + a - 16 + 1) (orderOf h) h (16 + a) 16 noFields (f .places) array-inside (fits-none h)
-            (sym i ∙ rw (not-false (f .good) u))
+        places-fit = array-fits (orderOf h) h (fixedLength + a) (f .places) array-inside (sym i ∙ rw (not-false (f .good) u))
 
         pub places-read : Reads h o (f .places)
-        places-read = record { order = p; head = w; fits = places-fit; reply = places-fit .inside 5 }
+        places-read = record { order = p; head = w; fits = places-fit; reply = places-fit .inside replySerialCode }
 
         pub well-formed : {r : Reading} → r ≡ judgedHead h (f .places) → r ≡ readHead h
         unfolding readHead
@@ -116,10 +119,10 @@ pub ruleset heads = (array-inside, walk-inside, unpadded, malformed, places-read
 
 -- ---- any bytes
 
-pub few-bytes : (s : List ℕ) → length s < 16 → Short ≡ readHeader s
+pub few-bytes : (s : List ℕ) → length s < fixedLength → Short ≡ readHeader s
 few-bytes s h = sym (read-few s h)
 
-module _ (s : List ℕ) (k : 16 ≤ length s) (r : Fixed) (p : r ≡ fixedPart s) where
+module _ (s : List ℕ) (k : fixedLength ≤ length s) (r : Fixed) (p : r ≡ fixedPart s) where
   pub fixed-broken : {n : ℕ} → r ≡ fixed.Broken n → Broken n ≡ readHeader s
   fixed-broken e = sym (read-broken s k (sym p ∙ e))
 

@@ -8,17 +8,18 @@ use lib.ListN.{length}
 use Rattle.wire.specs.Words.{roundUp8}
 use Rattle.wire.specs.declared.Order.{Order}
 use Rattle.header.specs.declared.Element.{Element}
-use Rattle.header.specs.Fixed.{orderOf}
+use Rattle.header.specs.Fixed.{fixedLength, headLimit, orderOf}
+use Rattle.header.specs.Codes.{replySerialCode}
 use Rattle.header.specs.Fields.{Fields, placeOf, elementAt}
 use Rattle.header.specs.Contracts.{SizedHead, ValuesFit}
 use Rattle.reader.specs.declared.Found.{Found}
 
 -- an array that ends at `end` is read from `from` on, and its padding lies in h
 pub record Inside (h : List ℕ) (end from : ℕ) : Type 0 where
-  pub above : 16 ≤ from
+  pub above : fixedLength ≤ from
   pub before : from ≤ end
   pub padded : roundUp8 end ≤ length h
-  pub small : length h ≤ 2048
+  pub small : length h ≤ headLimit
 
 -- the element that a reader of h at `from` finds, in the byte order of h
 abbrev pub elementIn : List ℕ → ℕ → ℕ → Element
@@ -29,7 +30,7 @@ pub record Reads (h : List ℕ) (o : Order) (fs : Fields) : Type 0 where
   pub order : o ≡ orderOf h
   pub head : SizedHead h
   pub fits : ValuesFit h fs
-  pub reply : placeOf fs 5 .at + placeOf fs 5 .len ≤ length h
+  pub reply : placeOf fs replySerialCode .at + placeOf fs replySerialCode .len ≤ length h
 
 -- the fields that a walk has found
 abbrev pub foundIn : Found → Option Fields

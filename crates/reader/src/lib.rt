@@ -2,18 +2,34 @@
 mod fields;
 mod values;
 
+use header::ARRAY_LIMIT;
+use header::ARRAY_WORD;
+use header::BODY_WORD;
+use header::CODE_LIMIT;
+use header::DESTINATION_CODE;
+use header::ERROR_NAME_CODE;
 use header::Element;
+use header::FIXED_LENGTH;
+use header::FLAGS_BYTE;
 use header::Fixed;
 use header::Header;
+use header::INTERFACE_CODE;
+use header::KIND_BYTE;
+use header::MEMBER_CODE;
+use header::MESSAGE_LIMIT;
+use header::PATH_CODE;
 use header::Place;
+use header::REPLY_SERIAL_CODE;
 use header::Reading;
+use header::SERIAL_WORD;
+use header::VERSION_BYTE;
 use wire::Order;
 ghost use mathlib.Core.Path.{_≡_};
 ghost use Prim.Native.Nat.{_+_, _-_, _≤_, _<_};
 ghost use lib.ListN.{length};
-ghost use Rattle.header.specs.Fixed.{orderOf, sizesOf, fixedPart};
+ghost use Rattle.header.specs.Fixed.{fixedLength, headLimit, orderOf, sizesOf, fixedPart};
 ghost use Rattle.header.specs.Codes.{letterOf};
-ghost use Rattle.header.specs.Fields.{noFields, textIn, valueAt, framed, elementAt, walk};
+ghost use Rattle.header.specs.Fields.{textIn, valueAt, framed, elementAt, fieldsIn};
 ghost use Rattle.header.specs.Header.{headerOf, judgedHead, readHead, readHeader};
 ghost use Rattle.header.specs.Contracts.{SizedHead};
 ghost use Rattle.reader.specs.Contracts.{Inside, Reads, foundIn};
@@ -21,14 +37,14 @@ ghost use Rattle.reader.specs.Contracts.{Inside, Reads, foundIn};
 // Where the value of each code stands, if the array is good.
 pub struct Found {
     pub good: bool,
-    pub places: [Place; 10],
+    pub places: [Place; CODE_LIMIT],
 }
 
 // The letter of each code's type: none for 0.
-const LETTERS: [u8; 10] = [0, b'o', b's', b's', b's', b'u', b's', b's', b'g', b'u'];
+const LETTERS: [u8; CODE_LIMIT] = [0, b'o', b's', b's', b's', b'u', b's', b's', b'g', b'u'];
 
 fn order_of(bytes: &[u8]) -> Order
-    requires { ⌜ 16 ≤ length (now bytes) ⌝ }
+    requires { ⌜ fixedLength ≤ length (now bytes) ⌝ }
     ensures { λ r. ⌜ r ≡ orderOf (now (bytes .entry)) ⌝ }
 {
     if bytes[0] == b'B' {
@@ -40,20 +56,20 @@ fn order_of(bytes: &[u8]) -> Order
 
 // 4 to 6, and the lengths.
 fn sizes(bytes: &[u8]) -> Fixed
-    requires { ⌜ 16 ≤ length (now bytes) ⌝ }
+    requires { ⌜ fixedLength ≤ length (now bytes) ⌝ }
     ensures { λ r. ⌜ r ≡ sizesOf (now (bytes .entry)) ⌝ }
 {
     let order = order_of(bytes);
-    if wire::u32_at(order, bytes, 8) == 0 {
+    if wire::u32_at(order, bytes, SERIAL_WORD) == 0 {
         return Fixed::Broken(4);
     }
-    let array = wire::u32_at(order, bytes, 12) as usize;
-    if 2032 < array {
+    let array = wire::u32_at(order, bytes, ARRAY_WORD) as usize;
+    if ARRAY_LIMIT < array {
         return Fixed::Broken(5);
     }
-    let head = 16 + wire::round_up_8(array);
-    let message = head + wire::u32_at(order, bytes, 4) as usize;
-    if 134217728 < message {
+    let head = FIXED_LENGTH + wire::round_up_8(array);
+    let message = head + wire::u32_at(order, bytes, BODY_WORD) as usize;
+    if MESSAGE_LIMIT < message {
         return Fixed::Broken(6);
     }
     Fixed::Sizes(head, message)
@@ -61,12 +77,12 @@ fn sizes(bytes: &[u8]) -> Fixed
 
 // The fixed part of a head: 1 to 6 in their order, or the lengths.
 pub fn fixed_part(bytes: &[u8]) -> Fixed
-    requires { ⌜ 16 ≤ length (now bytes) ⌝ }
+    requires { ⌜ fixedLength ≤ length (now bytes) ⌝ }
     ensures { λ r. ⌜ r ≡ fixedPart (now (bytes .entry)) ⌝ }
 {
     let first = bytes[0];
-    let kind = bytes[1];
-    let version = bytes[3];
+    let kind = bytes[KIND_BYTE];
+    let version = bytes[VERSION_BYTE];
     if !((first == b'l') | (first == b'B')) {
         return Fixed::Broken(1);
     }
@@ -83,7 +99,7 @@ pub fn fixed_part(bytes: &[u8]) -> Fixed
 fn letter_of(code: usize) -> u8
     ensures { λ r. ⌜ r ≡ letterOf code ⌝ }
 {
-    if 9 < code {
+    if CODE_LIMIT <= code {
         return 0;
     }
     LETTERS[code]
@@ -111,7 +127,7 @@ fn text_in(head: &[u8], end: usize, code: usize, at: usize, len: usize) -> Eleme
 
 // The value at `at`, by its letter.
 fn value_at(order: Order, head: &[u8], end: usize, code: usize, letter: u8, at: usize) -> Element
-    requires { ⌜ (end ≤ length (now head)) × (at ≤ end) × (length (now head) ≤ 2048) ⌝ }
+    requires { ⌜ (end ≤ length (now head)) × (at ≤ end) × (length (now head) ≤ headLimit) ⌝ }
     ensures { λ r. ⌜ r ≡ valueAt order (now (head .entry)) end code letter at ⌝ }
 {
     if letter == b'g' {
@@ -167,12 +183,12 @@ fn element_at(order: Order, head: &[u8], end: usize, from: usize) -> Element
 
 // All elements, in one pass.
 fn walk_all(head: &[u8], end: usize) -> Found
-    requires { ⌜ Inside (now head) end 16 ⌝ }
-    ensures { λ r. ⌜ foundIn r ≡ walk (end - 16 + 1) (orderOf (now (head .entry))) (now (head .entry)) end 16 noFields ⌝ }
+    requires { ⌜ Inside (now head) end fixedLength ⌝ }
+    ensures { λ r. ⌜ foundIn r ≡ fieldsIn (orderOf (now (head .entry))) (now (head .entry)) end ⌝ }
 {
     let none = Place { at: 0, len: 0 };
-    let mut places = [none; 10];
-    let mut from = 16;
+    let mut places = [none; CODE_LIMIT];
+    let mut from = FIXED_LENGTH;
     while from != end {
         match fields::field_at(head, end, from) {
             Element::Bad => {
@@ -202,24 +218,24 @@ fn walk_all(head: &[u8], end: usize) -> Found
     Found { good: true, places }
 }
 
-fn header_of(order: Order, head: &[u8], places: [Place; 10]) -> Header
+fn header_of(order: Order, head: &[u8], places: [Place; CODE_LIMIT]) -> Header
     requires { ⌜ Reads (now head) order places ⌝ }
     ensures { λ r. ⌜ r ≡ headerOf (now (head .entry)) places ⌝ }
 {
-    let serial = wire::u32_at(order, head, 8);
-    let body = wire::u32_at(order, head, 4);
-    let reply = places[5];
+    let serial = wire::u32_at(order, head, SERIAL_WORD);
+    let body = wire::u32_at(order, head, BODY_WORD);
+    let reply = places[REPLY_SERIAL_CODE];
     let at = reply.at;
     let end = at + reply.len;
     let reply_serial = values::number_in(order, &head[at..end]);
-    let path = places[1];
-    let interface = places[2];
-    let member = places[3];
-    let error_name = places[4];
-    let destination = places[6];
+    let path = places[PATH_CODE];
+    let interface = places[INTERFACE_CODE];
+    let member = places[MEMBER_CODE];
+    let error_name = places[ERROR_NAME_CODE];
+    let destination = places[DESTINATION_CODE];
     Header {
-        kind: head[1],
-        flags: head[2],
+        kind: head[KIND_BYTE],
+        flags: head[FLAGS_BYTE],
         serial,
         body,
         head: head.len(),
@@ -233,14 +249,14 @@ fn header_of(order: Order, head: &[u8], places: [Place; 10]) -> Header
 }
 
 // 8, then 9.
-fn judge(order: Order, head: &[u8], places: [Place; 10]) -> Reading
+fn judge(order: Order, head: &[u8], places: [Place; CODE_LIMIT]) -> Reading
     requires { ⌜ Reads (now head) order places ⌝ }
     ensures { λ r. ⌜ r ≡ judgedHead (now (head .entry)) places ⌝ }
 {
     if !values::are_good(order, head, places) {
         return Reading::Broken(8);
     }
-    if !values::has_required(head[1], places) {
+    if !values::has_required(head[KIND_BYTE], places) {
         return Reading::Broken(9);
     }
     Reading::Whole(header_of(order, head, places))
@@ -252,7 +268,7 @@ fn read_head(head: &[u8]) -> Reading
     ensures { λ r. ⌜ r ≡ readHead (now (head .entry)) ⌝ }
 {
     let order = order_of(head);
-    let end = 16 + wire::u32_at(order, head, 12) as usize;
+    let end = FIXED_LENGTH + wire::u32_at(order, head, ARRAY_WORD) as usize;
     if !wire::is_zero(head, end, head.len()) {
         return Reading::Broken(7);
     }
@@ -268,7 +284,7 @@ fn read_head(head: &[u8]) -> Reading
 pub fn read(bytes: &[u8]) -> Reading
     ensures { λ r. ⌜ r ≡ readHeader (now (bytes .entry)) ⌝ }
 {
-    if bytes.len() < 16 {
+    if bytes.len() < FIXED_LENGTH {
         return Reading::Short;
     }
     match fixed_part(bytes) {

@@ -1,10 +1,24 @@
 // The values of the fields, and the fields that a type of message requires.
+use header::CALL;
+use header::CODE_LIMIT;
+use header::DESTINATION_CODE;
+use header::ERROR;
+use header::ERROR_NAME_CODE;
+use header::INTERFACE_CODE;
+use header::MEMBER_CODE;
+use header::PATH_CODE;
 use header::Place;
+use header::REPLY_SERIAL_CODE;
+use header::RETURN;
+use header::SENDER_CODE;
+use header::SIGNAL;
+use header::SIGNATURE_CODE;
 use names::Form;
 use wire::Order;
 ghost use mathlib.Core.Path.{_≡_};
 ghost use Prim.Native.Nat.{_+_, _≤_, _<_};
 ghost use lib.ListN.{length};
+ghost use Rattle.header.specs.Codes.{codeLimit};
 ghost use Rattle.header.specs.Fields.{present, placeOf};
 ghost use Rattle.header.specs.Values.{numberIn, goodValue, goodField, goodValues};
 ghost use Rattle.header.specs.Required.{hasRequired};
@@ -25,14 +39,14 @@ fn is_good_value(order: Order, code: usize, value: &[u8]) -> bool
     ensures { λ r. ⌜ r ≡ goodValue order code (now (value .entry)) ⌝ }
 {
     match code {
-        1 => names::is_valid(Form::Path, value),
-        2 => names::is_valid(Form::Interface, value),
-        3 => names::is_valid(Form::Member, value),
-        4 => names::is_valid(Form::Interface, value),
-        5 => !(number_in(order, value) == 0),
-        6 => names::is_valid(Form::BusName, value),
-        7 => names::is_valid(Form::BusName, value),
-        8 => signature::is_valid(value),
+        PATH_CODE => names::is_valid(Form::Path, value),
+        INTERFACE_CODE => names::is_valid(Form::Interface, value),
+        MEMBER_CODE => names::is_valid(Form::Member, value),
+        ERROR_NAME_CODE => names::is_valid(Form::Interface, value),
+        REPLY_SERIAL_CODE => !(number_in(order, value) == 0),
+        DESTINATION_CODE => names::is_valid(Form::BusName, value),
+        SENDER_CODE => names::is_valid(Form::BusName, value),
+        SIGNATURE_CODE => signature::is_valid(value),
         _ => true,
     }
 }
@@ -51,11 +65,11 @@ fn is_good(order: Order, head: &[u8], place: Place, code: usize) -> bool
 }
 
 // Each field that is present obeys its rule.
-pub fn are_good(order: Order, head: &[u8], places: [Place; 10]) -> bool
+pub fn are_good(order: Order, head: &[u8], places: [Place; CODE_LIMIT]) -> bool
     requires { ⌜ ValuesFit (now head) places ⌝ }
     ensures { λ r. ⌜ r ≡ goodValues order (now (head .entry)) places ⌝ }
 {
-    let mut code = 10;
+    let mut code = CODE_LIMIT;
     while 0 < code {
         code -= 1;
         let place = places[code];
@@ -66,8 +80,8 @@ pub fn are_good(order: Order, head: &[u8], places: [Place; 10]) -> bool
     true
 }
 
-fn has(places: [Place; 10], code: usize) -> bool
-    requires { ⌜ code < 10 ⌝ }
+fn has(places: [Place; CODE_LIMIT], code: usize) -> bool
+    requires { ⌜ code < codeLimit ⌝ }
     ensures { λ r. ⌜ r ≡ present (placeOf places code) ⌝ }
 {
     let place = places[code];
@@ -75,14 +89,14 @@ fn has(places: [Place; 10], code: usize) -> bool
 }
 
 // Each field that the type requires is present.
-pub fn has_required(kind: u8, places: [Place; 10]) -> bool
+pub fn has_required(kind: u8, places: [Place; CODE_LIMIT]) -> bool
     ensures { λ r. ⌜ r ≡ hasRequired kind places ⌝ }
 {
     match kind {
-        1 => has(places, 1) & has(places, 3),
-        2 => has(places, 5),
-        3 => has(places, 4) & has(places, 5),
-        4 => has(places, 1) & has(places, 2) & has(places, 3),
+        CALL => has(places, PATH_CODE) & has(places, MEMBER_CODE),
+        RETURN => has(places, REPLY_SERIAL_CODE),
+        ERROR => has(places, ERROR_NAME_CODE) & has(places, REPLY_SERIAL_CODE),
+        SIGNAL => has(places, PATH_CODE) & has(places, INTERFACE_CODE) & has(places, MEMBER_CODE),
         _ => true,
     }
 }

@@ -7,7 +7,7 @@ use Prim.Native.Nat.{ℕ, zero, suc}
 use lib.ListN.{length, getD, set, length-map, List·getD-map}
 use Rattle.wire.specs.Bytes.{same}
 use Rattle.policy.specs.Names.{busName}
-use Rattle.rules.specs.State.{Slot, free, peer, Peer, State, isFree, isPeer, firstBy, putSlot}
+use Rattle.rules.specs.State.{Slot, free, peer, State, isFree, isPeer, firstBy, putSlot}
 use Rattle.rules.specs.Addresses.{Address, answersTo, found, resolve}
 use Rattle.rules.specs.Pending.{removeCallsTo}
 use Rattle.rules.specs.Calls.{isOwner}

@@ -1,5 +1,5 @@
 -- A state seen as another: each stream through a function, and all else as it is (rule 12.1).
-use mathlib.Core.List.{List, map}
+use mathlib.Core.List.{map}
 use Rattle.rules.specs.State.{Slot, free, peer, Peer, State}
 use Rattle.rules.specs.Judge.{Judged}
 use Rattle.rules.specs.Calls.{Step}

@@ -14,10 +14,10 @@ use Rattle.wire.specs.Bytes.{front, same}
 use Rattle.wire.specs.Words.{wordAt}
 use Rattle.wire.specs.declared.Order.the-variants.{Little}
 use Rattle.wire.proofs.Parts.{drop-take}
-use Rattle.policy.specs.Names.{nameOf, owns}
+use Rattle.policy.specs.Names.{nameLimit, nameOf, owns, nameWidth}
 use Rattle.rules.specs.State.{firstBy}
 use Rattle.rules.proofs.First.{first-any}
-use Rattle.memory.specs.Layout.{slotStart, pendingAt, firstCallee, firstSerial, callWidth, namesAt, firstName, nameWidth, callRoom, nameLimit, nameRoom}
+use Rattle.memory.specs.Layout.{slotStart, pendingAt, firstCallee, firstSerial, callWidth, namesAt, firstName, callRoom, nameRoom}
 use Rattle.memory.proofs.Reading.{name-next, pending-next, names-many, pending-many}
 use Rattle.slots.specs.Slots.{peerAt, nameAt}
 

@@ -1,11 +1,10 @@
 -- The slot that a call speaks of, and what a refused call leaves.
 use mathlib.Core.Path.{_≡_, refl, sym}
 use mathlib.Core.List.{List}
-use Prim.Native.Nat.{ℕ, _+_, _*_, _≤_, _<_}
+use Prim.Native.Nat.{ℕ, _≤_, _<_}
 use native.Mathlib.Omega.{arith}
-use lib.ListN.{length, getD, take, drop, List·getD-eq-default}
-use mir.Syntax.{w8}
-use mir.Val.{Fits}
+use lib.ListN.{length, take, drop, List·getD-eq-default}
+use Rattle.wire.proofs.Words.{Octets, octets-below}
 use Rattle.stream.specs.Tail.{Tail}
 use Rattle.rules.specs.State.{free, peer, isFree, isPeer, firstBy}
 use Rattle.rules.specs.Calls.{Step, stays, slotAt}
@@ -20,16 +19,9 @@ use Rattle.memory.proofs.Good.{good-is}
 use Rattle.memory.proofs.Held.{held-free, Counted, held-counted}
 use Rattle.slots.specs.Slots.{peerAt, Seated}
 
--- bytes are below 256
-abbrev pub Octets : List ℕ → Type 0
-Octets m = (j : ℕ) → Fits w8 (getD m j 0)
-
-pub below : (m : List ℕ) → Octets m → (j : ℕ) → getD m j 0 < 256
-below m f j = f j .fits
-
 -- a step that changes nothing leaves the memory as it is
 pub did-stay : {R : Type 0} (m : List ℕ) → Octets m → Held m → (r : R) (s : Step Tail R) → s ≡ stays (stateOf m) r → Did (stored s) r m
-did-stay m f g r s e = rw e (record { result = refl; memory = sym (good-is m (below m f) (g .held)) })
+did-stay m f g r s e = rw e (record { result = refl; memory = sym (good-is m (octets-below m f) (g .held)) })
 
 -- ---- the peer of a number
 

@@ -10,10 +10,10 @@ use lib.ListN.{length, take, drop, getD, length-drop, drop-of-length-le}
 use borrow.Author.Needs.{needs}
 use Rattle.wire.specs.Bytes.{same}
 use Rattle.wire.proofs.Words.{cut-at}
-use Rattle.policy.specs.Names.{owns}
+use Rattle.policy.specs.Names.{owns, nameWidth}
 use Rattle.rules.specs.State.{firstBy}
 use Rattle.rules.specs.Calls.{slotAt, isOwner}
-use Rattle.memory.specs.Layout.{slotStart, firstName, nameWidth, nameRoom}
+use Rattle.memory.specs.Layout.{slotStart, firstName, nameRoom}
 use Rattle.memory.specs.Encoding.{stateOf}
 use Rattle.memory.specs.Places.{numberAt}
 use Rattle.memory.proofs.Reading.{slot-free, slot-peer}

@@ -7,7 +7,8 @@ use Rattle.wire.specs.Bytes.{same}
 use Rattle.stream.specs.Tail.{Tail}
 use Rattle.rules.specs.State.{Peer, firstBy}
 use Rattle.rules.specs.Pending.{isCall}
-use Rattle.memory.specs.Layout.{memoryLength, slotStart, gidRoom, firstName, nameWidth}
+use Rattle.memory.specs.Layout.{memoryLength, slotStart, gidRoom, firstName}
+use Rattle.policy.specs.Names.{nameWidth}
 use Rattle.memory.specs.Sound.{Held}
 use Rattle.memory.specs.Places.{numberAt, peerFrom}
 use Rattle.slots.specs.declared.Gids.{Gids}

@@ -1,7 +1,7 @@
 -- What a call answers on good memory, over any streams whose faults are 1 to 9: at most 40; and from 30 on it leaves the state as it was and reports its
 -- answer alone (rule 8.1).
 use mathlib.Core.Path.{_≡_, refl, sym, ap, _∙_}
-use mathlib.Core.Bool.{true, cond}
+use mathlib.Core.Bool.{cond}
 use mathlib.Core.List.{List, [], _∷_, _++_}
 use Prim.Native.Nat.{ℕ, _≤_, _<_}
 use native.Mathlib.Omega.{arith}

@@ -4,8 +4,9 @@ use mathlib.Core.Bool.{Bool, true, false, cond}
 use mathlib.Core.List.{List}
 use Prim.Native.Nat.{ℕ, _<_}
 use lib.Dec.{eqb}
-use lib.ListN.{length, getD}
+use lib.ListN.{length}
 use borrow.Author.Tests.{eq-eqb}
+use Rattle.wire.specs.Bytes.{Below}
 use Rattle.image.specs.Good.{imageAnswer}
 use Rattle.stream.specs.Tail.{Tail, tails}
 use Rattle.rules.specs.Calls.{Step, empty, noConnect, noPiece, noGone, connect, own, release, piece, disconnect}
@@ -13,7 +14,7 @@ use Rattle.rules.specs.declared.Connected.{Connected}
 use Rattle.rules.specs.declared.Taken.{Taken}
 use Rattle.rules.specs.declared.Gone.{Gone}
 use Rattle.memory.specs.Layout.{memoryLength}
-use Rattle.memory.specs.Encoding.{memoryOf, stateOf}
+use Rattle.memory.specs.Encoding.{stateOf}
 use Rattle.memory.specs.Good.{good}
 use Rattle.memory.specs.Sound.{Sound}
 use Rattle.memory.specs.Calls.{Did, unchanged, onMemory, onImage, startOn, connectOn, ownOn, releaseOn, pieceOn, disconnectOn}
@@ -41,8 +42,8 @@ pub good-stays-start : (m : List ℕ) → length m ≡ memoryLength → {r : ℕ
 unfolding startOn
 good-stays-start m l d = ap good (rw (eq-eqb (length m) memoryLength l) at (d .memory)) ∙ good-memory empty empty-sound
 
-module _ (m : List ℕ) (octets : (i : ℕ) → getD m i 0 < 256) (g : good m ≡ true) where
-  pub good-stays-connect : (image : List ℕ) (uid : ℕ) (gids : List ℕ) → uid < 4294967296 → ((i : ℕ) → getD gids i 0 < 4294967296)
+module _ (m : List ℕ) (octets : Below 256 m) (g : good m ≡ true) where
+  pub good-stays-connect : (image : List ℕ) (uid : ℕ) (gids : List ℕ) → uid < 4294967296 → Below 4294967296 gids
       → {r : Connected} {e : List ℕ} → Did (connectOn image m uid gids) r e → good e ≡ true
   unfolding connectOn
   good-stays-connect image uid gids u w =
@@ -57,7 +58,7 @@ module _ (m : List ℕ) (octets : (i : ℕ) → getD m i 0 < 256) (g : good m �
   unfolding releaseOn
   good-stays-release n name = memory-good (λ a. a) m g (release (stateOf m) n name) (release-sound (stateOf m) (good-sound m octets g) n name)
 
-  pub good-stays-piece : (image : List ℕ) (n : ℕ) (bytes : List ℕ) → ((i : ℕ) → getD bytes i 0 < 256)
+  pub good-stays-piece : (image : List ℕ) (n : ℕ) (bytes : List ℕ) → Below 256 bytes
       → {r : Taken} {e : List ℕ} → Did (pieceOn image m n bytes) r e → good e ≡ true
   unfolding pieceOn
   good-stays-piece image n bytes w =

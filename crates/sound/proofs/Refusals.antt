@@ -4,11 +4,12 @@ use mathlib.Core.Path.{_≡_, refl, sym, ap, _∙_}
 use mathlib.Core.Logic.{_↔_}
 use mathlib.Core.Bool.{Bool, true, false, cond, false≢true}
 use mathlib.Core.List.{List}
-use Prim.Native.Nat.{ℕ, _≤_, _<_}
+use Prim.Native.Nat.{ℕ, _≤_}
 use native.Mathlib.Omega.{arith}
 use lib.Dec.{eqb}
-use lib.ListN.{length, getD}
+use lib.ListN.{length}
 use borrow.Author.Tests.{eq-eqb}
+use Rattle.wire.specs.Bytes.{Below}
 use Rattle.image.specs.Good.{imageAnswer}
 use Rattle.stream.specs.Stream.{broken}
 use Rattle.stream.specs.Tail.{Tail, tails}
@@ -32,7 +33,7 @@ module _ {R : Type 0} (say : R → ℕ) (refuse : ℕ → R) (says : (a : ℕ) �
   alone : (a : ℕ) {r : R} {e : List ℕ} → Did (unchanged m (refuse a)) r e → Did (unchanged m (refuse (say r))) r e
   alone a d = record { result = d .result ∙ ap refuse (sym (ap say (d .result) ∙ says a)); memory = d .memory }
 
-  stored-keeps : ((i : ℕ) → getD m i 0 < 256) → good m ≡ true → {r : R} {e : List ℕ} → Did (stored z) r e → 30 ≤ say r → Did (unchanged m (refuse (say r))) r e
+  stored-keeps : Below 256 m → good m ≡ true → {r : R} {e : List ℕ} → Did (stored z) r e → 30 ≤ say r → Did (unchanged m (refuse (say r))) r e
   stored-keeps b g {r} d h =
       let q : say r ≡ say (z .result) = ap say (d .result) in
       let s = modest .still (rw (← q) h) in
@@ -41,14 +42,14 @@ module _ {R : Type 0} (say : R → ℕ) (refuse : ℕ → R) (says : (a : ℕ) �
         memory = d .memory ∙ ap (λ (y : Step Tail R). memoryOf (y .state)) s ∙ good-is m b g;
       }
 
-  memory-keeps : ((i : ℕ) → getD m i 0 < 256) → {r : R} {e : List ℕ} → Did (onMemory refuse m z) r e → 30 ≤ say r → Did (unchanged m (refuse (say r))) r e
+  memory-keeps : Below 256 m → {r : R} {e : List ℕ} → Did (onMemory refuse m z) r e → 30 ≤ say r → Did (unchanged m (refuse (say r))) r e
   memory-keeps b {r} {e} d h = go (good m) refl d
     where
       go : (g : Bool) → good m ≡ g → Did (cond g (stored z) (unchanged m (refuse 51))) r e → Did (unchanged m (refuse (say r))) r e
       go true g x = stored-keeps b g x h
       go false g x = alone 51 x
 
-  image-keeps : (image : List ℕ) → ((i : ℕ) → getD m i 0 < 256) → {r : R} {e : List ℕ} → Did (onImage refuse image m z) r e → 30 ≤ say r
+  image-keeps : (image : List ℕ) → Below 256 m → {r : R} {e : List ℕ} → Did (onImage refuse image m z) r e → 30 ≤ say r
       → Did (unchanged m (refuse (say r))) r e
   image-keeps image b {r} {e} d h = go (eqb (imageAnswer image) 0) d
     where
@@ -79,7 +80,7 @@ refusal-keeps-start m {r} {e} d h = go (eqb (length m) memoryLength) d
     go true x = absurd (omega (arith, x .result, h))
     go false x = record { result = refl; memory = x .memory }
 
-module _ (m : List ℕ) (octets : (i : ℕ) → getD m i 0 < 256) where
+module _ (m : List ℕ) (octets : Below 256 m) where
   pub refusal-keeps-connect : (image : List ℕ) (uid : ℕ) (gids : List ℕ) {r : Connected} {e : List ℕ} → Did (connectOn image m uid gids) r e
       → 30 ≤ r .answer → Did (unchanged m (noConnect (r .answer))) r e
   unfolding connectOn

@@ -4,8 +4,8 @@ use mathlib.Core.List.{List}
 use mathlib.Core.Path.{_≡_}
 use Prim.Native.Nat.{ℕ, _≤_, _<_}
 use native.Mathlib.Omega.{arith}
-use lib.ListN.{getD}
 use borrow.Author.Tests.{eqb-false}
+use Rattle.wire.specs.Bytes.{Below}
 use Rattle.wire.proofs.Words.{word-below}
 use Rattle.header.specs.declared.Header.{Header}
 use Rattle.header.specs.declared.Reading.the-variants.{Whole}
@@ -18,7 +18,7 @@ use Rattle.stream.proofs.Pushes.{offer-good}
 use Rattle.header.proofs.Front.{fixed-good}
 use Rattle.header.proofs.Readings.{whole-fits}
 
-pub header-serial : (h : List ℕ) (x : Header) → ((i : ℕ) → getD h i 0 < 256) → readHeader h ≡ Whole x → (1 ≤ x .serial) × (x .serial < 4294967296)
+pub header-serial : (h : List ℕ) (x : Header) → Below 256 h → readHeader h ≡ Whole x → (1 ≤ x .serial) × (x .serial < 4294967296)
 header-serial h x b e =
     let f = whole-fits h x e in
     let g = fixed-good h (f .sizes) in

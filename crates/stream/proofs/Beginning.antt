@@ -12,7 +12,7 @@ use Rattle.wire.proofs.Texts.{impossible}
 use Rattle.header.specs.declared.Fixed.{Fixed}
 use Rattle.header.specs.declared.Fixed.the-variants as fixed
 use Rattle.header.specs.declared.Reading.the-variants as reading
-use Rattle.header.specs.Fixed.{headLength, fixedPart}
+use Rattle.header.specs.Fixed.{fixedLength, headLimit, messageLimit, headLength, fixedPart}
 use Rattle.header.specs.Header.{readHeader}
 use Rattle.header.proofs.Front.{head-low}
 use Rattle.header.proofs.Readings.{read-few, read-broken}
@@ -36,16 +36,16 @@ module _ {region : List ℕ} {s : Stream} (o : Open region s) where
   head-is = length-take-le (s .stored) region (omega (arith, o .sized, o .stored))
 
   -- below 16 bytes, all that were taken are kept
-  all-kept : s .stored < 16 → s .taken ≡ s .stored
+  all-kept : s .stored < fixedLength → s .taken ≡ s .stored
   all-kept l = go (more-runs (tailIn region s) (o .good) (o .running))
     where
       go : Running (tailIn region s) → s .taken ≡ s .stored
       go (in-head e n) = n ∙ head-is
       go (in-body x e q n k) = absurd (omega (arith, head-is, whole-head (take (s .stored) region) e .sizes .above))
 
-  pub begun-open : (piece : List ℕ) → 16 ≤ s .stored → Begun region s piece 0
+  pub begun-open : (piece : List ℕ) → fixedLength ≤ s .stored → Begun region s piece 0
   begun-open piece l =
-      let a : 16 ≤ length (take (s .stored) region) = rw head-is l in
+      let a : fixedLength ≤ length (take (s .stored) region) = rw head-is l in
       record {
         started = record { sized = o .sized; padded = o .padded; above = l; stored = o .stored; within = omega arith };
         kept = sym head-is ∙ kept (tailIn region s) (o .good) ∙ ap (min (s .taken)) (end-is (take (s .stored) region) a);
@@ -55,15 +55,15 @@ module _ {region : List ℕ} {s : Stream} (o : Open region s) where
   pub from-open : {piece : List ℕ} {r : Advance} {last : List ℕ} → Resumed region s piece 0 r last → Advanced region s piece r last
   from-open {piece} g = record { gives = same-offer (open-resumes (tailIn region s) piece (o .running)) (g .gives) }
 
-  pub room-fixed : (piece : List ℕ) → s .stored < 16 → Room region (s .stored) 16 piece 0
+  pub room-fixed : (piece : List ℕ) → s .stored < fixedLength → Room region (s .stored) fixedLength piece 0
   room-fixed piece l = record { sized = o .sized; up = omega arith; inside = omega arith; within = omega arith }
 
-  module _ {piece after : List ℕ} {k : ℕ} (l : s .stored < 16) (w : Stored region (s .stored) 16 piece 0 k after) where
-    room : Room region (s .stored) 16 piece 0
+  module _ {piece after : List ℕ} {k : ℕ} (l : s .stored < fixedLength) (w : Stored region (s .stored) fixedLength piece 0 k after) where
+    room : Room region (s .stored) fixedLength piece 0
     room = room-fixed piece l
 
-    many : (s .stored + k ≤ 16) × (0 + k ≤ length piece)
-    many = fits region (s .stored) 16 piece 0 k after room w
+    many : (s .stored + k ≤ fixedLength) × (0 + k ≤ length piece)
+    many = fits region (s .stored) fixedLength piece 0 k after room w
 
     moved-fixed : offer tails (tailIn region s) piece ≡ resumed (tailIn after (plus s k)) piece k
     moved-fixed =
@@ -71,33 +71,33 @@ module _ {region : List ℕ} {s : Stream} (o : Open region s) where
         ∙ moved s room w (stored-fixed k (s .taken) (take (s .stored) region) piece (omega (arith, many)) (rw head-is (many .0)))
         ∙ ap (resumed (tailIn after (plus s k)) piece) (zero-add k)
 
-    pub more-fixed : s .stored + k < 16
+    pub more-fixed : s .stored + k < fixedLength
         → Advanced region s piece (record { stream = record { taken = s .taken + k; stored = s .stored + k }; taken = k; event = More }) after
     more-fixed h =
-        let q : length after ≡ 2048 = length-after region (s .stored) 16 piece 0 k after room w in
+        let q : length after ≡ headLimit = length-after region (s .stored) fixedLength piece 0 k after room w in
         record {
           gives =
               gives (length piece) after (plus s k) k More
               (moved-fixed
               ∙ used-up after (plus s k) piece k (omega (arith, w .many))
               (read-few (take (s .stored + k) after) (rw (length-take (s .stored + k) after) (omega arith))))
-              (padded-after region (s .stored) 16 piece 0 k after room w (o .padded))
+              (padded-after region (s .stored) fixedLength piece 0 k after room w (o .padded))
               q
               (omega arith)
               (omega (arith, many))
               (omega (arith, all-kept l));
         }
 
-    pub begun-fixed : 16 ≤ s .stored + k → Begun after (record { taken = s .taken + k; stored = s .stored + k }) piece k
+    pub begun-fixed : fixedLength ≤ s .stored + k → Begun after (record { taken = s .taken + k; stored = s .stored + k }) piece k
     begun-fixed h =
-        let a : s .stored + k ≡ 16 = omega (arith, many) in
-        let b : s .taken + k ≡ 16 = omega (arith, all-kept l) in
-        let c : 16 ≤ headLength (take (s .stored + k) after) = head-low (take (s .stored + k) after) in
+        let a : s .stored + k ≡ fixedLength = omega (arith, many) in
+        let b : s .taken + k ≡ fixedLength = omega (arith, all-kept l) in
+        let c : fixedLength ≤ headLength (take (s .stored + k) after) = head-low (take (s .stored + k) after) in
         record {
           started =
               record {
-                sized = length-after region (s .stored) 16 piece 0 k after room w;
-                padded = padded-after region (s .stored) 16 piece 0 k after room w (o .padded);
+                sized = length-after region (s .stored) fixedLength piece 0 k after room w;
+                padded = padded-after region (s .stored) fixedLength piece 0 k after room w (o .padded);
                 above = h;
                 stored = omega arith;
                 within = omega (arith, many);
@@ -119,7 +119,7 @@ module _ {region : List ℕ} {s : Stream} {piece : List ℕ} {used : ℕ} (b : B
   begun : Started region s piece used
   begun = b .started
 
-  pub long-fixed : 16 ≤ length (take (s .stored - 0) (drop 0 region))
+  pub long-fixed : fixedLength ≤ length (take (s .stored - 0) (drop 0 region))
   long-fixed = rw (sub-zero, started-length begun) (begun .above)
 
   module _ {f : Fixed} (e : f ≡ fixedPart (take (s .stored - 0) (drop 0 region))) where
@@ -135,7 +135,7 @@ module _ {region : List ℕ} {s : Stream} {piece : List ℕ} {used : ℕ} (b : B
         never : broken a ≡ more → ⊥
         never q = impossible cc
 
-        go : Dec (headLength (take (s .stored) region) < s .taken) → s .taken ≤ 134217728
+        go : Dec (headLength (take (s .stored) region) < s .taken) → s .taken ≤ messageLimit
         go (yes d) = absurd (never (rw r at (b .running d)))
         go (no d) = omega (arith, b .kept, begun .stored)
 

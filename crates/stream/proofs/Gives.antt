@@ -14,7 +14,7 @@ use Rattle.header.specs.declared.Header.{Header}
 use Rattle.header.specs.declared.Fixed.the-variants as fixed
 use Rattle.header.specs.declared.Reading.{Reading}
 use Rattle.header.specs.declared.Reading.the-variants as reading
-use Rattle.header.specs.Fixed.{fixedPart}
+use Rattle.header.specs.Fixed.{fixedLength, headLimit, messageLimit, fixedPart}
 use Rattle.header.specs.Header.{readHeader}
 use Rattle.stream.specs.declared.Stream.{Stream}
 use Rattle.stream.specs.declared.Event.{Event}
@@ -40,7 +40,7 @@ event-answers region (Whole x) = refl
 -- r is what o comes to where o is the stream `next` with its event
 pub gives : {o : Offer Tail} (n : ℕ) (region : List ℕ) (next : Stream) (k : ℕ) (e : Event)
     → o ≡ record { verdict = verdictOf region e; taken = k; stream = tailIn region next }
-    → region ≡ pad 2048 (take (next .stored) region) → length region ≡ 2048 → next .stored ≤ 2048 → k ≤ n → next .taken ≤ 134217728
+    → region ≡ pad headLimit (take (next .stored) region) → length region ≡ headLimit → next .stored ≤ headLimit → k ≤ n → next .taken ≤ messageLimit
     → Gives o n (record { stream = next; taken = k; event = e }) region
 gives n region next k e q p l s w f =
     subst⁻¹ (λ (o : Offer Tail). Gives o n (record { stream = next; taken = k; event = e }) region) q
@@ -96,7 +96,7 @@ used-up region s piece used l e =
 -- ---- a piece's end in the body, and a broken head
 
 pub broken-at : {region : List ℕ} {s : Stream} {piece : List ℕ} {used a : ℕ} → Started region s piece used
-    → readHeader (take (s .stored) region) ≡ reading.Broken a → s .taken ≤ 134217728
+    → readHeader (take (s .stored) region) ≡ reading.Broken a → s .taken ≤ messageLimit
     → Resumed region s piece used (record { stream = s; taken = used; event = Broken a }) region
 broken-at {region} {s} {piece} {used} {a} b e f =
     let z : used + 0 ≡ used = add-zero used in
@@ -149,7 +149,7 @@ module _ {region : List ℕ} {s : Stream} {piece : List ℕ} {used : ℕ} (b : S
       }
 
 -- an open stream whose head is whole is in the body
-pub in-body-of : (n : ℕ) (h : List ℕ) (head message : ℕ) → 16 ≤ length h → fixedPart h ≡ fixed.Sizes head message → head ≤ length h
+pub in-body-of : (n : ℕ) (h : List ℕ) (head message : ℕ) → fixedLength ≤ length h → fixedPart h ≡ fixed.Sizes head message → head ≤ length h
     → judge (record { taken = n; head = h }) ≡ more
     → (x : Header) × (readHeader h ≡ reading.Whole x) × (n < message)
 in-body-of n h head message l f k o = go (readHeader h) refl

@@ -12,7 +12,7 @@ use Rattle.wire.proofs.Texts.{both-first, both-second, both-true}
 use Rattle.header.specs.declared.Header.{Header}
 use Rattle.header.specs.declared.Reading.{Reading}
 use Rattle.header.specs.declared.Reading.the-variants.{Short, Broken, Whole}
-use Rattle.header.specs.Fixed.{headLength}
+use Rattle.header.specs.Fixed.{fixedLength, headLimit, messageLimit, headLength}
 use Rattle.header.specs.Header.{readHeader}
 use Rattle.header.proofs.Front.{head-low}
 use Rattle.header.proofs.Readings.{read-few}
@@ -22,27 +22,27 @@ use Rattle.stream.proofs.Heads.{Sized, whole-head, Known, few, early, p
 
 -- ---- where heads end
 
-pub end-is : (h : List ℕ) → 16 ≤ length h → headEnd h ≡ headLength h
-end-is h l = rw (le-ltb (length h) 16 l)
+pub end-is : (h : List ℕ) → fixedLength ≤ length h → headEnd h ≡ headLength h
+end-is h l = rw (le-ltb (length h) fixedLength l)
 
-pub sized-end : (h : List ℕ) {head message : ℕ} → 16 ≤ length h → Sized h head message → headEnd h ≡ head
+pub sized-end : (h : List ℕ) {head message : ℕ} → fixedLength ≤ length h → Sized h head message → headEnd h ≡ head
 sized-end h l z = end-is h l ∙ sym (z .is-head)
 
 -- a short head ends behind its bytes, and in time
-pub short-end : (h : List ℕ) → readHeader h ≡ Short → (length h < headEnd h) × (length h < 2048)
+pub short-end : (h : List ℕ) → readHeader h ≡ Short → (length h < headEnd h) × (length h < headLimit)
 short-end h e = go (known h e)
   where
-    go : Known h Short → (length h < headEnd h) × (length h < 2048)
-    go (few l) = (rw (lt-ltb (length h) 16 l) l, omega arith)
+    go : Known h Short → (length h < headEnd h) × (length h < headLimit)
+    go (few l) = (rw (lt-ltb (length h) fixedLength l) l, omega arith)
     go (part l z k) = (rw (sized-end h l z) k, omega (arith, z .small))
 
 -- a broken head is broken where it ends, or its fixed part
-pub broken-end : (h : List ℕ) {a : ℕ} → readHeader h ≡ Broken a → (16 ≤ length h) × (brokenAt a h ≤ headEnd h) × (brokenAt a h ≤ length h)
-    × (brokenAt a h ≤ 2048)
+pub broken-end : (h : List ℕ) {a : ℕ} → readHeader h ≡ Broken a → (fixedLength ≤ length h) × (brokenAt a h ≤ headEnd h) × (brokenAt a h ≤ length h)
+    × (brokenAt a h ≤ headLimit)
 broken-end h {a} e = go (known h e)
   where
-    go : Known h (Broken a) → (16 ≤ length h) × (brokenAt a h ≤ headEnd h) × (brokenAt a h ≤ length h) × (brokenAt a h ≤ 2048)
-    go (early l k f) = let b : brokenAt a h ≡ 16 = rw (le-leb a 6 k) in rw (end-is h l, b) (l, head-low h, l, omega arith)
+    go : Known h (Broken a) → (fixedLength ≤ length h) × (brokenAt a h ≤ headEnd h) × (brokenAt a h ≤ length h) × (brokenAt a h ≤ headLimit)
+    go (early l k f) = let b : brokenAt a h ≡ fixedLength = rw (le-leb a 6 k) in rw (end-is h l, b) (l, head-low h, l, omega arith)
     go (late l k z i) =
         let b : brokenAt a h ≡ headLength h = rw (lt-leb a 6 k) in
         rw (end-is h l, b) (l, omega arith, omega (arith, z .is-head), omega (arith, z .is-head, z .small))
@@ -140,10 +140,10 @@ fresh-good = running-good fresh fresh-runs
 pub fresh-more : judge fresh ≡ more
 fresh-more = running-more fresh fresh-runs
 
-pub tail-fits : (t : Tail) → goodTail t ≡ true → (t .taken < 134217728) × (length (t .head) ≤ 2048)
+pub tail-fits : (t : Tail) → goodTail t ≡ true → (t .taken < messageLimit) × (length (t .head) ≤ headLimit)
 tail-fits t g = go (good-kept t g)
   where
-    go : Kept t → (t .taken < 134217728) × (length (t .head) ≤ 2048)
+    go : Kept t → (t .taken < messageLimit) × (length (t .head) ≤ headLimit)
     go (runs (in-head e n)) = let l = short-end (t .head) e in (omega arith, omega arith)
     go (runs (in-body x e l n k)) = let w = whole-head (t .head) e .sizes in (omega (arith, w .fits), omega (arith, w .small))
     go (stops (stopped a e n k)) = let b = broken-end (t .head) e in (omega arith, omega arith)

@@ -12,20 +12,21 @@ use Rattle.header.specs.declared.Reading.the-variants.{Short, Whole}
 use Rattle.header.specs.Header.{readHeader}
 use Rattle.header.proofs.Front.{fixed-front}
 use Rattle.header.proofs.Readings.{read-few, read-short, read-front, whole-fits, Fitting}
-use Rattle.stream.specs.Stream.{whole, Offer, offer}
+use Rattle.stream.specs.Stream.{whole, offer}
 use Rattle.stream.specs.Tail.{Tail, tails, fresh, goodTail}
-use Rattle.stream.specs.Steps.{bumpBy, continued}
+use Rattle.stream.specs.Steps.{bumpBy}
 use Rattle.stream.proofs.Good.{kept, fresh-more}
 use Rattle.stream.proofs.Phases.{continued-more, stored-bytes, ended}
+use Rattle.header.specs.Fixed.{fixedLength}
 
 -- fewer bytes than the head are no head yet
 short-front : (p : List ℕ) (x : Header) → Fitting p x → (j : ℕ) → j < x .head → readHeader (take j p) ≡ Short
-short-front p x f j h = go (decLt j 16)
+short-front p x f j h = go (decLt j fixedLength)
   where
     long : length (take j p) ≡ j
     long = length-take-le j p (omega (arith, f .head-inside))
 
-    go : Dec (j < 16) → readHeader (take j p) ≡ Short
+    go : Dec (j < fixedLength) → readHeader (take j p) ≡ Short
     go (yes k) = read-few (take j p) (omega (arith, long))
     go (no k) = read-short (take j p) (omega (arith, long)) (fixed-front j p (omega arith) ∙ f .sizes) (omega (arith, long, f .head-is))
 

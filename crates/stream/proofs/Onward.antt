@@ -10,7 +10,7 @@ use Rattle.header.specs.declared.Header.{Header}
 use Rattle.header.specs.declared.Fixed.the-variants as fixed
 use Rattle.header.specs.declared.Reading.{Reading}
 use Rattle.header.specs.declared.Reading.the-variants as reading
-use Rattle.header.specs.Fixed.{fixedPart}
+use Rattle.header.specs.Fixed.{headLimit, fixedPart}
 use Rattle.header.specs.Header.{readHeader}
 use Rattle.header.proofs.Front.{fixed-append}
 use Rattle.header.proofs.Readings.{read-short}
@@ -105,7 +105,7 @@ module _ {region : List ℕ} {s : Stream} {piece : List ℕ} {used end message :
     pub more-head : s .stored + k < end
         → Resumed region s piece used (record { stream = record { taken = s .taken + k; stored = s .stored + k }; taken = used + k; event = More }) after
     more-head h =
-        let q : length after ≡ 2048 = length-after region (s .stored) end piece used k after room-head w in
+        let q : length after ≡ headLimit = length-after region (s .stored) end piece used k after room-head w in
         let m : length (take (s .stored + k) after) ≡ s .stored + k = length-take-le (s .stored + k) after (omega (arith, i .measured .small)) in
         record {
           gives = gives (length piece) after (plus s k) (used + k) More

@@ -11,7 +11,7 @@ use borrow.Author.Tests.{lt-ltb, le-ltb}
 use Rattle.header.specs.declared.Header.{Header}
 use Rattle.header.specs.declared.Fixed.the-variants as fixed
 use Rattle.header.specs.declared.Reading.the-variants.{Short, Broken, Whole}
-use Rattle.header.specs.Fixed.{fixedPart}
+use Rattle.header.specs.Fixed.{fixedLength, fixedPart}
 use Rattle.header.specs.Header.{readHeader}
 use Rattle.header.proofs.Front.{fixed-append}
 use Rattle.header.proofs.Readings.{read-few, read-short}
@@ -53,13 +53,13 @@ stored-bytes (suc k) n h (b ∷ p) l s =
     ∙ ap₂ (λ (i : ℕ) (x : List ℕ). bumpBy (suc k) (continued (tail i x) (drop k p))) e (append-assoc h (b ∷ []) (take k p))
 
 -- the fixed part: up to 16 bytes
-pub stored-fixed : (k n : ℕ) (h p : List ℕ) → k ≤ length p → length h + k ≤ 16
+pub stored-fixed : (k n : ℕ) (h p : List ℕ) → k ≤ length p → length h + k ≤ fixedLength
     → continued (tail n h) p ≡ bumpBy k (continued (tail (n + k) (h ++ take k p)) (drop k p))
 stored-fixed k n h p l m =
     stored-bytes k n h p l (λ j i. read-few (h ++ take j p) (omega (arith, length-append h (take j p), length-take j p)))
 
 -- the rest of the head: up to the length that the fixed part says
-pub stored-head : (k n : ℕ) (h p : List ℕ) (hd m : ℕ) → k ≤ length p → 16 ≤ length h → fixedPart h ≡ fixed.Sizes hd m → length h + k ≤ hd
+pub stored-head : (k n : ℕ) (h p : List ℕ) (hd m : ℕ) → k ≤ length p → fixedLength ≤ length h → fixedPart h ≡ fixed.Sizes hd m → length h + k ≤ hd
     → continued (tail n h) p ≡ bumpBy k (continued (tail (n + k) (h ++ take k p)) (drop k p))
 stored-head k n h p hd m l a f e =
     stored-bytes k n h p l

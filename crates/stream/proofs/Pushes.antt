@@ -14,7 +14,7 @@ use Rattle.header.specs.declared.Fixed.{Fixed}
 use Rattle.header.specs.declared.Fixed.the-variants as fixed
 use Rattle.header.specs.declared.Reading.{Reading}
 use Rattle.header.specs.declared.Reading.the-variants.{Short, Broken, Whole}
-use Rattle.header.specs.Fixed.{fixedPart}
+use Rattle.header.specs.Fixed.{fixedLength, fixedPart}
 use Rattle.header.specs.Header.{readHeader}
 use Rattle.header.proofs.Front.{fixed-append}
 use Rattle.stream.specs.Stream.{Verdict, more, broken, whole, offer, settled}
@@ -28,14 +28,14 @@ use Rattle.stream.proofs.Good.{short-end, whole-end, Running, in-head, 
 
 -- what the fixed part says that n bytes and one more hold, where the n did not decide
 abbrev Ends : ℕ → Fixed → Type 0
-Ends n (fixed.Broken a) = n + 1 ≡ 16
+Ends n (fixed.Broken a) = n + 1 ≡ fixedLength
 Ends n (fixed.Sizes head message) = n < head
 
 module _ (h : List ℕ) (b : ℕ) (e : readHeader h ≡ Short) where
   longer : length (h ++ (b ∷ [])) ≡ length h + 1
   longer = length-append h (b ∷ [])
 
-  fixed-ends : (f : Fixed) → fixedPart (h ++ (b ∷ [])) ≡ f → 16 ≤ length (h ++ (b ∷ [])) → Ends (length h) f
+  fixed-ends : (f : Fixed) → fixedPart (h ++ (b ∷ [])) ≡ f → fixedLength ≤ length (h ++ (b ∷ [])) → Ends (length h) f
   fixed-ends f q l = go (known h e) f q
     where
       go : Known h Short → (f : Fixed) → fixedPart (h ++ (b ∷ [])) ≡ f → Ends (length h) f

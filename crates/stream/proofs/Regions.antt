@@ -10,6 +10,7 @@ use Rattle.wire.proofs.Words.{cut-at, put-at}
 use Rattle.wire.proofs.Parts.{drop-zeros, pad-fits}
 use Rattle.stream.specs.declared.Stream.{Stream}
 use Rattle.stream.specs.Steps.{Started, Room, Stored}
+use Rattle.header.specs.Fixed.{headLimit}
 
 pub started-length : {region : List ℕ} {s : Stream} {piece : List ℕ} {used : ℕ} → Started region s piece used → length (take (s .stored) region) ≡ s .stored
 started-length {region} {s} b = length-take-le (s .stored) region (omega (arith, b .stored, b .sized))
@@ -33,7 +34,7 @@ module _ (region : List ℕ) (stored limit : ℕ) (piece : List ℕ) (used k : �
       ∙ take-at (take stored region ++ take k (drop used piece)) (drop (stored + k) region) (stored + k)
       (length-append (take stored region) (take k (drop used piece)) ∙ ap₂ _+_ head-length bytes-length)
 
-  pub length-after : length after ≡ 2048
+  pub length-after : length after ≡ headLimit
   length-after =
       rw (
         s .bytes,
@@ -45,25 +46,25 @@ module _ (region : List ℕ) (stored limit : ℕ) (piece : List ℕ) (used k : �
       )
       (omega (arith, fits, r .inside, r .sized))
 
-  pub padded-after : region ≡ pad 2048 (take stored region) → after ≡ pad 2048 (take (stored + k) after)
+  pub padded-after : region ≡ pad headLimit (take stored region) → after ≡ pad headLimit (take (stored + k) after)
   padded-after p =
       let f = fits in
-      let i : limit ≤ 2048 = r .inside in
+      let i : limit ≤ headLimit = r .inside in
       let l : length (take stored region ++ take k (drop used piece)) ≡ stored + k = length-append (take stored region) (take k (drop used piece))
       ∙ ap₂ _+_ head-length bytes-length in
-      let e : 2048 - length (take stored region) - k ≡ 2048 - (stored + k) = omega (arith, head-length) in
-      let z : drop (stored + k) region ≡ replicate (2048 - (stored + k)) 0 =
+      let e : headLimit - length (take stored region) - k ≡ headLimit - (stored + k) = omega (arith, head-length) in
+      let z : drop (stored + k) region ≡ replicate (headLimit - (stored + k)) 0 =
       sym (drop-drop k stored region)
-      ∙ ap (λ (x : List ℕ). drop k (drop stored x)) (p ∙ pad-fits 2048 (take stored region) (omega (arith, head-length)))
-      ∙ ap (drop k) (drop-at (take stored region) (replicate (2048 - length (take stored region)) 0) stored head-length)
-      ∙ drop-zeros k (2048 - length (take stored region))
+      ∙ ap (λ (x : List ℕ). drop k (drop stored x)) (p ∙ pad-fits headLimit (take stored region) (omega (arith, head-length)))
+      ∙ ap (drop k) (drop-at (take stored region) (replicate (headLimit - length (take stored region)) 0) stored head-length)
+      ∙ drop-zeros k (headLimit - length (take stored region))
       ∙ ap (λ (n : ℕ). replicate {A = ℕ} n 0) e in
       s .bytes
       ∙ sym (append-assoc (take stored region) (take k (drop used piece)) (drop (stored + k) region))
       ∙ ap (λ (x : List ℕ). (take stored region ++ take k (drop used piece)) ++ x) z
-      ∙ ap (λ (n : ℕ). (take stored region ++ take k (drop used piece)) ++ replicate (2048 - n) 0) (sym l)
-      ∙ sym (pad-fits 2048 (take stored region ++ take k (drop used piece)) (omega arith))
-      ∙ ap (pad 2048) (sym head-after)
+      ∙ ap (λ (n : ℕ). (take stored region ++ take k (drop used piece)) ++ replicate (headLimit - n) 0) (sym l)
+      ∙ sym (pad-fits headLimit (take stored region ++ take k (drop used piece)) (omega arith))
+      ∙ ap (pad headLimit) (sym head-after)
 
 -- ---- what the code of `store` shows
 

@@ -15,7 +15,7 @@ use Rattle.header.specs.declared.Fixed.{Fixed}
 use Rattle.header.specs.declared.Fixed.the-variants as fixed
 use Rattle.header.specs.declared.Reading.{Reading}
 use Rattle.header.specs.declared.Reading.the-variants.{Short, Broken, Whole}
-use Rattle.header.specs.Fixed.{headLength, fixedPart}
+use Rattle.header.specs.Fixed.{fixedLength, headLength, fixedPart}
 use Rattle.header.specs.Header.{readHeader}
 use Rattle.header.proofs.Front.{head-low, fixed-number}
 use Rattle.header.proofs.Readings.{read-few, read-broken, read-short}
@@ -58,35 +58,36 @@ module _ (region : List ℕ) (s : Stream) (i : s .stored ≤ length region) wher
       eq-eqb (s .taken) (s .stored) (omega arith))
       ∙ sym (good-is end true e (rw q))
 
-  pub good-few : s .stored < 16 → eqb (s .taken) (s .stored) ≡ goodTail (tailIn region s)
-  good-few l = unread 16 (rw (is-length, lt-ltb (s .stored) 16 l)) (read-few (kept region s) (rw is-length l)) l
+  pub good-few : s .stored < fixedLength → eqb (s .taken) (s .stored) ≡ goodTail (tailIn region s)
+  good-few l = unread fixedLength (rw (is-length, lt-ltb (s .stored) fixedLength l)) (read-few (kept region s) (rw is-length l)) l
 
-  module _ (a : 16 ≤ s .stored) where
-    is-above : 16 ≤ length (kept region s)
+  module _ (a : fixedLength ≤ s .stored) where
+    is-above : fixedLength ≤ length (kept region s)
     is-above = rw is-length a
 
-    pub long-head : 16 ≤ length (take (s .stored - 0) (drop 0 region))
+    pub long-head : fixedLength ≤ length (take (s .stored - 0) (drop 0 region))
     long-head = rw sub-zero is-above
 
     module _ {f : Fixed} (e : f ≡ fixedPart (take (s .stored - 0) (drop 0 region))) where
       is-fixed : fixedPart (kept region s) ≡ f
       is-fixed = sym (rw sub-zero at e)
 
-      pub good-fault : {n : ℕ} → f ≡ fixed.Broken n → (eqb (s .taken) 16 && eqb (s .stored) 16) ≡ goodTail (tailIn region s)
+      pub good-fault : {n : ℕ} → f ≡ fixed.Broken n → (eqb (s .taken) fixedLength && eqb (s .stored) fixedLength) ≡ goodTail (tailIn region s)
       good-fault {n} q =
-          let h : 16 ≤ headLength (kept region s) = head-low (kept region s) in
+          let h : fixedLength ≤ headLength (kept region s) = head-low (kept region s) in
           let r : readHeader (kept region s) ≡ Broken n = read-broken (kept region s) is-above (is-fixed ∙ q) in
           let l = headLength (kept region s) in
-          agree (eqb (s .taken) 16 && eqb (s .stored) 16) (eqb (s .stored) (min (s .taken) l) && eqb (s .taken) 16)
+          agree (eqb (s .taken) fixedLength && eqb (s .stored) fixedLength) (eqb (s .stored) (min (s .taken) l) && eqb (s .taken) fixedLength)
           (λ p.
-          let t = eqb-true (s .taken) 16 (both-first (eqb (s .taken) 16) (eqb (s .stored) 16) p) in
-          let u = eqb-true (s .stored) 16 (both-second (eqb (s .taken) 16) (eqb (s .stored) 16) p) in
-          both-true (eqb (s .stored) (min (s .taken) l)) (eqb (s .taken) 16) (eq-eqb (s .stored) (min (s .taken) l) (omega arith)) (eq-eqb (s .taken) 16 t))
+          let t = eqb-true (s .taken) fixedLength (both-first (eqb (s .taken) fixedLength) (eqb (s .stored) fixedLength) p) in
+          let u = eqb-true (s .stored) fixedLength (both-second (eqb (s .taken) fixedLength) (eqb (s .stored) fixedLength) p) in
+          both-true (eqb (s .stored) (min (s .taken) l)) (eqb (s .taken) fixedLength) (eq-eqb (s .stored) (min (s .taken) l) (omega arith))
+          (eq-eqb (s .taken) fixedLength t))
           (λ p.
-          let t = eqb-true (s .stored) (min (s .taken) l) (both-first (eqb (s .stored) (min (s .taken) l)) (eqb (s .taken) 16) p) in
-          let u = eqb-true (s .taken) 16 (both-second (eqb (s .stored) (min (s .taken) l)) (eqb (s .taken) 16) p) in
-          both-true (eqb (s .taken) 16) (eqb (s .stored) 16) (eq-eqb (s .taken) 16 u) (eq-eqb (s .stored) 16 (omega arith)))
-          ∙ sym (good-is l (eqb (s .taken) 16) (end-is (kept region s) is-above) (rw (r, le-leb n 6 (fixed-number (kept region s) (is-fixed ∙ q) .1))))
+          let t = eqb-true (s .stored) (min (s .taken) l) (both-first (eqb (s .stored) (min (s .taken) l)) (eqb (s .taken) fixedLength) p) in
+          let u = eqb-true (s .taken) fixedLength (both-second (eqb (s .stored) (min (s .taken) l)) (eqb (s .taken) fixedLength) p) in
+          both-true (eqb (s .taken) fixedLength) (eqb (s .stored) fixedLength) (eq-eqb (s .taken) fixedLength u) (eq-eqb (s .stored) fixedLength (omega arith)))
+          ∙ sym (good-is l (eqb (s .taken) fixedLength) (end-is (kept region s) is-above) (rw (r, le-leb n 6 (fixed-number (kept region s) (is-fixed ∙ q) .1))))
 
       module _ {end message : ℕ} (q : f ≡ fixed.Sizes end message) where
         is-end : headEnd (kept region s) ≡ end
@@ -117,7 +118,7 @@ module _ {region : List ℕ} {s : Stream} {message : ℕ} (w : WholeTail region 
   whole-length : length (kept region s) ≡ s .stored
   whole-length = is-length region s (w .inside)
 
-  whole-above : 16 ≤ length (kept region s)
+  whole-above : fixedLength ≤ length (kept region s)
   whole-above = rw whole-length (w .above)
 
   whole-sized : Sized (kept region s) (s .stored) message
@@ -152,7 +153,7 @@ module _ {region : List ℕ} {s : Stream} (g : GoodTail region s) where
   closed-length : length (kept region s) ≡ s .stored
   closed-length = is-length region s (g .inside)
 
-  pub closed-few : s .stored < 16 → false ≡ closed (tailIn region s)
+  pub closed-few : s .stored < fixedLength → false ≡ closed (tailIn region s)
   closed-few l = sym (rw (read-few (kept region s) (rw closed-length l)))
 
   pub closed-body : s .stored < s .taken → false ≡ closed (tailIn region s)

@@ -11,6 +11,7 @@ use Rattle.stream.specs.declared.Event.the-variants.{More, Broken, Whole
 use Rattle.stream.specs.declared.Advance.{Advance}
 use Rattle.stream.specs.Stream.{Verdict, more, broken, whole, verdictAnswer, Offer, offer}
 use Rattle.stream.specs.Tail.{Tail, judge, tails, goodTail}
+use Rattle.header.specs.Fixed.{headLimit, messageLimit}
 
 -- the stream of which `taken` bytes were taken, and whose head is the first `stored` bytes of a region
 abbrev pub tailOf : List ℕ → ℕ → ℕ → Tail
@@ -38,10 +39,10 @@ eventAnswer (Whole x) = 0
 
 -- a good open stream; the region is zero behind its head
 pub record Open (region : List ℕ) (s : Stream) : Type 0 where
-  pub sized : length region ≡ 2048
-  pub stored : s .stored ≤ 2048
-  pub counted : s .taken < 134217728
-  pub padded : region ≡ pad 2048 (take (s .stored) region)
+  pub sized : length region ≡ headLimit
+  pub stored : s .stored ≤ headLimit
+  pub counted : s .taken < messageLimit
+  pub padded : region ≡ pad headLimit (take (s .stored) region)
   pub good : goodTail (tailIn region s) ≡ true
   pub running : judge (tailIn region s) ≡ more
 
@@ -52,10 +53,10 @@ pub record Gives (o : Offer Tail) (n : ℕ) (r : Advance) (region : List ℕ) : 
   pub answer : eventAnswer (r .event) ≡ verdictAnswer (o .verdict)
   pub counted : r .stream .taken ≡ o .stream .taken
   pub kept : r .stream .stored ≡ length (o .stream .head)
-  pub padded : region ≡ pad 2048 (o .stream .head)
+  pub padded : region ≡ pad headLimit (o .stream .head)
   pub within : r .taken ≤ n
-  pub few : r .stream .taken ≤ 134217728
-  pub small : r .stream .stored ≤ 2048
+  pub few : r .stream .taken ≤ messageLimit
+  pub small : r .stream .stored ≤ headLimit
 
 -- what a piece offered to the stream s comes to
 pub record Advanced (region : List ℕ) (s : Stream) (piece : List ℕ) (r : Advance) (after : List ℕ) : Type 0 where

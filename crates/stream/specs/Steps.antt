@@ -5,7 +5,7 @@ use Prim.Native.Nat.{ℕ, _+_, _-_, _≤_, _<_, min}
 use lib.ListN.{length, take, drop}
 use Rattle.wire.specs.Bytes.{pad}
 use Rattle.header.specs.declared.Fixed.the-variants.{Sizes}
-use Rattle.header.specs.Fixed.{headLength, fixedPart}
+use Rattle.header.specs.Fixed.{fixedLength, headLimit, messageLimit, headLength, fixedPart}
 use Rattle.stream.specs.declared.Stream.{Stream}
 use Rattle.stream.specs.declared.Event.the-variants.{More}
 use Rattle.stream.specs.declared.Advance.{Advance}
@@ -36,10 +36,10 @@ pub record Resumed (region : List ℕ) (s : Stream) (piece : List ℕ) (used : �
 
 -- a stream whose fixed part has come, and a piece of which it has the first `used` bytes; the region is zero behind its head
 pub record Started (region : List ℕ) (s : Stream) (piece : List ℕ) (used : ℕ) : Type 0 where
-  pub sized : length region ≡ 2048
-  pub padded : region ≡ pad 2048 (take (s .stored) region)
-  pub above : 16 ≤ s .stored
-  pub stored : s .stored ≤ 2048
+  pub sized : length region ≡ headLimit
+  pub padded : region ≡ pad headLimit (take (s .stored) region)
+  pub above : fixedLength ≤ s .stored
+  pub stored : s .stored ≤ headLimit
   pub within : used ≤ length piece
 
 -- the fixed part has come perhaps with the latest byte
@@ -52,9 +52,9 @@ pub record Begun (region : List ℕ) (s : Stream) (piece : List ℕ) (used : ℕ
 pub record Measured (region : List ℕ) (s : Stream) (piece : List ℕ) (used head message : ℕ) : Type 0 where
   pub started : Started region s piece used
   pub sizes : fixedPart (take (s .stored) region) ≡ Sizes head message
-  pub small : head ≤ 2048
+  pub small : head ≤ headLimit
   pub below : s .taken ≤ message
-  pub few : message ≤ 134217728
+  pub few : message ≤ messageLimit
 
 -- `Begun`, with these lengths
 pub record InHead (region : List ℕ) (s : Stream) (piece : List ℕ) (used head message : ℕ) : Type 0 where
@@ -81,9 +81,9 @@ allTaken s piece used end =
 -- ---- bytes stored
 
 pub record Room (region : List ℕ) (stored limit : ℕ) (piece : List ℕ) (used : ℕ) : Type 0 where
-  pub sized : length region ≡ 2048
+  pub sized : length region ≡ headLimit
   pub up : stored ≤ limit
-  pub inside : limit ≤ 2048
+  pub inside : limit ≤ headLimit
   pub within : used ≤ length piece
 
 -- the k bytes of the piece from `used` on that have room below the limit stand behind the first `stored`
@@ -96,6 +96,6 @@ pub record Stored (region : List ℕ) (stored limit : ℕ) (piece : List ℕ) (u
 -- the head has come, and just it is kept
 pub record WholeTail (region : List ℕ) (s : Stream) (message : ℕ) : Type 0 where
   pub inside : s .stored ≤ length region
-  pub above : 16 ≤ s .stored
+  pub above : fixedLength ≤ s .stored
   pub sizes : fixedPart (take (s .stored) region) ≡ Sizes (s .stored) message
   pub reached : s .stored ≤ s .taken

@@ -4,7 +4,7 @@ use mathlib.Core.List.{List, [], _∷_, _++_}
 use Prim.Native.Nat.{ℕ, _+_, min}
 use lib.ListN.{length, take}
 use lib.Dec.{ltb, leb, eqb}
-use Rattle.header.specs.Fixed.{headLength}
+use Rattle.header.specs.Fixed.{fixedLength, headLength}
 use Rattle.header.specs.Header.{readHeader}
 use Rattle.header.specs.declared.Reading.{Reading}
 use Rattle.header.specs.declared.Reading.the-variants.{Short, Broken, Whole}
@@ -32,7 +32,7 @@ isBroken (whole h x) = false
 
 -- how long the head is: its fixed part until that has come, and then what the fixed part says (rule 9.4)
 abbrev pub headEnd : List ℕ → ℕ
-headEnd h = cond (ltb (length h) 16) 16 (headLength h)
+headEnd h = cond (ltb (length h) fixedLength) fixedLength (headLength h)
 
 abbrev pub fresh : Tail
 fresh = record { taken = 0; head = [] }
@@ -55,7 +55,7 @@ tails = record { fresh = fresh; push = push; judge = judge; next = λ t. fresh; 
 
 -- where a head is broken by an answer: 1 to 6 are found at byte 16, and 7 to 9 once the head is whole (rule 10.4)
 abbrev pub brokenAt : ℕ → List ℕ → ℕ
-brokenAt a h = cond (leb a 6) 16 (headLength h)
+brokenAt a h = cond (leb a 6) fixedLength (headLength h)
 
 -- an open stream is not yet broken; a closed one has no byte behind the one that broke it (rule 10.4)
 abbrev pub fitting : Verdict → ℕ → List ℕ → Bool

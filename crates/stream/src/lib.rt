@@ -1,10 +1,12 @@
 // Cutting a byte stream into messages: the counters of a peer's unfinished message, whose head is kept in lent memory.
+use header::FIXED_LENGTH;
 use header::Fixed;
 use header::Header;
 use header::Reading;
 ghost use mathlib.Core.Path.{_≡_};
 ghost use Prim.Native.Nat.{_≤_};
 ghost use lib.ListN.{length};
+ghost use Rattle.header.specs.Fixed.{messageLimit};
 ghost use Rattle.stream.specs.Tail.{goodTail, closed};
 ghost use Rattle.stream.specs.Contracts.{tailIn, GoodTail, Open, Advanced};
 ghost use Rattle.stream.specs.Steps.{WholeTail, Resumed, Room, Stored, Begun, InHead, InBody, AtEnd, allTaken};
@@ -48,15 +50,15 @@ impl Stream {
         ensures { λ r. ⌜ Advanced (now (head .entry)) self (now (piece .entry)) r (now (head .exit)) ⌝ }
     {
         let stored = self.stored;
-        if 16 <= stored {
+        if FIXED_LENGTH <= stored {
             return self.after_fixed(head, piece, 0);
         }
-        let used = store(head, stored, 16, piece, 0);
+        let used = store(head, stored, FIXED_LENGTH, piece, 0);
         let next = Stream {
             taken: self.taken + used,
             stored: stored + used,
         };
-        if stored + used < 16 {
+        if stored + used < FIXED_LENGTH {
             return Advance {
                 stream: next,
                 taken: used,
@@ -165,7 +167,7 @@ impl Stream {
 
     // All that is left of the piece is of the body, which it does not end.
     fn take_all(self, piece: &[u8], used: usize, end: usize) -> Advance
-        requires { ⌜ (used ≤ length (now piece)) × (self .taken ≤ 134217728) ⌝ }
+        requires { ⌜ (used ≤ length (now piece)) × (self .taken ≤ messageLimit) ⌝ }
         ensures { λ r. ⌜ r ≡ allTaken self (now (piece .entry)) used end ⌝ }
     {
         Advance {
@@ -184,11 +186,11 @@ impl Stream {
         ensures { λ r. ⌜ r ≡ goodTail (tailIn (now (head .entry)) self) ⌝ }
     {
         let stored = self.stored;
-        if stored < 16 {
+        if stored < FIXED_LENGTH {
             return self.taken == stored;
         }
         match reader::fixed_part(&head[0..stored]) {
-            Fixed::Broken(_) => (self.taken == 16) & (stored == 16),
+            Fixed::Broken(_) => (self.taken == FIXED_LENGTH) & (stored == FIXED_LENGTH),
             Fixed::Sizes(end, message) => {
                 if stored < end {
                     return self.taken == stored;
@@ -224,7 +226,7 @@ impl Stream {
         ensures { λ r. ⌜ r ≡ closed (tailIn (now (head .entry)) self) ⌝ }
     {
         let stored = self.stored;
-        if stored < 16 {
+        if stored < FIXED_LENGTH {
             return false;
         }
         if stored < self.taken {

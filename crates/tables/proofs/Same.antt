@@ -2,15 +2,15 @@
 use mathlib.Core.Bool.{Bool, true, false, _&&_}
 use mathlib.Core.List.{List, [], _∷_, _++_, map}
 use mathlib.Core.Path.{_≡_, refl, sym, ap, ap₂, _∙_}
-use Prim.Native.Nat.{ℕ, zero, suc, _+_, _-_, _*_, _≤_, _<_, min}
+use Prim.Native.Nat.{ℕ, zero, suc, _+_, _-_, _*_, _≤_, min, _<_}
 use native.Mathlib.Omega.{arith}
 use native.Mathlib.Nat.{min-eq-left}
 use native.Mathlib.Decide.{decLe}
 use lib.Dec.{eqb, leb}
-use lib.ListN.{length, getD, take, drop, replicate, length-drop, length-map}
+use lib.ListN.{length, take, drop, replicate, length-drop, length-map}
 use lib.Seq.{drop-drop, length-take-le}
 use borrow.Author.Tests.{eq-eqb, ne-eqb, le-leb, lt-leb}
-use Rattle.wire.specs.Bytes.{allZero, same, pad}
+use Rattle.wire.specs.Bytes.{Below, allZero, same, pad}
 use Rattle.wire.specs.Words.{wordAt, wordBytes}
 use Rattle.wire.specs.declared.Order.the-variants.{Little}
 use Rattle.wire.proofs.Texts.{same-refl, ne-same}
@@ -65,7 +65,7 @@ padded zero (suc n) (x ∷ d) l = ap₂ _&&_ (zero-sym x) (padded zero n d (omeg
 padded (suc k) n (x ∷ d) l = rw (eq-eqb x x refl) (padded k n d (omega arith))
 
 -- a number's own bytes are no matter
-pub same-word : (b q : List ℕ) → 4 ≤ length b → ((i : ℕ) → getD b i 0 < 256) → same (wordBytes (wordAt Little b 0) ++ q) b ≡ same q (drop 4 b)
+pub same-word : (b q : List ℕ) → 4 ≤ length b → Below 256 b → same (wordBytes (wordAt Little b 0) ++ q) b ≡ same q (drop 4 b)
 same-word b q h f =
     let p = wordBytes (wordAt Little b 0) in
     ap (same (p ++ q)) (word-cut b h f) ∙ same-prefix p q (drop 4 b)
@@ -92,7 +92,7 @@ module _ {A : Type 0} (w : ℕ) (enc : A → List ℕ) (sized : (x : A) → leng
       (ap (λ (b : Bool). same x (take w d) && b) (cells-same n k (drop w d) (omega arith) f))
 
   -- the count is in bounds
-  table-within : (k : ℕ) (b : List ℕ) (n : ℕ) → length b ≡ 4 + w * k → ((i : ℕ) → getD b i 0 < 256) → n ≡ wordAt Little b 0 → n ≤ k
+  table-within : (k : ℕ) (b : List ℕ) (n : ℕ) → length b ≡ 4 + w * k → Below 256 b → n ≡ wordAt Little b 0 → n ≤ k
       → same (tableBytes w k enc (tableOf w k dec b)) b ≡ plainCells enc dec w n (drop 4 b)
   unfolding tableBytes tableOf
   table-within k b n l f e h =
@@ -118,7 +118,7 @@ module _ {A : Type 0} (w : ℕ) (enc : A → List ℕ) (sized : (x : A) → leng
       (λ q. let r : length xs ≡ wordAt Little b 0 = sym c ∙ ap (λ (z : List ℕ). wordAt Little z 0) q in omega arith)
 
   -- bytes of a table's length are those of the table read off them
-  pub table-same : (k : ℕ) (b : List ℕ) (n : ℕ) → k < 4294967296 → length b ≡ 4 + w * k → ((i : ℕ) → getD b i 0 < 256) → n ≡ wordAt Little b 0
+  pub table-same : (k : ℕ) (b : List ℕ) (n : ℕ) → k < 4294967296 → length b ≡ 4 + w * k → Below 256 b → n ≡ wordAt Little b 0
       → same (tableBytes w k enc (tableOf w k dec b)) b ≡ leb n k && plainCells enc dec w n (drop 4 b)
   table-same k b n s l f e = elim (decLe n k) [
     | yes h ↦ rw (le-leb n k h) (table-within k b n l f e h)
@@ -140,8 +140,8 @@ module _ {A : Type 0} (w : ℕ) (enc : A → List ℕ) (sized : (x : A) → leng
   plain-end n j d h = let e : n - j ≡ 0 = omega arith in rw e
 
   -- where any cell is plain, the zeros alone are left to test
-  pub plain-always : ((b : List ℕ) → length b ≡ w → ((i : ℕ) → getD b i 0 < 256) → enc (dec b) ≡ b)
-      → (n : ℕ) (d : List ℕ) → w * n ≤ length d → ((i : ℕ) → getD d i 0 < 256) → plainCells enc dec w n d ≡ allZero (drop (w * n) d)
+  pub plain-always : ((b : List ℕ) → length b ≡ w → Below 256 b → enc (dec b) ≡ b)
+      → (n : ℕ) (d : List ℕ) → w * n ≤ length d → Below 256 d → plainCells enc dec w n d ≡ allZero (drop (w * n) d)
   unfolding plainCells
   plain-always always zero d l f = let e : w * 0 ≡ 0 = omega arith in rw e
   plain-always always (suc n) d l f =

@@ -7,24 +7,18 @@ use native.Mathlib.Omega.{arith}
 use lib.Dec.{eqb}
 use lib.ListN.{length, take, drop, getD, length-take, length-drop}
 use lib.Seq.{take-add, drop-drop}
-use mir.Syntax.{w8}
-use mir.Val.{Fits}
 use borrow.Author.Needs.{needs}
 use borrow.Author.Tests.{eq-eqb, eqb-true}
 use Rattle.wire.specs.Bytes.{allZero, same}
 use Rattle.wire.specs.Words.{joined, wordAt, wordBytes, longAt}
 use Rattle.wire.specs.declared.Order.the-variants.{Little}
 use Rattle.wire.proofs.Texts.{agree, both-first, both-second, zero-append, zero-zeros, same-append, same-eq, eq-same}
-use Rattle.wire.proofs.Words.{four-at, bytes-again, word-below}
-
--- each element is a byte, as the borrow checker says it of a slice
-abbrev Bytes : List ℕ → Type 0
-Bytes s = (i : ℕ) → Fits w8 (getD s i 0)
+use Rattle.wire.proofs.Words.{Octets, octets-below, four-at, bytes-again, word-below}
 
 -- ---- eight bytes are four and four
 
-small : (s : List ℕ) (at : ℕ) → Bytes s → wordAt Little s at < 4294967296
-small s at b = word-below Little s at (λ i. b i .fits)
+small : (s : List ℕ) (at : ℕ) → Octets s → wordAt Little s at < 4294967296
+small s at b = word-below Little s at (octets-below s b)
 
 same-two : (v w m n : ℕ) → v < 4294967296 → m < 4294967296 → eqb (v + 4294967296 * w) (m + 4294967296 * n) ≡ eqb v m && eqb w n
 same-two v w m n h k = agree (eqb (v + 4294967296 * w) (m + 4294967296 * n)) (eqb v m && eqb w n) there back
@@ -68,7 +62,7 @@ pub zero-word : (s : List ℕ) (at : ℕ) → at + 4 ≤ length s → eqb (wordA
 unfolding wordAt
 zero-word s at h = rw (four-at s at h) (zero-four (getD s at 0) (getD s (at + 1) 0) (getD s (at + 2) 0) (getD s (at + 3) 0))
 
-pub zero-long : (s : List ℕ) (at : ℕ) → Bytes s → at + 8 ≤ length s → eqb (longAt s at) 0 ≡ allZero (take 8 (drop at s))
+pub zero-long : (s : List ℕ) (at : ℕ) → Octets s → at + 8 ≤ length s → eqb (longAt s at) 0 ≡ allZero (take 8 (drop at s))
 zero-long s at b h =
     same-two (wordAt Little s at) (wordAt Little s (at + 4)) 0 0 (small s at b) (omega arith)
     ∙ ap₂ _&&_ (zero-word s at (omega arith)) (zero-word s (at + 4) (omega arith))
@@ -77,7 +71,7 @@ zero-long s at b h =
 -- ---- equal
 
 -- the bytes of a list of four
-bytes-of : (s : List ℕ) (at : ℕ) → Bytes s → (i : ℕ) → getD (getD s at 0 ∷ getD s (at + 1) 0 ∷ getD s (at + 2) 0 ∷ getD s (at + 3) 0 ∷ []) i 0 < 256
+bytes-of : (s : List ℕ) (at : ℕ) → Octets s → (i : ℕ) → getD (getD s at 0 ∷ getD s (at + 1) 0 ∷ getD s (at + 2) 0 ∷ getD s (at + 3) 0 ∷ []) i 0 < 256
 bytes-of s at b zero = b at .fits
 bytes-of s at b (suc zero) = b (at + 1) .fits
 bytes-of s at b (suc (suc zero)) = b (at + 2) .fits
@@ -85,7 +79,7 @@ bytes-of s at b (suc (suc (suc zero))) = b (at + 3) .fits
 bytes-of s at b (suc (suc (suc (suc i)))) = omega arith
 
 -- four bytes are those of their number
-again : (s : List ℕ) (at : ℕ) → Bytes s → at + 4 ≤ length s → wordBytes (wordAt Little s at) ≡ take 4 (drop at s)
+again : (s : List ℕ) (at : ℕ) → Octets s → at + 4 ≤ length s → wordBytes (wordAt Little s at) ≡ take 4 (drop at s)
 unfolding wordAt
 again s at b h =
     rw (four-at s at h)
@@ -99,7 +93,7 @@ numbered : (s : List ℕ) (at : ℕ) → at + 4 ≤ length s → number (take 4 
 unfolding wordAt number
 numbered s at h = rw (four-at s at h)
 
-module _ (x y : List ℕ) (at : ℕ) (b : Bytes x) (c : Bytes y) where
+module _ (x y : List ℕ) (at : ℕ) (b : Octets x) (c : Octets y) where
   pub same-word : at + 4 ≤ length x → at + 4 ≤ length y
       → eqb (wordAt Little x at) (wordAt Little y at) ≡ same (take 4 (drop at x)) (take 4 (drop at y))
   same-word h k =
@@ -109,7 +103,7 @@ module _ (x y : List ℕ) (at : ℕ) (b : Bytes x) (c : Bytes y) where
       (λ e. eq-eqb (wordAt Little x at) (wordAt Little y at)
       (sym (numbered x at h) ∙ ap number (same-eq (take 4 (drop at x)) (take 4 (drop at y)) e) ∙ numbered y at k))
 
-module _ (x y : List ℕ) (at : ℕ) (b : Bytes x) (c : Bytes y) where
+module _ (x y : List ℕ) (at : ℕ) (b : Octets x) (c : Octets y) where
   pub same-long : at + 8 ≤ length x → at + 8 ≤ length y → eqb (longAt x at) (longAt y at) ≡ same (take 8 (drop at x)) (take 8 (drop at y))
   same-long h k =
       same-two (wordAt Little x at) (wordAt Little x (at + 4)) (wordAt Little y at) (wordAt Little y (at + 4)) (small x at b) (small y at c)
@@ -126,15 +120,15 @@ module _ (s : List ℕ) (at n : ℕ) where
   pub zero-load : n ≡ wordAt Little s at → at + 4 ≤ length s → eqb n 0 ≡ allZero (take 4 (drop at s))
   zero-load e h = rw e (zero-word s at h)
 
-  pub zero-load-long : n ≡ longAt s at → Bytes s → at + 8 ≤ length s → eqb n 0 ≡ allZero (take 8 (drop at s))
+  pub zero-load-long : n ≡ longAt s at → Octets s → at + 8 ≤ length s → eqb n 0 ≡ allZero (take 8 (drop at s))
   zero-load-long e b h = rw e (zero-long s at b h)
 
 module _ (x y : List ℕ) (at n m : ℕ) where
-  pub same-load : n ≡ wordAt Little x at → m ≡ wordAt Little y at → Bytes x → Bytes y → at + 4 ≤ length x → at + 4 ≤ length y
+  pub same-load : n ≡ wordAt Little x at → m ≡ wordAt Little y at → Octets x → Octets y → at + 4 ≤ length x → at + 4 ≤ length y
       → eqb n m ≡ same (take 4 (drop at x)) (take 4 (drop at y))
   same-load e f b c h k = rw (e, f) (same-word x y at b c h k)
 
-  pub same-load-long : n ≡ longAt x at → m ≡ longAt y at → Bytes x → Bytes y → at + 8 ≤ length x → at + 8 ≤ length y
+  pub same-load-long : n ≡ longAt x at → m ≡ longAt y at → Octets x → Octets y → at + 8 ≤ length x → at + 8 ≤ length y
       → eqb n m ≡ same (take 8 (drop at x)) (take 8 (drop at y))
   same-load-long e f b c h k = rw (e, f) (same-long x y at b c h k)
 

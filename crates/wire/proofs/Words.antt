@@ -6,10 +6,20 @@ use native.Mathlib.Omega.{arith}
 use native.Mathlib.Nat.{add-sub-cancel-left}
 use lib.ListN.{length, take, drop, set, getD, length-drop}
 use lib.Seq.{sets-eq, drop-drop, getD-drop, getD-take, take-all}
+use mir.Syntax.{w8}
+use mir.Val.{Fits}
+use Rattle.wire.specs.Bytes.{Below}
 use Rattle.wire.proofs.From.{next}
 use Rattle.wire.specs.Words.{wordAt, wordBytes}
 use Rattle.wire.specs.declared.Order.{Order}
 use Rattle.wire.specs.declared.Order.the-variants.{Little, Big}
+
+-- each number is a byte, as the borrow checker says it of a slice
+abbrev pub Octets : List ℕ → Type 0
+Octets s = (i : ℕ) → Fits w8 (getD s i 0)
+
+pub octets-below : (s : List ℕ) → Octets s → Below 256 s
+octets-below s f i = f i .fits
 
 pub word-length : (n : ℕ) → length (wordBytes n) ≡ 4
 unfolding wordBytes
@@ -21,7 +31,7 @@ unfolding wordAt wordBytes
 word-again n s h = omega arith
 
 -- four bytes are those of their number
-pub bytes-again : (b : List ℕ) → length b ≡ 4 → ((i : ℕ) → getD b i 0 < 256) → wordBytes (wordAt Little b 0) ≡ b
+pub bytes-again : (b : List ℕ) → length b ≡ 4 → Below 256 b → wordBytes (wordAt Little b 0) ≡ b
 unfolding wordAt wordBytes
 bytes-again [] e h = absurd (omega arith)
 bytes-again (a ∷ []) e h = absurd (omega arith)
@@ -63,7 +73,7 @@ word-take o n s at h =
     (getD-take n s (at + 3) 0 (omega arith))
 
 -- bytes make a number below 2 ^ 32
-pub word-below : (o : Order) (s : List ℕ) (at : ℕ) → ((i : ℕ) → getD s i 0 < 256) → wordAt o s at < 4294967296
+pub word-below : (o : Order) (s : List ℕ) (at : ℕ) → Below 256 s → wordAt o s at < 4294967296
 unfolding wordAt
 word-below Little s at b = omega (arith, b at, b (at + 1), b (at + 2), b (at + 3))
 word-below Big s at b = omega (arith, b at, b (at + 1), b (at + 2), b (at + 3))

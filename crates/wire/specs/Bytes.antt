@@ -1,7 +1,7 @@
 -- Texts as bytes, and tests of runs of bytes.
 use mathlib.Core.Bool.{Bool, true, false, _&&_, _||_}
 use mathlib.Core.List.{List, [], _∷_, _++_}
-use Prim.Native.Nat.{ℕ}
+use Prim.Native.Nat.{ℕ, _<_}
 use Prim.Native.Char.{Char, code}
 use Prim.Native.String.{String, [] as none, _∷_ as _then_}
 use lib.Dec.{leb, eqb}
@@ -26,6 +26,10 @@ oneOf already (c then s) b = oneOf (already || eqb b (code c)) s b
 -- the byte in front, 0 where there is none
 abbrev pub front : List ℕ → ℕ
 front s = getD s 0 0
+
+-- each number of the list is below k, as those of a slice of bytes are below 256
+abbrev pub Below : ℕ → List ℕ → Type 0
+Below k s = (i : ℕ) → getD s i 0 < k
 
 -- each byte is zero
 unfoldable pub allZero : List ℕ → Bool

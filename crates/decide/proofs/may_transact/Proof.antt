@@ -2,6 +2,7 @@
 -- and place reached. That of the loop over names: the rule matches if its name is among the names from cell `j` on.
 use Prim.Native.Nat.{_-_, _/_}
 use lib.ListN.{length}
+use Rattle.policy.specs.Names.{nameWidth}
 use Rattle.decide.proofs.Transactions.{Deciding, Naming, deciding, decide-place, decide-named, decide-any, naming-more, naming-here}
 use Rattle.decide.proofs.may_transact.Statement.{statement}
 use Rattle.decide.proofs.may_transact.Tie as tie
@@ -11,7 +12,7 @@ Inv-loop2 image direction uid gids names head header base end context at name j�
     Naming image direction uid gids names head header base end context at name j
 
 abbrev μ-loop2 : tie.MeasureT-loop2
-μ-loop2 image direction uid gids names head header base end context at name j₀ j = length names / 256 - j
+μ-loop2 image direction uid gids names head header base end context at name j₀ j = length names / nameWidth - j
 
 abbrev Inv-loop : tie.InvT-loop
 Inv-loop image direction uid gids names head header base end context at₀ at = Deciding image direction uid gids names head header base end context at

@@ -1,5 +1,5 @@
 -- `policy::bus_cell` meets its contract: behind the length stands the name that is copied, and then zeros.
-use mathlib.Core.Path.{_≡_, refl}
+use mathlib.Core.Path.{_≡_}
 use mathlib.Core.List.{List, _∷_, _++_}
 use Prim.Native.Nat.{ℕ}
 use lib.ListN.{replicate}
