@@ -2,6 +2,7 @@
 use crate::ALLOW;
 use crate::lines;
 use crate::messages;
+use memory::MEMORY_LENGTH;
 use rules::Judgement;
 use rules::Receiver;
 use rules::Taken;
@@ -22,18 +23,18 @@ pub fn mark(j: Judgement) -> u64 {
     }
 }
 
-pub fn offer(memory: &mut [u8; 52676], bytes: &[u8]) -> Taken {
+pub fn offer(memory: &mut [u8; MEMORY_LENGTH], bytes: &[u8]) -> Taken {
     guard::piece(&ALLOW, memory, 1, bytes)
 }
 
-pub fn is_same(a: &[u8; 52676], b: &[u8; 52676]) -> bool {
+pub fn is_same(a: &[u8; MEMORY_LENGTH], b: &[u8; MEMORY_LENGTH]) -> bool {
     wire::equal(a, b)
 }
 
 // The bytes cut at c: the first part is used up, the second brings the judgement and leaves the memory that the whole left.
 pub fn is_cut_same(
-    before: &[u8; 52676],
-    after: &[u8; 52676],
+    before: &[u8; MEMORY_LENGTH],
+    after: &[u8; MEMORY_LENGTH],
     judged: u64,
     bytes: &[u8],
     c: usize,
@@ -54,7 +55,12 @@ pub fn is_cut_same(
         & is_same(&memory, after)
 }
 
-pub fn count_cuts(before: &[u8; 52676], after: &[u8; 52676], judged: u64, bytes: &[u8]) -> usize {
+pub fn count_cuts(
+    before: &[u8; MEMORY_LENGTH],
+    after: &[u8; MEMORY_LENGTH],
+    judged: u64,
+    bytes: &[u8],
+) -> usize {
     let mut count = 0;
     let mut c = 0;
     while c < bytes.len() {
@@ -65,7 +71,7 @@ pub fn count_cuts(before: &[u8; 52676], after: &[u8; 52676], judged: u64, bytes:
 }
 
 // Byte by byte: the last judgement.
-pub fn bytewise(memory: &mut [u8; 52676], bytes: &[u8]) -> u64 {
+pub fn bytewise(memory: &mut [u8; MEMORY_LENGTH], bytes: &[u8]) -> u64 {
     let mut last = 10;
     let mut c = 0;
     while c < bytes.len() {
@@ -79,7 +85,7 @@ pub fn bytewise(memory: &mut [u8; 52676], bytes: &[u8]) -> u64 {
 }
 
 // The bytes up to the one that decides, cut at each of their places.
-pub fn cut(before: &[u8; 52676], label: &[u8], bytes: &[u8]) {
+pub fn cut(before: &[u8; MEMORY_LENGTH], label: &[u8], bytes: &[u8]) {
     let mut after = *before;
     let t = offer(&mut after, bytes);
     let n = wire::least(t.taken, bytes.len());
@@ -101,26 +107,26 @@ pub fn cut(before: &[u8; 52676], label: &[u8], bytes: &[u8]) {
 }
 
 // A message in both byte orders.
-pub fn cut_both(memory: &[u8; 52676], label: &[u8], little: &[u8], big: &[u8]) {
+pub fn cut_both(memory: &[u8; MEMORY_LENGTH], label: &[u8], little: &[u8], big: &[u8]) {
     let mut after = *memory;
     lines::piece(&ALLOW, &mut after, label, 1, little);
     cut(memory, b"little-endian", little);
     cut(memory, b"big-endian", big);
 }
 
-pub fn cut_call(memory: &[u8; 52676], label: &[u8], serial: u32, to: &[u8]) {
+pub fn cut_call(memory: &[u8; MEMORY_LENGTH], label: &[u8], serial: u32, to: &[u8]) {
     let a = messages::call_to(false, 0, serial, to);
     let b = messages::call_to(true, 0, serial, to);
     cut_both(memory, label, &a, &b);
 }
 
-pub fn cut_return(memory: &[u8; 52676], label: &[u8], serial: u32) {
+pub fn cut_return(memory: &[u8; MEMORY_LENGTH], label: &[u8], serial: u32) {
     let a = messages::return_to(false, serial, b":1.2");
     let b = messages::return_to(true, serial, b":1.2");
     cut_both(memory, label, &a, &b);
 }
 
-pub fn cut_others(memory: &[u8; 52676]) {
+pub fn cut_others(memory: &[u8; MEMORY_LENGTH]) {
     cut_both(
         memory,
         b"call to the bus",
@@ -153,7 +159,7 @@ pub fn cut_others(memory: &[u8; 52676]) {
     );
 }
 
-pub fn cuts(memory: &mut [u8; 52676]) {
+pub fn cuts(memory: &mut [u8; MEMORY_LENGTH]) {
     lines::start(memory, b"cuts at every byte");
     crate::peers(&ALLOW, memory, 2);
     lines::call(&ALLOW, memory, b"call to :1.1", 2, 5, b":1.1");

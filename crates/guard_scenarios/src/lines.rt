@@ -1,5 +1,6 @@
 // The guard's calls, each with the line that it comes to.
 use crate::messages;
+use memory::MEMORY_LENGTH;
 use rules::Receiver;
 use rules::Taken;
 
@@ -43,14 +44,14 @@ pub fn taken(t: Taken) {
     number(b", taken ", t.taken as u64);
 }
 
-pub fn start(memory: &mut [u8; 52676], title: &[u8]) {
+pub fn start(memory: &mut [u8; MEMORY_LENGTH], title: &[u8]) {
     io::write_all(1, b"-- ");
     io::write_all(1, title);
     number(b": ", guard::start(memory) as u64);
     io::write_all(1, b"\n");
 }
 
-pub fn connect(image: &[u8], memory: &mut [u8; 52676], uid: u32, gids: &[u32]) {
+pub fn connect(image: &[u8], memory: &mut [u8; MEMORY_LENGTH], uid: u32, gids: &[u32]) {
     let before = *memory;
     let c = guard::connect(image, memory, uid, gids);
     number(b"connect: ", c.answer as u64);
@@ -59,7 +60,7 @@ pub fn connect(image: &[u8], memory: &mut [u8; 52676], uid: u32, gids: &[u32]) {
     end(&before, memory);
 }
 
-pub fn own(image: &[u8], memory: &mut [u8; 52676], peer: u32, name: &[u8]) {
+pub fn own(image: &[u8], memory: &mut [u8; MEMORY_LENGTH], peer: u32, name: &[u8]) {
     let before = *memory;
     number(b"own ", peer as u64);
     io::write_all(1, b" ");
@@ -68,7 +69,7 @@ pub fn own(image: &[u8], memory: &mut [u8; 52676], peer: u32, name: &[u8]) {
     end(&before, memory);
 }
 
-pub fn release(memory: &mut [u8; 52676], peer: u32, name: &[u8]) {
+pub fn release(memory: &mut [u8; MEMORY_LENGTH], peer: u32, name: &[u8]) {
     let before = *memory;
     number(b"release ", peer as u64);
     io::write_all(1, b" ");
@@ -77,7 +78,7 @@ pub fn release(memory: &mut [u8; 52676], peer: u32, name: &[u8]) {
     end(&before, memory);
 }
 
-pub fn disconnect(memory: &mut [u8; 52676], peer: u32) {
+pub fn disconnect(memory: &mut [u8; MEMORY_LENGTH], peer: u32) {
     let before = *memory;
     number(b"disconnect ", peer as u64);
     let g = guard::disconnect(memory, peer);
@@ -86,7 +87,13 @@ pub fn disconnect(memory: &mut [u8; 52676], peer: u32) {
     end(&before, memory);
 }
 
-pub fn piece(image: &[u8], memory: &mut [u8; 52676], label: &[u8], peer: u32, bytes: &[u8]) {
+pub fn piece(
+    image: &[u8],
+    memory: &mut [u8; MEMORY_LENGTH],
+    label: &[u8],
+    peer: u32,
+    bytes: &[u8],
+) {
     let before = *memory;
     number(b"piece ", peer as u64);
     io::write_all(1, b" ");
@@ -97,7 +104,7 @@ pub fn piece(image: &[u8], memory: &mut [u8; 52676], label: &[u8], peer: u32, by
 
 pub fn call(
     image: &[u8],
-    memory: &mut [u8; 52676],
+    memory: &mut [u8; MEMORY_LENGTH],
     label: &[u8],
     peer: u32,
     serial: u32,
@@ -107,14 +114,14 @@ pub fn call(
     piece(image, memory, label, peer, &m);
 }
 
-pub fn call_bus(image: &[u8], memory: &mut [u8; 52676], peer: u32, serial: u32) {
+pub fn call_bus(image: &[u8], memory: &mut [u8; MEMORY_LENGTH], peer: u32, serial: u32) {
     let m = messages::call_to_bus(false, serial);
     piece(image, memory, b"call to the bus", peer, &m);
 }
 
 pub fn give(
     image: &[u8],
-    memory: &mut [u8; 52676],
+    memory: &mut [u8; MEMORY_LENGTH],
     label: &[u8],
     peer: u32,
     serial: u32,
@@ -124,7 +131,7 @@ pub fn give(
     piece(image, memory, label, peer, &m);
 }
 
-pub fn signal(image: &[u8], memory: &mut [u8; 52676], peer: u32) {
+pub fn signal(image: &[u8], memory: &mut [u8; MEMORY_LENGTH], peer: u32) {
     let m = messages::signal_to_all(false);
     piece(image, memory, b"signal to all", peer, &m);
 }

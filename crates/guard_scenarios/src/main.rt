@@ -3,6 +3,7 @@ mod cuts;
 mod lines;
 mod messages;
 
+use memory::MEMORY_LENGTH;
 use rules::Taken;
 ghost use mathlib.Core.Path.{_≡_};
 ghost use Prim.Native.Nat.{_<_};
@@ -15,7 +16,7 @@ pub const ALLOW: [u8; 136] =
 // ---- scenarios
 
 // So many peers connect, with the uids 1, 2, 3 and on.
-fn peers(image: &[u8], memory: &mut [u8; 52676], n: u32) {
+fn peers(image: &[u8], memory: &mut [u8; MEMORY_LENGTH], n: u32) {
     let mut i: u32 = 0;
     while i < n {
         lines::connect(image, memory, i + 1, &[]);
@@ -23,7 +24,7 @@ fn peers(image: &[u8], memory: &mut [u8; 52676], n: u32) {
     }
 }
 
-fn full(memory: &mut [u8; 52676]) {
+fn full(memory: &mut [u8; MEMORY_LENGTH]) {
     lines::start(memory, b"17 peers");
     peers(&ALLOW, memory, 17);
     lines::signal(&ALLOW, memory, 16);
@@ -34,7 +35,7 @@ fn full(memory: &mut [u8; 52676]) {
     lines::disconnect(memory, 18);
 }
 
-fn names(memory: &mut [u8; 52676]) {
+fn names(memory: &mut [u8; MEMORY_LENGTH]) {
     lines::start(memory, b"5 names");
     peers(&ALLOW, memory, 2);
     lines::own(&ALLOW, memory, 1, b"n.a");
@@ -54,14 +55,14 @@ fn names(memory: &mut [u8; 52676]) {
     lines::own(&ALLOW, memory, 2, b"n.b");
 }
 
-fn gids(memory: &mut [u8; 52676]) {
+fn gids(memory: &mut [u8; MEMORY_LENGTH]) {
     let list = [7u32; 17];
     lines::start(memory, b"17 gids");
     lines::connect(&ALLOW, memory, 1, &list);
     lines::connect(&ALLOW, memory, 1, &list[0..16]);
 }
 
-fn replies(memory: &mut [u8; 52676]) {
+fn replies(memory: &mut [u8; MEMORY_LENGTH]) {
     lines::start(memory, b"second reply");
     peers(&ALLOW, memory, 3);
     lines::call(&ALLOW, memory, b"call to :1.2", 1, 5, b":1.2");
@@ -74,7 +75,7 @@ fn replies(memory: &mut [u8; 52676]) {
 }
 
 // Calls of peer 1 to peer 2 with the serials 1 to 16.
-fn sixteen(memory: &mut [u8; 52676]) {
+fn sixteen(memory: &mut [u8; MEMORY_LENGTH]) {
     let mut i: u32 = 0;
     while i < 16 {
         lines::call(&ALLOW, memory, b"call to :1.2", 1, i + 1, b":1.2");
@@ -82,7 +83,7 @@ fn sixteen(memory: &mut [u8; 52676]) {
     }
 }
 
-fn pending(memory: &mut [u8; 52676]) {
+fn pending(memory: &mut [u8; MEMORY_LENGTH]) {
     lines::start(memory, b"17 pending calls");
     peers(&ALLOW, memory, 2);
     sixteen(memory);
@@ -100,7 +101,7 @@ fn pending(memory: &mut [u8; 52676]) {
     lines::call(&ALLOW, memory, b"the 17th", 1, 17, b":1.2");
 }
 
-fn gone(memory: &mut [u8; 52676]) {
+fn gone(memory: &mut [u8; MEMORY_LENGTH]) {
     lines::start(memory, b"the callee goes");
     peers(&ALLOW, memory, 2);
     sixteen(memory);
@@ -126,7 +127,7 @@ fn gone(memory: &mut [u8; 52676]) {
     lines::call(&ALLOW, memory, b"call to :1.3", 1, 5, b":1.3");
 }
 
-fn zeros(memory: &mut [u8; 52676]) {
+fn zeros(memory: &mut [u8; MEMORY_LENGTH]) {
     lines::start(memory, b"leading zeros");
     peers(&ALLOW, memory, 7);
     lines::call(&ALLOW, memory, b"call to :1.07", 1, 1, b":1.07");
@@ -143,7 +144,7 @@ fn zeros(memory: &mut [u8; 52676]) {
     lines::give(&ALLOW, memory, b"return to :1.1", 7, 1, b":1.1");
 }
 
-fn closed(memory: &mut [u8; 52676]) {
+fn closed(memory: &mut [u8; MEMORY_LENGTH]) {
     let mut bytes = [0u8; 20];
     messages::set(&mut bytes, 0, 76);
     lines::start(memory, b"closed stream");
@@ -168,14 +169,14 @@ fn denying(at: usize) -> [u8; 136]
     image
 }
 
-fn denied_send(memory: &mut [u8; 52676]) {
+fn denied_send(memory: &mut [u8; MEMORY_LENGTH]) {
     let image = denying(57);
     lines::call(&image, memory, b"call to :1.2, send denied", 1, 1, b":1.2");
     lines::call_bus(&image, memory, 1, 1);
     lines::signal(&image, memory, 1);
 }
 
-fn denied_receive(memory: &mut [u8; 52676]) {
+fn denied_receive(memory: &mut [u8; MEMORY_LENGTH]) {
     let image = denying(97);
     lines::call(
         &image,
@@ -190,7 +191,7 @@ fn denied_receive(memory: &mut [u8; 52676]) {
 }
 
 // Images of one byte less.
-fn bad_images(memory: &mut [u8; 52676]) {
+fn bad_images(memory: &mut [u8; MEMORY_LENGTH]) {
     let mut image = [0u8; 135];
     wire::copy(&mut image, &ALLOW[0..135]);
     lines::connect(&image, memory, 1, &[]);
@@ -198,7 +199,7 @@ fn bad_images(memory: &mut [u8; 52676]) {
     lines::signal(&image, memory, 1);
 }
 
-fn denied(memory: &mut [u8; 52676]) {
+fn denied(memory: &mut [u8; MEMORY_LENGTH]) {
     lines::start(memory, b"denied, bad images, no such peer");
     peers(&ALLOW, memory, 2);
     lines::connect(&denying(33), memory, 1, &[]);
@@ -223,7 +224,7 @@ fn counted(count: usize, so: bool) -> usize {
 }
 
 // So many slices of 65,536 bytes: how many are used up, with answer 10.
-fn slices(memory: &mut [u8; 52676], zeros: &[u8], n: u32) -> usize {
+fn slices(memory: &mut [u8; MEMORY_LENGTH], zeros: &[u8], n: u32) -> usize {
     let mut used = 0;
     let mut i: u32 = 0;
     while i < n {
@@ -236,13 +237,13 @@ fn slices(memory: &mut [u8; 52676], zeros: &[u8], n: u32) -> usize {
 }
 
 // The head, of 64 bytes, of a call with this body.
-fn long_call(memory: &mut [u8; 52676], label: &[u8], body: u32) {
+fn long_call(memory: &mut [u8; MEMORY_LENGTH], label: &[u8], body: u32) {
     let mut m = messages::call_to(false, 0, 1, b":1.2");
     messages::put(&mut m, 4, false, body);
     lines::piece(&ALLOW, memory, label, 1, &m[0..64]);
 }
 
-fn longest(memory: &mut [u8; 52676]) {
+fn longest(memory: &mut [u8; MEMORY_LENGTH]) {
     let zeros = [0u8; 65536];
     lines::start(memory, b"134,217,728 bytes");
     peers(&ALLOW, memory, 2);
@@ -257,7 +258,7 @@ fn longest(memory: &mut [u8; 52676]) {
 }
 
 fn main() {
-    let mut memory = [255u8; 52676];
+    let mut memory = [255u8; MEMORY_LENGTH];
     full(&mut memory);
     names(&mut memory);
     gids(&mut memory);

@@ -1,6 +1,8 @@
 // Memory that is not good: each rule of good memory broken once at each place where it can be. The five calls that test memory all answer 51 and change
 // nothing; the first lines are memory that stays good.
+use memory::MEMORY_LENGTH;
 ghost use Prim.Native.Nat.{_≤_};
+ghost use Rattle.memory.specs.Layout.{memoryLength};
 
 // One default allow of anything for connect, own, send and receive.
 const ALLOW: [u8; 136] =
@@ -10,13 +12,13 @@ const ALLOW: [u8; 136] =
 const CALL: [u8; 67] =
     *b"l\x01\0\x01\x03\0\0\0\x01\0\0\0*\0\0\0\x06\x01s\0\x04\0\0\0:1.2\0\0\0\0\x01\x01o\0\x01\0\0\0/\0\0\0\0\0\0\0\x03\x01s\0\x01\0\0\0M\0\0\0\0\0\0\0\0\0\0";
 
-fn set(memory: &mut [u8; 52676], at: usize, x: u8) {
-    if at < 52676 {
+fn set(memory: &mut [u8; MEMORY_LENGTH], at: usize, x: u8) {
+    if at < MEMORY_LENGTH {
         memory[at] = x;
     }
 }
 
-fn put(memory: &mut [u8; 52676], at: usize, x: u32) {
+fn put(memory: &mut [u8; MEMORY_LENGTH], at: usize, x: u32) {
     if at < 52673 {
         wire::put_u32(memory, at, x);
     }
@@ -47,7 +49,7 @@ fn is_disconnect_refused(memory: &mut [u8]) -> bool {
 }
 
 // Each of the five calls answers 51.
-fn are_refused(memory: &mut [u8; 52676]) -> bool {
+fn are_refused(memory: &mut [u8; MEMORY_LENGTH]) -> bool {
     let connect = is_connect_refused(memory);
     let own = is_own_refused(memory);
     let release = is_release_refused(memory);
@@ -56,12 +58,12 @@ fn are_refused(memory: &mut [u8; 52676]) -> bool {
     connect & own & release & piece & disconnect
 }
 
-fn is_same(a: &[u8; 52676], b: &[u8; 52676]) -> bool {
+fn is_same(a: &[u8; MEMORY_LENGTH], b: &[u8; MEMORY_LENGTH]) -> bool {
     wire::equal(a, b)
 }
 
 // Each of them answers 51, and no byte changes.
-fn is_refused(memory: &[u8; 52676]) -> bool {
+fn is_refused(memory: &[u8; MEMORY_LENGTH]) -> bool {
     let mut after = *memory;
     let refused = are_refused(&mut after);
     refused & is_same(memory, &after)
@@ -77,19 +79,19 @@ fn line(label: &[u8], refused: bool) {
 }
 
 // The memory with another byte, or with another word.
-fn byte(memory: &[u8; 52676], label: &[u8], at: usize, x: u8) {
+fn byte(memory: &[u8; MEMORY_LENGTH], label: &[u8], at: usize, x: u8) {
     let mut m = *memory;
     set(&mut m, at, x);
     line(label, is_refused(&m));
 }
 
-fn word(memory: &[u8; 52676], label: &[u8], at: usize, x: u32) {
+fn word(memory: &[u8; MEMORY_LENGTH], label: &[u8], at: usize, x: u32) {
     let mut m = *memory;
     put(&mut m, at, x);
     line(label, is_refused(&m));
 }
 
-fn is_refused_with(memory: &[u8; 52676], at: usize) -> bool {
+fn is_refused_with(memory: &[u8; MEMORY_LENGTH], at: usize) -> bool {
     let mut m = *memory;
     set(&mut m, at, 1);
     is_refused(&m)
@@ -106,8 +108,8 @@ fn counted(count: usize, so: bool) -> usize {
 }
 
 // Each byte from `from` up to `to` is 1, one at a time: how many are refused.
-fn count(memory: &[u8; 52676], from: usize, to: usize) -> usize
-    requires { ⌜ (from ≤ to) × (to ≤ 52676) ⌝ }
+fn count(memory: &[u8; MEMORY_LENGTH], from: usize, to: usize) -> usize
+    requires { ⌜ (from ≤ to) × (to ≤ memoryLength) ⌝ }
 {
     let mut refused = 0;
     let mut i = from;
@@ -118,8 +120,8 @@ fn count(memory: &[u8; 52676], from: usize, to: usize) -> usize
     refused
 }
 
-fn sweep(memory: &[u8; 52676], label: &[u8], from: usize, to: usize)
-    requires { ⌜ (from ≤ to) × (to ≤ 52676) ⌝ }
+fn sweep(memory: &[u8; MEMORY_LENGTH], label: &[u8], from: usize, to: usize)
+    requires { ⌜ (from ≤ to) × (to ≤ memoryLength) ⌝ }
 {
     let refused = count(memory, from, to);
     io::write_all(1, label);
@@ -130,20 +132,20 @@ fn sweep(memory: &[u8; 52676], label: &[u8], from: usize, to: usize)
     io::write_all(1, b" bytes\n");
 }
 
-fn connect(memory: &mut [u8; 52676], gids: &[u32]) {
+fn connect(memory: &mut [u8; MEMORY_LENGTH], gids: &[u32]) {
     guard::connect(&ALLOW, memory, 7, gids);
 }
 
-fn piece(memory: &mut [u8; 52676], peer: u32, bytes: &[u8]) {
+fn piece(memory: &mut [u8; MEMORY_LENGTH], peer: u32, bytes: &[u8]) {
     guard::piece(&ALLOW, memory, peer, bytes);
 }
 
-fn own(memory: &mut [u8; 52676], peer: u32, name: &[u8]) {
+fn own(memory: &mut [u8; MEMORY_LENGTH], peer: u32, name: &[u8]) {
     guard::own(&ALLOW, memory, peer, name);
 }
 
 // Peer 1 in slot 0 has two gids, two names, two pending calls (to peers 2 and 4, both of serial 1) and 20 bytes of a message.
-fn first(memory: &mut [u8; 52676]) {
+fn first(memory: &mut [u8; MEMORY_LENGTH]) {
     let mut to_4 = CALL;
     to_4[27] = b'4';
     own(memory, 1, b"a.b");
@@ -154,7 +156,7 @@ fn first(memory: &mut [u8; 52676]) {
 }
 
 // Peer 2 in slot 1 has a name and a broken head, peer 4 in slot 3 all of a message but 2 bytes. Slot 2 and those from 4 on are free.
-fn make(memory: &mut [u8; 52676]) {
+fn make(memory: &mut [u8; MEMORY_LENGTH]) {
     guard::start(memory);
     connect(memory, &[5, 6]);
     connect(memory, &[]);
@@ -167,7 +169,7 @@ fn make(memory: &mut [u8; 52676]) {
     piece(memory, 4, &CALL[0..65]);
 }
 
-fn kept(m: &[u8; 52676]) {
+fn kept(m: &[u8; MEMORY_LENGTH]) {
     word(m, b"last number 5", 0, 5);
     word(m, b"another uid", 8, 4294967295);
     word(m, b"another gid", 16, 0);
@@ -177,7 +179,7 @@ fn kept(m: &[u8; 52676]) {
     word(m, b"one byte more of a body", 11116, 66);
 }
 
-fn numbers(m: &[u8; 52676]) {
+fn numbers(m: &[u8; MEMORY_LENGTH]) {
     word(m, b"last number 3", 0, 3);
     word(m, b"last number 0", 0, 0);
     word(m, b"number 0 in slot 0", 4, 0);
@@ -190,14 +192,14 @@ fn numbers(m: &[u8; 52676]) {
     word(m, b"number 1 in slot 3", 9880, 1);
 }
 
-fn gids(m: &[u8; 52676]) {
+fn gids(m: &[u8; MEMORY_LENGTH]) {
     word(m, b"17 gids", 12, 17);
     word(m, b"4,294,967,295 gids", 12, 4294967295);
     word(m, b"a gid behind the count", 12, 1);
     sweep(m, b"behind the gids", 24, 80);
 }
 
-fn pending(m: &[u8; 52676]) {
+fn pending(m: &[u8; MEMORY_LENGTH]) {
     word(m, b"17 pending calls", 80, 17);
     word(m, b"4,294,967,295 pending calls", 80, 4294967295);
     word(m, b"a pending call behind the count", 80, 1);
@@ -211,7 +213,7 @@ fn pending(m: &[u8; 52676]) {
     sweep(m, b"behind the pending calls", 100, 212);
 }
 
-fn names(m: &[u8; 52676]) {
+fn names(m: &[u8; MEMORY_LENGTH]) {
     word(m, b"5 names", 212, 5);
     word(m, b"4,294,967,295 names", 212, 4294967295);
     word(m, b"a name behind the count", 212, 1);
@@ -230,7 +232,7 @@ fn names(m: &[u8; 52676]) {
     sweep(m, b"behind the last name", 728, 1240);
 }
 
-fn streams(m: &[u8; 52676]) {
+fn streams(m: &[u8; MEMORY_LENGTH]) {
     word(m, b"no byte taken, 20 kept", 1240, 0);
     word(m, b"19 taken, 20 kept", 1240, 19);
     word(m, b"21 taken, 20 kept", 1240, 21);
@@ -256,14 +258,14 @@ fn streams(m: &[u8; 52676]) {
     sweep(m, b"behind a whole head", 11188, 13172);
 }
 
-fn free(m: &[u8; 52676]) {
+fn free(m: &[u8; MEMORY_LENGTH]) {
     sweep(m, b"free slot 2", 6588, 9880);
     sweep(m, b"free slot 4", 13172, 16464);
-    sweep(m, b"free slot 15", 49384, 52676);
+    sweep(m, b"free slot 15", 49384, MEMORY_LENGTH);
 }
 
 // The bus's name in the place of peer 2's.
-fn bus_name(memory: &[u8; 52676]) {
+fn bus_name(memory: &[u8; MEMORY_LENGTH]) {
     let mut m = *memory;
     set(&mut m, 3508, 20);
     put(&mut m, 3509, 778531439);
@@ -291,7 +293,7 @@ fn longer() {
 }
 
 fn main() {
-    let mut memory = [255u8; 52676];
+    let mut memory = [255u8; MEMORY_LENGTH];
     line(b"before the start", is_refused(&memory));
     make(&mut memory);
     line(b"as the calls left it", is_refused(&memory));

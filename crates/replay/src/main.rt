@@ -7,6 +7,7 @@ mod reader;
 mod writer;
 
 use libc::STDOUT_FILENO;
+use memory::MEMORY_LENGTH;
 use reader::Reader;
 
 // What a replay carries from call to call: the file, and how much of the output's buffer is used.
@@ -244,7 +245,7 @@ fn finish(reader: Reader, buffer: &mut [u8], image: &[u8], memory: &mut [u8], ou
 fn open(fd: i32) {
     let mut buffer = [0u8; 65536];
     let mut image = [0u8; 65537];
-    let mut memory = [0u8; 52676];
+    let mut memory = [0u8; MEMORY_LENGTH];
     let mut out = [0u8; 65536];
     replay(fd, &mut buffer, &mut image, &mut memory, &mut out);
 }
