@@ -82,7 +82,6 @@ module _ (m : List ℕ) (i : ℕ) (l : length m ≡ memoryLength) (h : i < 16) (
 
 -- ---- good memory after a whole message
 
-
 module _ (m : List ℕ) (f : Octets m) (i : ℕ) (s : Seated m i) where
   -- the state in which the message is consumed
   abbrev pub consumed : State Tail

@@ -35,9 +35,7 @@ use Rattle.pieces.proofs.Consumed.{consumed, consumed-again, consumed-p
 
 -- ---- a whole message, once its head is copied and its stream cleared
 
-
 module _ (image m d head : List ℕ) (i : ℕ) (x : Header) (c : Completed image m i x) (h : take (x .head) head ≡ headIn m i (x .head)) (e : d ≡ cleared m i) where
-
   pub judge-ready : JudgedMessage image d i (take (x .head - 0) head) x
   judge-ready =
       rw (sub-zero (x .head), h, e)
@@ -57,7 +55,6 @@ pub ruleset judging = (judge-ready, judge-left, needs)
 -- ---- an offer, by its verdict
 
 module _ (image : List ℕ) (s : State Tail) (i : ℕ) (p : Peer Tail) (o : Offer Tail) where
-
   -- over the state z in which the message is consumed, and its peer q
   pub whole-step : (h : List ℕ) (x : Header) → o .verdict ≡ whole h x → (z : State Tail) (q : Peer Tail) → z ≡ putSlot s i (peer (withStream p fresh))
       → q ≡ withStream p fresh
@@ -104,9 +101,7 @@ pub ruleset offering = (offered-more, offered-broken, offered-ready, offered-who
 
 -- ---- the piece
 
-
 module _ (image m bytes : List ℕ) (f : Octets m) (g : Held m) (n i : ℕ) (d : FoundSlot (isPeer n) m 0 i) (r : Taken) where
-
   pub piece-none : i ≡ 16 → r ≡ noPiece 30 → Did (stored (piece tails image (stateOf m) n bytes)) r m
   unfolding piece
   piece-none e q = did-stay m f g r (piece tails image (stateOf m) n bytes) (rw (peer-none n m i d e, q))

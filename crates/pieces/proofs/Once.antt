@@ -60,7 +60,6 @@ module _ (image m bytes : List ℕ) (f : Octets m) (i : ℕ) (s : Seated m i) (n
     read-is : readHeader bytes ≡ Whole x
     read-is = sym a ∙ b
 
-
     pub once-ready : GoodImage image → JudgedMessage image m i (take (x .head - 0) bytes) x
     once-ready g =
         let w = whole-fits bytes x read-is in
