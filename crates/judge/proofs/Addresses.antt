@@ -78,10 +78,6 @@ module _ (m head : List ℕ) (p : Place) (z : p .at ≡ 0 → ⊥) where
 
       pub resolved-nobody : 16 ≤ j → Resolved m head p Unknown
       unfolding resolve
-      resolved-nobody h =
-          record {
-            is = rw (ne-eqb (p .at) 0 z, text-is, ← q, t, found-first (answersTo text) m j f, sixteen m, le-ltb j 16 h);
-            stands = tt;
-          }
+      resolved-nobody h = record { is = rw (ne-eqb (p .at) 0 z, text-is, ← q, t, found-first (answersTo text) m j f, sixteen m, le-ltb j 16 h); stands = tt }
 
 pub ruleset resolving = (resolved-absent, resolved-bus, resolved-slot, resolved-nobody, needs)

@@ -9,7 +9,7 @@ use Rattle.wire.specs.Words.{wordBytes}
 use Rattle.wire.proofs.Words.{Octets, word-length}
 use Rattle.tables.specs.Cut.{cutOut, Cell, without}
 use Rattle.tables.proofs.Written.{put-joined, part-cell, remove-written}
-use Rattle.memory.specs.Layout.{memoryLength, slotStart, pendingAt, firstCallee, callWidth, callRoom, pendingLength, serialOffset}
+use Rattle.memory.specs.Layout.{slotStart, pendingAt, firstCallee, callWidth, callRoom, pendingLength, serialOffset}
 use Rattle.memory.specs.Encoding.{pendingBytes}
 use Rattle.memory.proofs.Frame.{pending-length}
 use Rattle.memory.proofs.Puts.{pending-stands, pending-put, call-appended}
@@ -26,16 +26,11 @@ pub call-began : (m m₁ m₂ m₃ : List ℕ) (i n callee serial : ℕ) → Sea
     → Began m i callee serial m₃
 call-began m m₁ m₂ m₃ i n callee serial p q l b e₁ e₂ e₃ =
     let c : ℕ = slotStart i + firstCallee + callWidth * n in
-    let s : length m ≡ memoryLength = p .sized in
-    let o : i < 16 = p .below in
     let e : m₂ ≡ take c m ++ ((wordBytes callee ++ wordBytes serial) ++ drop (c + callWidth) m)
     = e₂
     ∙ ap (λ (z : List ℕ). take (c + serialOffset) z ++ (wordBytes serial ++ drop (c + serialOffset + 4) z)) e₁
     ∙ put-joined m (wordBytes callee) (wordBytes serial) c serialOffset 4 (omega arith) (word-length callee) in
-    record {
-      is =
-          call-appended m (λ j. b j .fits) (p .held) i o (p .some) (record { callee = callee; serial = serial }) m₂ m₃ n c q l refl e e₃;
-    }
+    record { is = call-appended m (λ j. b j .fits) (p .held) i (p .below) (p .some) (record { callee = callee; serial = serial }) m₂ m₃ n c q l refl e e₃ }
 
 pub ruleset beginning = (call-began, needs)
 

@@ -2,7 +2,7 @@
 use mathlib.Core.Path.{_≡_, sym, ap, _∙_}
 use mathlib.Core.Bool.{Bool, true, false}
 use mathlib.Core.List.{List, map}
-use Prim.Native.Nat.{ℕ, _+_, _-_, _*_, _^_, _≤_, _<_}
+use Prim.Native.Nat.{ℕ, _+_, _-_, _*_, _≤_, _<_}
 use native.Mathlib.Omega.{arith}
 use native.Mathlib.Nat.{lt-of-lt-of-le}
 use lib.Count.{ones}
@@ -50,21 +50,18 @@ masking-begins image m i head x =
 module _ {image m : List ℕ} {i : ℕ} {head : List ℕ} {x : Header} {mask k : ℕ} (g : Masking image m i head x mask k) where
   pub masking-room : 0 < k → mask < 32768
   masking-room h =
-      let l : length (bits image m i head x) ≡ 16 = bits-length image m i head x in
-      let r : maskOf (drop k (bits image m i head x)) < 2 ^ (16 - k) = rw l at (mask-room (bits image m i head x) k) in
+      let r = rw (bits-length image m i head x) at (mask-room (bits image m i head x) k) in
       let e : 16 - k ≤ 15 = omega arith in
       lt-of-lt-of-le (rw (g .is) r) (pow-mono e)
 
   pub masking-more : 0 < k → {r : Bool} → Reaches image m i (k - 1) head x r → {n : ℕ} → n ≡ bit r + 2 * mask → Masking image m i head x n (k - 1)
   masking-more h {r} a {n} e =
-      let u : k ≤ 16 = g .high in
-      let l : length (bits image m i head x) ≡ 16 = bits-length image m i head x in
       let f : k - 1 + 1 ≡ k = omega arith in
       let b : getD (bits image m i head x) (k - 1) false ≡ r
       = List·getD-map (reaches image (peerAt m i) (messageOf head x)) (stateOf m .slots) (k - 1) free ∙ sym (a .is) in
       record {
         high = omega arith;
-        is = e ∙ sym (mask-from (bits image m i head x) (k - 1) (omega arith) ∙ rw (b, f, g .is));
+        is = e ∙ sym (mask-from (bits image m i head x) (k - 1) (omega (arith, bits-length image m i head x)) ∙ rw (b, f, g .is));
       }
 
   pub masking-ends : k ≤ 0 → ToAll image m i head x (record { answer = 0; receiver = to.Slots mask (ones mask) })

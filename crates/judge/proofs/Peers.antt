@@ -1,10 +1,11 @@
 -- A call or a signal to one peer, and replies.
-use mathlib.Core.Path.{_≡_, refl, sym, ap, _∙_}
+use mathlib.Core.Path.{_≡_, refl, sym, _∙_}
 use mathlib.Core.Bool.{Bool, true, false, cond, not}
 use mathlib.Core.List.{List}
 use Prim.Native.Nat.{ℕ, _≤_, _<_}
 use native.Mathlib.Omega.{arith}
 use native.Mathlib.Nat.{zero-add}
+use lib.Dec.{ltb}
 use lib.ListN.{length}
 use borrow.Author.Needs.{needs}
 use borrow.Author.Tests.{le-leb, lt-leb, lt-ltb, le-ltb, not-true, not-false}
@@ -13,14 +14,13 @@ use Rattle.header.specs.declared.Header.{Header}
 use Rattle.policy.specs.Matching.{messageOf}
 use Rattle.policy.specs.Decisions.{send, receive}
 use Rattle.stream.specs.Tail.{Tail}
-use Rattle.rules.specs.State.{Pending, peer, putSlot, withPending, firstBy}
-use Rattle.rules.specs.Pending.{isCall, awaits, ended}
-use Rattle.rules.specs.Judge.{Judged, refusal, refused, passed, maySend, mayReceive, expectsReply, waits}
+use Rattle.rules.specs.State.{firstBy}
+use Rattle.rules.specs.Pending.{isCall, awaits}
+use Rattle.rules.specs.Judge.{Judged, refusal, refused, maySend, mayReceive, expectsReply}
 use Rattle.rules.specs.declared.Judgement.{Judgement}
 use Rattle.rules.specs.declared.Receiver.the-variants as to
 use Rattle.rules.proofs.Waits.{awaits-first}
-use Rattle.tables.specs.Cut.{without}
-use Rattle.memory.specs.Encoding.{memoryOf, stateOf}
+use Rattle.memory.specs.Encoding.{stateOf}
 use Rattle.memory.specs.Places.{numberAt}
 use Rattle.memory.proofs.Good.{good-is}
 use Rattle.memory.proofs.Removal.{ended-without}
@@ -34,11 +34,8 @@ module _ {m : List ℕ} {i n : ℕ} (h : n ≡ length (peerAt m i .pending)) {c 
   place : firstBy (isCall c s) (peerAt m i .pending) ≡ f
   place = sym (a .is ∙ zero-add (firstBy (isCall c s) (peerAt m i .pending)))
 
-  waits-yes : f < n → awaits c s (peerAt m i .pending) ≡ true
-  waits-yes l = awaits-first c s (peerAt m i .pending) ∙ rw (place, ← h, lt-ltb f n l)
-
-  waits-no : n ≤ f → awaits c s (peerAt m i .pending) ≡ false
-  waits-no l = awaits-first c s (peerAt m i .pending) ∙ rw (place, ← h, le-ltb f n l)
+  waits-is : awaits c s (peerAt m i .pending) ≡ ltb f n
+  waits-is = awaits-first c s (peerAt m i .pending) ∙ rw (place, ← h)
 
 -- ---- what changes no state leaves memory as it is
 
@@ -50,18 +47,18 @@ left-as-is {m} p b e = record { judgement = e; memory = sym (good-is m (λ j. b 
 
 module _ {m : List ℕ} {i n : ℕ} (g : Seated m i) (h : n ≡ length (peerAt m i .pending)) {c s f : ℕ} (a : CallAt m i c s 0 f) where
   pub wait-twice : Octets m → f < n → {r : Judgement} → r ≡ refusal 25 → Waits m i c s r m
-  wait-twice b l q = record { left = λ p x e y. rw (e, y, waits-yes h a l) (left-as-is g b q) }
+  wait-twice b l q = record { left = λ p x e y. rw (e, y, waits-is h a, lt-ltb f n l) (left-as-is g b q) }
 
   module _ (l : n ≤ f) where
     pub wait-full : Octets m → {t : ℕ} → t ≤ n → 16 ≤ t → {r : Judgement} → r ≡ refusal 26 → Waits m i c s r m
     wait-full b k z q =
         let t = le-leb 16 (length (peerAt m i .pending)) (omega arith) in
-        record { left = λ p x e y. rw (e, y, waits-no h a l, t) (left-as-is g b q) }
+        record { left = λ p x e y. rw (e, y, waits-is h a, le-ltb f n l, t) (left-as-is g b q) }
 
     pub wait-begins : n < 16 → {m′ : List ℕ} → Began m i c s m′ → Waits m i c s (record { answer = 0; receiver = to.Peer c }) m′
     wait-begins k z =
         let t = lt-leb 16 (length (peerAt m i .pending)) (omega arith) in
-        record { left = λ p x e y. rw (e, y, waits-no h a l, t) (record { judgement = refl; memory = z .is }) }
+        record { left = λ p x e y. rw (e, y, waits-is h a, le-ltb f n l, t) (record { judgement = refl; memory = z .is }) }
 
 pub ruleset waiting = (wait-twice, wait-full, wait-begins, needs)
 
@@ -73,7 +70,7 @@ module _ {m : List ℕ} {i j : ℕ} (x : Header) {c : ℕ} (e : c ≡ numberAt m
 
   pub delivers-signal : Seated m i → Octets m → expectsReply x ≡ false
       → Delivers m i j x (record { answer = 0; receiver = to.Peer c }) m
-  delivers-signal p b y = record { left = rw y (left-as-is p b (ap (λ (k : ℕ). record { answer = 0; receiver = to.Peer k }) e)) }
+  delivers-signal p b y = record { left = rw y (left-as-is p b (rw e)) }
 
 pub ruleset delivering = (delivers-call, delivers-signal, needs)
 
@@ -94,37 +91,26 @@ pub ruleset answers = (answer-send, answer-receive, answer-none, needs)
 
 module _ {image m : List ℕ} {i j : ℕ} {head : List ℕ} {x : Header} (p : Seated m i) (b : Octets m) {n : ℕ}
     (a : PolicyAnswer image m i j head x n) where
-  -- whether send and receive allow
-  abbrev sends : Bool
-  sends = maySend image (peerAt m i) (peerAt m j .names) (messageOf head x)
-
-  abbrev receives : Bool
-  receives = mayReceive image (peerAt m j) (peerAt m i .names) (messageOf head x)
-
-  -- the judgement by what they say
-  abbrev outcome : Bool → Bool → Judged Tail
-  outcome u v =
-      cond u
-      (cond v
-      (cond (expectsReply x) (waits (stateOf m) i (peerAt m i) (peerAt m j) x) (passed (stateOf m) (to.Peer (peerAt m j .number))))
-      (refused (stateOf m) 23))
-      (refused (stateOf m) 22)
+  -- the message passes, or is refused
+  by-answer : {r : Judgement} {m′ : List ℕ} → (n ≡ 0 → Delivers m i j x r m′) → ((n ≡ 0 → ⊥) → JudgementLeft (refused (stateOf m) n) r m′)
+      → ToPeer image m i j head x r m′
+  by-answer {r} {m′} d k =
+      record {
+        left = go (maySend image (peerAt m i) (peerAt m j .names) (messageOf head x)) (mayReceive image (peerAt m j) (peerAt m i .names) (messageOf head x))
+            (a .is) (λ e. d e .left);
+      }
+    where
+      go : {o : Judged Tail} (u v : Bool) → n ≡ cond u (cond v 0 23) 22 → (n ≡ 0 → JudgementLeft o r m′)
+          → JudgementLeft (cond u (cond v o (refused (stateOf m) 23)) (refused (stateOf m) 22)) r m′
+      go true true e d = d e
+      go true false e d = rw e at (k (omega arith))
+      go false v e d = rw e at (k (omega arith))
 
   pub peer-refused : (n ≡ 0 → ⊥) → {r : Judgement} → r ≡ refusal n → ToPeer image m i j head x r m
-  peer-refused z {r} q = record { left = go sends receives (a .is) }
-    where
-      go : (u v : Bool) → n ≡ cond u (cond v 0 23) 22 → JudgementLeft (outcome u v) r m
-      go true true e = absurd (z e)
-      go true false e = left-as-is p b (q ∙ ap refusal e)
-      go false v e = left-as-is p b (q ∙ ap refusal e)
+  peer-refused z q = by-answer (λ e. absurd (z e)) (λ k. left-as-is p b q)
 
   pub peer-delivered : n ≡ 0 → {r : Judgement} {m′ : List ℕ} → Delivers m i j x r m′ → ToPeer image m i j head x r m′
-  peer-delivered z {r} {m′} w = record { left = go sends receives (sym z ∙ a .is) }
-    where
-      go : (u v : Bool) → _≡_ {A = ℕ} 0 (cond u (cond v 0 23) 22) → JudgementLeft (outcome u v) r m′
-      go true true e = w .left
-      go true false e = absurd (omega arith)
-      go false v e = absurd (omega arith)
+  peer-delivered z w = by-answer (λ e. w) (λ k. absurd (k z))
 
 pub ruleset to-peer = (peer-refused, peer-delivered, needs)
 
@@ -133,21 +119,12 @@ pub ruleset to-peer = (peer-refused, peer-delivered, needs)
 module _ {m : List ℕ} {i j : ℕ} (p : Seated m i) (x : Header) (b : Octets m) {c : ℕ} (e : c ≡ numberAt m i)
     {n : ℕ} (h : n ≡ length (peerAt m j .pending)) {f : ℕ} (a : CallAt m j c (x .«reply_serial») 0 f) where
   pub reply-none : n ≤ f → {r : Judgement} → r ≡ refusal 24 → RepliesTo m i j x r m
-  reply-none l q = record { left = rw (← e, waits-no h a l) (left-as-is p b q) }
+  reply-none l q = record { left = rw (← e, waits-is h a, le-ltb f n l) (left-as-is p b q) }
 
   pub reply-ends : f < n → {d : ℕ} → d ≡ numberAt m j → {m′ : List ℕ} → CallRemoved m j f m′
       → RepliesTo m i j x (record { answer = 0; receiver = to.Peer d }) m′
   reply-ends l q g =
-      let w : ended c (x .«reply_serial») (peerAt m j .pending) ≡ without f (peerAt m j .pending)
-      = ended-without c (x .«reply_serial») (peerAt m j .pending) ∙ ap (λ (k : ℕ). without k (peerAt m j .pending)) (place h a) in
-      record {
-        left =
-            rw (← e, waits-yes h a l)
-            (record {
-              judgement = ap (λ (k : ℕ). record { answer = 0; receiver = to.Peer k }) q;
-              memory =
-                  g .is ∙ ap (λ (ws : List Pending). memoryOf (putSlot (stateOf m) j (peer (withPending (peerAt m j) ws)))) (sym w);
-            });
-      }
+      let w = ended-without c (x .«reply_serial») (peerAt m j .pending) in
+      record { left = rw (← e, waits-is h a, lt-ltb f n l) (record { judgement = rw q; memory = rw (w, place h a) (g .is) }) }
 
 pub ruleset replying-to = (reply-none, reply-ends, needs)

@@ -1,5 +1,5 @@
 -- What policy says, asked of one slot about the names of another's or of the bus.
-use mathlib.Core.Path.{_≡_, sym, ap, _∙_}
+use mathlib.Core.Path.{_≡_, sym, _∙_}
 use mathlib.Core.Bool.{Bool, true, false, not}
 use mathlib.Core.List.{List, [], _∷_}
 use Prim.Native.Nat.{ℕ, _+_, _-_, _*_, _<_}
@@ -20,7 +20,7 @@ use Rattle.policy.proofs.Cells.{bus-names}
 use Rattle.rules.specs.Judge.{refusal}
 use Rattle.rules.specs.declared.Judgement.{Judgement}
 use Rattle.rules.specs.declared.Receiver.the-variants as to
-use Rattle.memory.specs.Layout.{memoryLength, slotStart, firstName, uidAt}
+use Rattle.memory.specs.Layout.{slotStart, firstName, uidAt}
 use Rattle.memory.specs.Places.{numberAt}
 use Rattle.memory.proofs.Reading.{slot-free, slot-peer}
 use Rattle.memory.proofs.Held.{held-counted}
@@ -50,9 +50,7 @@ pub says-is : (image : List ℕ) (direction : ℕ) (m : List ℕ) (s o : ℕ) (h
     → Asks image direction m s (take (end - (slotStart o + firstName)) (drop (slotStart o + firstName) m)) head x r
     → Says image direction m s o head x r
 says-is image direction m s o head x p b {n} e t a =
-    let h : o < 16 = p .below in
-    let l : length m ≡ memoryLength = p .sized in
-    let c = held-counted m o (p .held) h (p .some) in
+    let c = held-counted m o (p .held) (p .below) (p .some) in
     let q : namesIn (take (nameWidth * n) (drop (slotStart o + firstName) m)) ≡ peerAt m o .names
     = names-in m (slotStart o) n (λ j. b j .fits) (omega arith) (e ∙ c .names) (omega (arith, c .names, c .fewNames)) in
     record { is = a .is ∙ rw (t, cut-at (slotStart o + firstName) (nameWidth * n) m, q) }
@@ -68,10 +66,7 @@ pub ruleset saying = (says-is, cells-end, needs)
 module _ (image m : List ℕ) (i : ℕ) (head : List ℕ) (x : Header) {cell : List ℕ} (e : cell ≡ cellOf busName) {r : Bool}
     (a : Asks image send m i cell head x r) where
   says : mayTransact image send (record { 0 = peerAt m i .uid }) (peerAt m i .gids) (busName ∷ []) (messageOf head x) ≡ r
-  says =
-      sym
-      (a .is
-      ∙ ap (λ (z : List (List ℕ)). mayTransact image send (record { 0 = peerAt m i .uid }) (peerAt m i .gids) z (messageOf head x)) (ap namesIn e ∙ bus-names))
+  says = sym (a .is ∙ rw (e, bus-names))
 
   pub bus-denied : not r ≡ true → {j : Judgement} → j ≡ refusal 22 → ToBus image m i head x j
   bus-denied t q = record { is = q ∙ rw (says, not-true r t) }

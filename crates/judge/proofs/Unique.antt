@@ -5,12 +5,11 @@ use mathlib.Core.List.{List, [], _∷_, _++_, append-assoc}
 use Prim.Native.Nat.{ℕ, zero, suc, _+_, _-_, _/_, _%_, _≤_, _<_}
 use native.Mathlib.Omega.{arith}
 use native.Mathlib.Numerals.{add-one}
-use native.Mathlib.Decide.{decLt}
 use lib.Dec.{ltb, eqb}
 use lib.ListN.{length, take, drop, set, length-set, length-drop, drop-of-length-le}
 use lib.Seq.{sets-eq, drop-cons, drop-at, getD-set-same, drop-set-lt, take-all, length-take-le}
 use borrow.Author.Needs.{needs}
-use borrow.Author.Tests.{ltb-true, lt-ltb, eqb-true, ne-eqb, not-true, not-false}
+use borrow.Author.Tests.{ltb-true, lt-ltb, eqb-true, eq-eqb, ne-eqb, not-true, not-false}
 use Rattle.wire.specs.Bytes.{byte, front, same}
 use Rattle.wire.proofs.Texts.{both-first, both-second}
 use Rattle.rules.specs.Addresses.{digits, uniqueName}
@@ -34,9 +33,7 @@ put-prefix l i k e h =
     let b : i + 2 ≡ suc (suc i) = omega arith in
     let s : set (set (set l i (byte ":")) (i + 1) (byte "1")) (i + 2) (byte ".") ≡ take i l ++ (vs ++ drop (i + 3) l)
     = rw (a, b) (sets-eq vs l i (omega arith) ∙ append-assoc (take i l) vs (drop (i + 3) l)) in
-    ap (drop i) s
-    ∙ drop-at (take i l) (vs ++ drop (i + 3) l) i (length-take-le i l (omega arith))
-    ∙ ap (λ (z : ℕ). byte ":" ∷ byte "1" ∷ byte "." ∷ drop z l) (sym e)
+    rw (s, e) (drop-at (take i l) (vs ++ drop (i + 3) l) i (length-take-le i l (omega arith)))
 
 -- ---- the digits: those from k on are written, and n is left
 
@@ -55,69 +52,41 @@ spelling-begins number bytes l =
       left = sym (ap (digits 10 number) (drop-of-length-le bytes {i = 13} (omega arith)));
     }
 
-digits-none : (fuel : ℕ) (after : List ℕ) → digits fuel 0 after ≡ after
+digits-end : (fuel n : ℕ) (after : List ℕ) → (0 < fuel → n ≡ 0) → digits fuel n after ≡ after
 unfolding digits
-digits-none zero after = refl
-digits-none (suc fuel) after = refl
+digits-end zero n after h = refl
+digits-end (suc fuel) n after h = rw (digits, eq-eqb n 0 (h (omega arith)))
 
 digits-next : (fuel n : ℕ) (after : List ℕ) → eqb n 0 ≡ false → digits (suc fuel) n after ≡ digits fuel (n / 10) ((byte "0" + n % 10) ∷ after)
 unfolding digits
 digits-next fuel n after e = rw (digits, e)
-
-digits-over : (n : ℕ) (after : List ℕ) → digits 0 n after ≡ after
-unfolding digits
-digits-over n after = refl
 
 module _ {number : ℕ} {bytes : List ℕ} {k n : ℕ} (s : Spelling number bytes k n) where
   pub spelling-more : ltb 3 k && not (eqb n 0) ≡ true → Spelling number (set bytes (k - 1) (byte "0" + n % 10)) (k - 1) (n / 10)
   spelling-more t =
       let a : 3 < k = ltb-true 3 k (both-first (ltb 3 k) (not (eqb n 0)) t) in
       let z : eqb n 0 ≡ false = not-true (eqb n 0) (both-second (ltb 3 k) (not (eqb n 0)) t) in
-      let l : length bytes ≡ 13 = s .sized in
-      let u : k ≤ 13 = s .high in
       let e : k - 3 ≡ suc (k - 1 - 3) = omega arith in
       let d : drop (k - 1) (set bytes (k - 1) (byte "0" + n % 10)) ≡ (byte "0" + n % 10) ∷ drop k bytes
       = put-here bytes (k - 1) k (byte "0" + n % 10) (omega arith) (omega arith) in
       record {
         low = omega arith;
         high = omega arith;
-        sized = length-set bytes (k - 1) (byte "0" + n % 10) ∙ l;
-        left =
-            s .left
-            ∙ ap (λ (f : ℕ). digits f n (drop k bytes)) e
-            ∙ digits-next (k - 1 - 3) n (drop k bytes) z
-            ∙ ap (digits (k - 1 - 3) (n / 10)) (sym d);
+        sized = simp length-set (s .sized);
+        left = s .left ∙ rw (e, digits-next (k - 1 - 3) n (drop k bytes) z, d);
       }
 
   module _ (t : ltb 3 k && not (eqb n 0) ≡ false) where
     none-left : digits (k - 3) n (drop k bytes) ≡ drop k bytes
-    none-left = go (decLt 3 k)
-      where
-        go : Dec (3 < k) → digits (k - 3) n (drop k bytes) ≡ drop k bytes
-        go (yes h) =
-            let z : n ≡ 0 = eqb-true n 0 (not-false (eqb n 0) (rw (lt-ltb 3 k h) at t)) in
-            rw z (digits-none (k - 3) (drop k bytes))
-        go (no h) =
-            let w : 3 ≤ k = s .low in
-            let z : k - 3 ≡ 0 = omega arith in
-            rw z (digits-over n (drop k bytes))
+    none-left = digits-end (k - 3) n (drop k bytes) (λ h. eqb-true n 0 (not-false (eqb n 0) (rw (lt-ltb 3 k (omega arith)) at t)))
 
     pub spelled : Spelled number (record { bytes = set (set (set bytes (k - 3) (byte ":")) (k - 3 + 1) (byte "1")) (k - 3 + 2) (byte "."); from = k - 3 })
     unfolding uniqueName
     spelled =
-        let l : length bytes ≡ 13 = s .sized in
-        let u : k ≤ 13 = s .high in
-        let w : 3 ≤ k = s .low in
         record {
           inside = omega arith;
-          sized =
-              length-set (set (set bytes (k - 3) (byte ":")) (k - 3 + 1) (byte "1")) (k - 3 + 2) (byte ".")
-              ∙ length-set (set bytes (k - 3) (byte ":")) (k - 3 + 1) (byte "1")
-              ∙ length-set bytes (k - 3) (byte ":")
-              ∙ l;
-          is =
-              put-prefix bytes (k - 3) k (omega arith) (omega arith)
-              ∙ ap (λ (d : List ℕ). byte ":" ∷ byte "1" ∷ byte "." ∷ d) (sym (s .left ∙ none-left));
+          sized = simp length-set (s .sized);
+          is = put-prefix bytes (k - 3) k (omega arith) (omega arith) ∙ rw (s .left ∙ none-left);
         }
 
 pub ruleset spelling = (spelling-begins, spelling-more, spelled, needs)
@@ -132,7 +101,6 @@ unique-not (x ∷ text) number b e h = rw (ne-eqb x (byte ":") (λ q. h (e ∙ q
 pub unique-is : (text : List ℕ) {number : ℕ} {t : Text} → Spelled number t
     → {r : Bool} → r ≡ same text (take (13 - t .from) (drop (t .from) (t .bytes))) → r ≡ same text (uniqueName number)
 unique-is text {t = t} s e =
-    let l : length (t .bytes) ≡ 13 = s .sized in
     e ∙ rw (take-all (13 - t .from) (drop (t .from) (t .bytes)) (omega (arith, length-drop (t .from) (t .bytes))), s .is)
 
 pub ruleset uniques = (unique-not, unique-is, needs)

@@ -12,7 +12,7 @@ use Rattle.header.proofs.Readings.{Fitting, whole-fits}
 use Rattle.policy.specs.Matching.{messageOf}
 use Rattle.decide.specs.Contracts.{Asked}
 use Rattle.policy.specs.Names.{busName}
-use Rattle.rules.specs.Judge.{refusal, refused, passed, maySend, toBus, isReply, judged}
+use Rattle.rules.specs.Judge.{refusal, refused, passed, maySend, toBus, isReply, reply, judged}
 use Rattle.rules.specs.declared.Judgement.{Judgement}
 use Rattle.rules.specs.declared.Receiver.the-variants as to
 use Rattle.memory.specs.Encoding.{stateOf}
@@ -21,7 +21,7 @@ use Rattle.slots.specs.Slots.{peerAt, Seated}
 use Rattle.judge.specs.declared.address.Destination.{Destination}
 use Rattle.judge.specs.declared.address.Destination.the-variants.{Absent, Bus, At, Unknown}
 use Rattle.judge.specs.Judging.{JudgedMessage, JudgementLeft, Judges}
-use Rattle.judge.specs.Steps.{Stands, Seeks, Resolved, ToBus, ToAll, ToPeer, RepliesTo, Replies, Directs}
+use Rattle.judge.specs.Steps.{addressOf, Stands, Seeks, Resolved, ToBus, ToAll, ToPeer, RepliesTo, Replies, Directs}
 use Rattle.judge.proofs.Peers.{left-as-is}
 
 -- the bus is told, and nothing waits
@@ -45,16 +45,11 @@ module _ {m : List ℕ} {i : ℕ} {d : Destination} where
   replies-at s {j} e w = let p = stands-at s e in record { left = rw (e, slot-peer m j (p .below) (p .some)) (w .left) }
 
   module _ (a : Seated m i) (b : Octets m) (x : Header) {r : Judgement} (q : r ≡ refusal 24) where
-    pub replies-absent : d ≡ Absent → Replies m i d x r m
-    replies-absent e = record { left = rw e (left-as-is a b q) }
+    -- nobody, the bus, or a name that nobody has
+    pub replies-none : {k : Destination} → d ≡ k → reply (stateOf m) (peerAt m i) (addressOf k) x ≡ refused (stateOf m) 24 → Replies m i d x r m
+    replies-none e f = record { left = rw (e, f) (left-as-is a b q) }
 
-    pub replies-bus : d ≡ Bus → Replies m i d x r m
-    replies-bus e = record { left = rw e (left-as-is a b q) }
-
-    pub replies-unknown : d ≡ Unknown → Replies m i d x r m
-    replies-unknown e = record { left = rw e (left-as-is a b q) }
-
-pub ruleset replying = (stands-at, replies-at, replies-absent, replies-bus, replies-unknown, needs)
+pub ruleset replying = (stands-at, replies-at, replies-none, needs)
 
 -- ---- calls and signals
 

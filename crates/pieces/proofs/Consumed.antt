@@ -1,10 +1,10 @@
 -- A whole message: its head stands in its slot, and memory is good once its stream is cleared.
-use mathlib.Core.Path.{_≡_, refl, sym, ap, ap₂, subst, _∙_}
-use mathlib.Core.Bool.{true, false}
+use mathlib.Core.Path.{_≡_, refl, sym, ap, _∙_}
+use mathlib.Core.Bool.{false}
 use mathlib.Core.List.{List, _++_, append-assoc}
 use Prim.Native.Nat.{ℕ, _+_, _-_, _≤_, _<_}
 use native.Mathlib.Omega.{arith}
-use lib.ListN.{length, take, drop, getD, replicate, length-append, length-drop, length-replicate}
+use lib.ListN.{length, take, drop, getD, replicate, length-append, length-take, length-drop, length-replicate}
 use lib.Seq.{take-at, drop-at, drop-drop, take-append-le, length-take-le}
 use Rattle.wire.specs.Bytes.{pad}
 use Rattle.wire.specs.Words.{wordBytes}
@@ -15,19 +15,18 @@ use Rattle.header.specs.declared.Header.{Header}
 use Rattle.header.specs.declared.Reading.the-variants.{Whole}
 use Rattle.header.proofs.Readings.{whole-fits}
 use Rattle.image.specs.Contracts.{GoodImage}
-use Rattle.wire.proofs.Parts.{drop-past, pad-fits}
+use Rattle.wire.proofs.Parts.{drop-past, part-put, pad-fits}
 use Rattle.stream.specs.Stream.{offer, whole}
-use Rattle.stream.specs.Tail.{Tail, tails, closed, fresh, goodTail}
+use Rattle.stream.specs.Tail.{Tail, tails, closed, fresh}
 use Rattle.stream.proofs.Good.{fresh-good, open-more}
 use Rattle.stream.proofs.Pushes.{offer-whole}
-use Rattle.rules.specs.State.{Peer, Slot, free, peer, State, putSlot, withStream}
+use Rattle.rules.specs.State.{free, peer, State, putSlot, withStream}
 use Rattle.memory.specs.Layout.{memoryLength, slotStart, takenAt, firstByte, headRoom, streamLength, headOffset, byteOffset}
 use Rattle.memory.specs.Encoding.{headBytes, streamBytes, memoryOf, stateOf}
 use Rattle.memory.specs.Sound.{Sound}
-use Rattle.memory.proofs.Frame.{memory-length}
 use Rattle.memory.proofs.Fields.{stream-length}
 use Rattle.memory.specs.Places.{numberAt}
-use Rattle.memory.proofs.Reading.{slot-free, slot-peer, sixteen}
+use Rattle.memory.proofs.Reading.{slot-free, slot-peer}
 use Rattle.memory.proofs.Sound.{state-again, good-memory}
 use Rattle.memory.proofs.Good.{held-of}
 use Rattle.sound.proofs.Put.{put-there}
@@ -46,12 +45,7 @@ module _ (m : List ℕ) (i : ℕ) (l : length m ≡ memoryLength) (h : i < 16) (
   pub cleared-put : cleared (take (slotStart i + takenAt) m ++ (streamBytes t ++ drop (slotStart i + takenAt + streamLength) m)) i ≡ cleared m i
   cleared-put =
       let b = slotStart i + takenAt in
-      let p = take b m in
-      let q = streamBytes t in
-      let r = drop (b + streamLength) m in
-      let x : take b (p ++ (q ++ r)) ≡ p = take-at p (q ++ r) b before in
-      let y : drop (b + streamLength) (p ++ (q ++ r)) ≡ r = drop-past p (q ++ r) b streamLength before ∙ drop-at q r streamLength (stream-length t) in
-      ap₂ (λ (u v : List ℕ). u ++ (replicate streamLength 0 ++ v)) x y
+      sym (part-put (take b m) (streamBytes t) (replicate streamLength 0) (drop (b + streamLength) m) b streamLength before (stream-length t))
 
   -- the room of the head, from its first byte on
   room-put : drop (slotStart i + firstByte) (take (slotStart i + takenAt) m ++ (streamBytes t ++ drop (slotStart i + takenAt + streamLength) m))
@@ -64,11 +58,8 @@ module _ (m : List ℕ) (i : ℕ) (l : length m ≡ memoryLength) (h : i < 16) (
       let d = pad headRoom (t .head) in
       let r = drop (b + streamLength) m in
       let e : slotStart i + firstByte ≡ b + byteOffset = omega arith in
-      rw e
-      (drop-past (take b m) (streamBytes t ++ r) b byteOffset before
-      ∙ ap (drop byteOffset) (append-assoc w (v ++ d) r ∙ ap (λ (z : List ℕ). w ++ z) (append-assoc v d r))
-      ∙ drop-past w (v ++ (d ++ r)) headOffset 4 (word-length (t .taken))
-      ∙ drop-at v (d ++ r) 4 (word-length (length (t .head))))
+      rw (e, drop-past (take b m) (streamBytes t ++ r) b byteOffset before, append-assoc w (v ++ d) r, append-assoc v d r)
+      (drop-past w (v ++ (d ++ r)) headOffset 4 (word-length (t .taken)) ∙ drop-at v (d ++ r) 4 (word-length (length (t .head))))
 
   module _ (n : ℕ) (k : n ≤ headRoom) where
     pub head-put : headIn (take (slotStart i + takenAt) m ++ (streamBytes t ++ drop (slotStart i + takenAt + streamLength) m)) i n
@@ -91,10 +82,6 @@ module _ (m : List ℕ) (i : ℕ) (l : length m ≡ memoryLength) (h : i < 16) (
 
 -- ---- good memory after a whole message
 
-abbrev peerOr : Peer Tail → Slot Tail → Peer Tail
-peerOr d free = d
-peerOr d (peer p) = p
-
 module _ (m : List ℕ) (f : Octets m) (i : ℕ) (s : Seated m i) where
   -- the state in which the message is consumed
   abbrev pub consumed : State Tail
@@ -110,85 +97,54 @@ module _ (m : List ℕ) (f : Octets m) (i : ℕ) (s : Seated m i) where
   consumed-again = state-again consumed consumed-sound
 
   consumed-slot : getD (stateOf (memoryOf consumed) .slots) i free ≡ peer (withStream (peerAt m i) fresh)
-  consumed-slot = ap (λ (z : State Tail). getD (z .slots) i free) consumed-again ∙ consumed-at
-
-  peer-not-free : (q : Peer Tail) → peer q ≡ free → ⊥
-  peer-not-free q e = impossible cc
+  consumed-slot = rw consumed-again consumed-at
 
   consumed-some : numberAt (memoryOf consumed) i ≡ 0 → ⊥
-  consumed-some z = peer-not-free (withStream (peerAt m i) fresh) (sym consumed-slot ∙ slot-free (memoryOf consumed) i (s .below) z)
+  consumed-some z = impossible (cc (consumed-slot, slot-free (memoryOf consumed) i (s .below) z))
 
   pub consumed-peer : peerAt (memoryOf consumed) i ≡ withStream (peerAt m i) fresh
-  consumed-peer =
-      let e : peer (peerAt (memoryOf consumed) i) ≡ peer (withStream (peerAt m i) fresh)
-      = sym (slot-peer (memoryOf consumed) i (s .below) consumed-some) ∙ consumed-slot in
-      ap (peerOr (peerAt m i)) e
-
-  consumed-length : length (memoryOf consumed) ≡ memoryLength
-  consumed-length = memory-length consumed (consumed-sound .sixteen)
+  consumed-peer = cc (consumed-slot, slot-peer (memoryOf consumed) i (s .below) consumed-some)
 
   consumed-seat : Seated (memoryOf consumed) i
   consumed-seat =
-      record {
-        held = held-of (memoryOf consumed) (good-memory consumed consumed-sound);
-        sized = consumed-length;
-        below = s .below;
-        some = consumed-some;
-      }
+      let h = held-of (memoryOf consumed) (good-memory consumed consumed-sound) in
+      record { held = h; sized = h .sized; below = s .below; some = consumed-some }
 
   -- what the bytes of a whole message leave, where `after` is memory with them
-  module _ (image piece after : List ℕ) (x : Header) (g : GoodImage image) (o : closed (peerAt m i .stream) ≡ false)
-      (e : after ≡ take (slotStart i + takenAt) m
-      ++ (streamBytes (offer tails (peerAt m i .stream) piece .stream) ++ drop (slotStart i + takenAt + streamLength) m))
-      (v : whole (take (x .head) (pad headRoom (offer tails (peerAt m i .stream) piece .stream .head))) x
-      ≡ offer tails (peerAt m i .stream) piece .verdict) where
-    pub consumed-clear : cleared after i ≡ memoryOf consumed
-    consumed-clear =
-        ap (λ (z : List ℕ). cleared z i) e
-        ∙ cleared-put m i (s .sized) (s .below) (offer tails (peerAt m i .stream) piece .stream)
-        ∙ cleared-is m f i s
+  module _ (image piece : List ℕ) where
+    -- the stream with them
+    abbrev t : Tail
+    t = offer tails (peerAt m i .stream) piece .stream
 
-    head-read : (readHeader (take (x .head) (pad headRoom (offer tails (peerAt m i .stream) piece .stream .head))) ≡ Whole x)
-        × (length (offer tails (peerAt m i .stream) piece .stream .head) ≡ x .head)
-    head-read =
-        let t = peerAt m i .stream in
-        let k : goodTail t ≡ true = fine m f i s .tail in
-        offer-whole t piece k (open-more t k o) _ x (sym v)
+    module _ (after : List ℕ) (x : Header) (g : GoodImage image) (o : closed (peerAt m i .stream) ≡ false)
+        (e : after ≡ take (slotStart i + takenAt) m ++ (streamBytes t ++ drop (slotStart i + takenAt + streamLength) m))
+        (v : whole (take (x .head) (pad headRoom (t .head))) x ≡ offer tails (peerAt m i .stream) piece .verdict) where
+      pub consumed-clear : cleared after i ≡ memoryOf consumed
+      consumed-clear = rw e (cleared-put m i (s .sized) (s .below) t ∙ cleared-is m f i s)
 
-    head-small : x .head ≤ headRoom
-    head-small = whole-fits _ x (head-read .0) .head-small
+      head-read : (readHeader (take (x .head) (pad headRoom (t .head))) ≡ Whole x) × (length (t .head) ≡ x .head)
+      head-read =
+          let k = fine m f i s .tail in
+          offer-whole (peerAt m i .stream) piece k (open-more (peerAt m i .stream) k o) _ x (sym v)
 
-    pub consumed-head : headIn after i (x .head) ≡ take (x .head) (pad headRoom (offer tails (peerAt m i .stream) piece .stream .head))
-    consumed-head =
-        ap (λ (z : List ℕ). headIn z i (x .head)) e
-        ∙ head-put m i (s .sized) (s .below) (offer tails (peerAt m i .stream) piece .stream) (x .head) head-small
+      head-small : x .head ≤ headRoom
+      head-small = whole-fits _ x (head-read .0) .head-small
 
-    after-length : length after ≡ memoryLength
-    after-length =
-        let b = slotStart i + takenAt in
-        let q = streamBytes (offer tails (peerAt m i .stream) piece .stream) in
-        let k : length m ≡ memoryLength = s .sized in
-        ap length e
-        ∙ length-append (take b m) (q ++ drop (b + streamLength) m)
-        ∙ omega (
-          arith,
-          before m i (s .sized) (s .below) (offer tails (peerAt m i .stream) piece .stream),
-          length-append q (drop (b + streamLength) m),
-          stream-length (offer tails (peerAt m i .stream) piece .stream),
-          length-drop (b + streamLength) m,
-          s .below,
-        )
+      pub consumed-head : headIn after i (x .head) ≡ take (x .head) (pad headRoom (t .head))
+      consumed-head = rw e (head-put m i (s .sized) (s .below) t (x .head) head-small)
 
-    pub completed : Completed image after i x
-    completed =
-        record {
-          good = g;
-          sized = after-length;
-          below = s .below;
-          seat = subst (λ (z : List ℕ). Seated z i) (sym consumed-clear) consumed-seat;
-          read = ap readHeader consumed-head ∙ head-read .0;
-          small = head-small;
-          behind =
-              ap (λ (z : List ℕ). behindIn z i (x .head)) e
-              ∙ behind-put m i (s .sized) (s .below) (offer tails (peerAt m i .stream) piece .stream) (x .head) head-small (head-read .1);
-        }
+      after-length : length after ≡ memoryLength
+      after-length =
+          rw e (simp (length-append, length-take, length-drop) (omega (arith, simp length-append at (stream-length t), s .sized, s .below)))
+
+      pub completed : Completed image after i x
+      completed =
+          record {
+            good = g;
+            sized = after-length;
+            below = s .below;
+            seat = rw consumed-clear consumed-seat;
+            read = ap readHeader consumed-head ∙ head-read .0;
+            small = head-small;
+            behind = rw e (behind-put m i (s .sized) (s .below) t (x .head) head-small (head-read .1));
+          }

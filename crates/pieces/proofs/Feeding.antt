@@ -18,7 +18,7 @@ use Rattle.stream.specs.declared.Stream.{Stream}
 use Rattle.stream.specs.declared.Advance.{Advance}
 use Rattle.stream.proofs.Good.{tail-fits, open-more}
 use Rattle.memory.specs.Layout.{headRoom, headOffset, byteOffset}
-use Rattle.memory.specs.Encoding.{headBytes, streamBytes}
+use Rattle.memory.specs.Encoding.{headBytes}
 use Rattle.pieces.specs.Fed.{streamIn, Opens, Fed}
 
 module _ (x : List ℕ) (o : Opens x) where
@@ -33,10 +33,9 @@ module _ (x : List ℕ) (o : Opens x) where
 
   count-is : wordAt Little x headOffset ≡ length (streamIn x .head)
   count-is =
-      let f = fits .1 in
       sym (word-drop Little x headOffset 0)
       ∙ ap (λ (z : List ℕ). wordAt Little z 0) head-part
-      ∙ word-again (length (streamIn x .head)) (pad headRoom (streamIn x .head)) (omega arith)
+      ∙ word-again (length (streamIn x .head)) (pad headRoom (streamIn x .head)) (omega (arith, fits))
 
   region-is : drop byteOffset x ≡ pad headRoom (streamIn x .head)
   region-is =
@@ -50,22 +49,17 @@ module _ (x : List ℕ) (o : Opens x) where
   -- the tail that the counts and the region say
   tail-is : (s : Stream) → s .taken ≡ wordAt Little x 0 → s .stored ≡ wordAt Little x headOffset → tailIn (take headRoom (drop byteOffset x)) s ≡ streamIn x
   tail-is s p q =
-      let f = fits .1 in
-      let c = count-is in
-      let k : min (wordAt Little x headOffset) headRoom ≡ wordAt Little x headOffset = omega arith in
+      let k : min (wordAt Little x headOffset) headRoom ≡ wordAt Little x headOffset = omega (arith, fits, count-is) in
       let h : take (s .stored) (take headRoom (drop byteOffset x)) ≡ streamIn x .head = rw (q, part-is, k) in
       λ j. record { taken = p j; head = h j }
 
   pub opened : (s : Stream) → s .taken ≡ wordAt Little x 0 → s .stored ≡ wordAt Little x headOffset → Open (take headRoom (drop byteOffset x)) s
   opened s p q =
-      let f = fits .1 in
-      let g = fits .0 in
-      let c = count-is in
       let t = tail-is s p q in
       record {
         sized = ap length part-is ∙ rw (region-is, pad-length);
-        stored = omega arith;
-        counted = omega arith;
+        stored = omega (arith, fits, count-is);
+        counted = omega (arith, fits);
         padded = part-is ∙ region-is ∙ ap (λ (z : Tail). pad headRoom (z .head)) (sym t);
         good = ap goodTail t ∙ o .good;
         running = ap judge t ∙ open-more (streamIn x) (o .good) (o .runs);
@@ -96,11 +90,7 @@ module _ (x : List ℕ) (o : Opens x) where
       record {
         taken = g .taken;
         verdict = ap (λ (y : List ℕ). verdictOf y (r .event)) (sym (g .padded)) ∙ g .verdict;
-        bytes = e₃ ∙ rw (t₂, d₂) (counted g);
+        bytes = e₃ ∙ rw (t₂, d₂, g .counted, g .kept, g .padded);
       }
-    where
-      counted : Gives (offer tails (streamIn x) piece) (length piece) r region
-          → wordBytes (r .stream .taken) ++ (wordBytes (r .stream .stored) ++ region) ≡ streamBytes (offer tails (streamIn x) piece .stream)
-      counted g = rw (g .counted, g .kept, g .padded)
 
 pub ruleset feeding = (opened, fed, needs)

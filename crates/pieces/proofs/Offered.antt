@@ -2,34 +2,32 @@
 use mathlib.Core.Path.{_≡_, sym, ap, _∙_}
 use mathlib.Core.Bool.{Bool, true, false}
 use mathlib.Core.List.{List}
-use Prim.Native.Nat.{ℕ, _-_, _<_}
-use native.Mathlib.Omega.{arith}
-use lib.ListN.{take, List·getD-eq-default}
+use Prim.Native.Nat.{ℕ, _-_}
+use native.Mathlib.Nat.{sub-zero}
+use lib.ListN.{take}
 use borrow.Author.Needs.{needs}
 use Rattle.wire.proofs.Words.{Octets}
 use Rattle.wire.specs.Bytes.{pad}
 use Rattle.header.specs.declared.Header.{Header}
 use Rattle.image.specs.Contracts.{GoodImage}
-use Rattle.stream.specs.Stream.{more, broken, whole, Offer, offer}
+use Rattle.stream.specs.Stream.{whole, Offer, offer}
 use Rattle.stream.specs.Tail.{Tail, tails, closed, fresh}
 use Rattle.stream.specs.Contracts.{verdictOf}
 use Rattle.stream.specs.declared.Event.{Event}
 use Rattle.stream.specs.declared.Event.the-variants as event
 use Rattle.stream.specs.declared.Advance.{Advance}
-use Rattle.rules.specs.State.{Peer, free, peer, State, isPeer, firstBy, putSlot, withStream}
+use Rattle.rules.specs.State.{Peer, peer, State, isPeer, putSlot, withStream}
 use Rattle.rules.specs.Judge.{refusal, judged}
-use Rattle.rules.specs.Calls.{stays, slotAt, noPiece, offeredTo, piece}
+use Rattle.rules.specs.Calls.{noPiece, offeredTo, piece}
 use Rattle.rules.specs.declared.Judgement.{Judgement}
 use Rattle.rules.specs.declared.Taken.{Taken}
 use Rattle.memory.specs.Layout.{headRoom}
 use Rattle.memory.specs.Encoding.{memoryOf, stateOf}
 use Rattle.memory.specs.Sound.{Held}
 use Rattle.memory.specs.Calls.{stored, Did}
-use Rattle.memory.proofs.Reading.{sixteen, slot-peer}
 use Rattle.memory.specs.Places.{FoundSlot}
-use Rattle.memory.proofs.Find.{found-first, found-some}
-use Rattle.memory.proofs.Good.{good-is}
 use Rattle.slots.specs.Slots.{peerAt, Seated}
+use Rattle.slots.proofs.Found.{did-stay, peer-none, peer-place, peer-some, peer-seated}
 use Rattle.judge.specs.Judging.{JudgedMessage, Judges}
 use Rattle.pieces.specs.Fed.{FedAt, cleared, headIn, Completed}
 use Rattle.pieces.proofs.Copied.{head-length}
@@ -37,16 +35,10 @@ use Rattle.pieces.proofs.Consumed.{consumed, consumed-again, consumed-p
 
 -- ---- a whole message, once its head is copied and its stream cleared
 
-take-zero : (n : ℕ) (h : List ℕ) → take (n - 0) h ≡ take n h
-take-zero n h = let e : n - 0 ≡ n = omega arith in rw e
-
 module _ (image m d head : List ℕ) (i : ℕ) (x : Header) (c : Completed image m i x) (h : take (x .head) head ≡ headIn m i (x .head)) (e : d ≡ cleared m i) where
-  head-is : take (x .head - 0) head ≡ headIn m i (x .head)
-  head-is = take-zero (x .head) head ∙ h
-
   pub judge-ready : JudgedMessage image d i (take (x .head - 0) head) x
   judge-ready =
-      rw (head-is, e)
+      rw (sub-zero (x .head), h, e)
       (record {
         good = c .good;
         sender = c .seat;
@@ -56,21 +48,13 @@ module _ (image m d head : List ℕ) (i : ℕ) (x : Header) (c : Completed image
 
   pub judge-left : (r : Judgement) (after : List ℕ) → Judges image d i (take (x .head - 0) head) x r after
       → Judges image (cleared m i) i (headIn m i (x .head)) x r after
-  judge-left r after j = rw (head-is, e) at j
+  judge-left r after j = rw (sub-zero (x .head), h, e) at j
 
 pub ruleset judging = (judge-ready, judge-left, needs)
 
 -- ---- an offer, by its verdict
 
 module _ (image : List ℕ) (s : State Tail) (i : ℕ) (p : Peer Tail) (o : Offer Tail) where
-  more-step : o .verdict ≡ more
-      → offeredTo tails image s i p o ≡ stays (putSlot s i (peer (withStream p (o .stream)))) (record { judgement = refusal 10; taken = o .taken })
-  more-step e = rw e
-
-  broken-step : (a : ℕ) → o .verdict ≡ broken a
-      → offeredTo tails image s i p o ≡ stays (putSlot s i (peer (withStream p (o .stream)))) (record { judgement = refusal a; taken = o .taken })
-  broken-step a e = rw e
-
   -- over the state z in which the message is consumed, and its peer q
   pub whole-step : (h : List ℕ) (x : Header) → o .verdict ≡ whole h x → (z : State Tail) (q : Peer Tail) → z ≡ putSlot s i (peer (withStream p fresh))
       → q ≡ withStream p fresh
@@ -87,16 +71,12 @@ module _ (image m bytes after : List ℕ) (f : Octets m) (i : ℕ) (s : Seated m
   pub offered-more : r .event ≡ event.More
       → Did (stored (offeredTo tails image (stateOf m) i (peerAt m i) (offer tails (peerAt m i .stream) bytes)))
       (record { judgement = refusal 10; taken = r .taken }) after
-  offered-more q =
-      rw (more-step image (stateOf m) i (peerAt m i) (offer tails (peerAt m i .stream) bytes) (sym (verdict-is event.More q)))
-      (record { result = rw (d .taken); memory = d .memory })
+  offered-more q = rw (sym (verdict-is event.More q)) (record { result = rw (d .taken); memory = d .memory })
 
   pub offered-broken : (a : ℕ) → r .event ≡ event.Broken a
       → Did (stored (offeredTo tails image (stateOf m) i (peerAt m i) (offer tails (peerAt m i .stream) bytes)))
       (record { judgement = refusal a; taken = r .taken }) after
-  offered-broken a q =
-      rw (broken-step image (stateOf m) i (peerAt m i) (offer tails (peerAt m i .stream) bytes) a (sym (verdict-is (event.Broken a) q)))
-      (record { result = rw (d .taken); memory = d .memory })
+  offered-broken a q = rw (sym (verdict-is (event.Broken a) q)) (record { result = rw (d .taken); memory = d .memory })
 
   module _ (x : Header) (q : r .event ≡ event.Whole x) (g : GoodImage image) (c : closed (peerAt m i .stream) ≡ false) where
     pub offered-ready : Completed image after i x
@@ -121,36 +101,20 @@ pub ruleset offering = (offered-more, offered-broken, offered-ready, offered-who
 
 -- ---- the piece
 
-module _ (m : List ℕ) (g : Held m) (n i : ℕ) (d : FoundSlot (isPeer n) m 0 i) (h : i ≡ 16 → ⊥) where
-  inside : i < 16
-  inside = omega (arith, d .bound)
-
-  pub piece-seat : Seated m i
-  piece-seat = record { held = g; sized = g .sized; below = inside; some = found-some n m 0 i d inside }
-
-  slot-is : slotAt (stateOf m) i ≡ peer (peerAt m i)
-  slot-is = slot-peer m i inside (found-some n m 0 i d inside)
-
 module _ (image m bytes : List ℕ) (f : Octets m) (g : Held m) (n i : ℕ) (d : FoundSlot (isPeer n) m 0 i) (r : Taken) where
-  first-is : firstBy (isPeer n) (stateOf m .slots) ≡ i
-  first-is = found-first (isPeer n) m i d
-
   pub piece-none : i ≡ 16 → r ≡ noPiece 30 → Did (stored (piece tails image (stateOf m) n bytes)) r m
   unfolding piece
-  piece-none e q =
-      rw (first-is, e, List·getD-eq-default (stateOf m .slots) free {n = 16} (omega (arith, sixteen m)))
-      (record { result = q; memory = sym (good-is m (λ j. f j .fits) (g .held)) })
+  piece-none e q = did-stay m f g r (piece tails image (stateOf m) n bytes) (rw (peer-none n m i d e, q))
 
   module _ (h : i ≡ 16 → ⊥) (c : Bool) (e : c ≡ closed (peerAt m i .stream)) where
     pub piece-closed : c ≡ true → r ≡ noPiece 40 → Did (stored (piece tails image (stateOf m) n bytes)) r m
     unfolding piece
-    piece-closed t q =
-        rw (first-is, slot-is m g n i d h, ← e, t) (record { result = q; memory = sym (good-is m (λ j. f j .fits) (g .held)) })
+    piece-closed t q = did-stay m f g r (piece tails image (stateOf m) n bytes) (rw (peer-place n m i d h, peer-some n m i d h, ← e, t, q))
 
     pub piece-offered : c ≡ false → (after : List ℕ)
         → Did (stored (offeredTo tails image (stateOf m) i (peerAt m i) (offer tails (peerAt m i .stream) bytes))) r after
         → Did (stored (piece tails image (stateOf m) n bytes)) r after
     unfolding piece
-    piece-offered t after o = rw (first-is, slot-is m g n i d h, ← e, t) o
+    piece-offered t after o = rw (peer-place n m i d h, peer-some n m i d h, ← e, t) o
 
-pub ruleset piecing = (piece-seat, piece-none, piece-closed, piece-offered, needs)
+pub ruleset piecing = (peer-seated, piece-none, piece-closed, piece-offered, needs)

@@ -4,6 +4,7 @@ use mathlib.Core.Bool.{false}
 use mathlib.Core.List.{List}
 use Prim.Native.Nat.{ℕ, _+_, _-_, _≤_}
 use native.Mathlib.Omega.{arith}
+use native.Mathlib.Nat.{sub-zero}
 use lib.ListN.{length, take}
 use lib.Seq.{length-take-le, set-getD}
 use borrow.Author.Needs.{needs}
@@ -29,9 +30,10 @@ use Rattle.memory.specs.Places.{FoundSlot}
 use Rattle.memory.specs.Sound.{Held}
 use Rattle.memory.specs.Calls.{stored, Did}
 use Rattle.slots.specs.Slots.{peerAt, Seated}
+use Rattle.slots.proofs.Found.{peer-seated}
 use Rattle.judge.specs.Judging.{JudgedMessage, Judges}
 use Rattle.pieces.proofs.Seats.{peer-is, fine}
-use Rattle.pieces.proofs.Offered.{whole-step, piece-seat, piece-offered, piecing}
+use Rattle.pieces.proofs.Offered.{whole-step, piece-offered, piecing}
 
 -- a head that is whole is small, so that its length and its body's are a number of the machine
 pub once-small : (bytes : List ℕ) (x : Header) {q : Reading} → q ≡ readHeader bytes → q ≡ Whole x → x .head ≤ headRoom
@@ -58,13 +60,10 @@ module _ (image m bytes : List ℕ) (f : Octets m) (i : ℕ) (s : Seated m i) (n
     read-is : readHeader bytes ≡ Whole x
     read-is = sym a ∙ b
 
-    head-is : take (x .head - 0) bytes ≡ take (x .head) bytes
-    head-is = let e : x .head - 0 ≡ x .head = omega arith in rw e
-
     pub once-ready : GoodImage image → JudgedMessage image m i (take (x .head - 0) bytes) x
     once-ready g =
         let w = whole-fits bytes x read-is in
-        rw head-is
+        rw (sub-zero (x .head))
         (record {
           good = g;
           sender = s;
@@ -78,7 +77,7 @@ module _ (image m bytes : List ℕ) (f : Octets m) (i : ℕ) (s : Seated m i) (n
     once-judged t k l j end d =
         let o = offer tails (peerAt m i .stream) bytes in
         let e = ap (λ (t : Tail). offer tails t bytes) stream-is ∙ offer-once bytes x read-is (rw (← k) l) in
-        let u : Judges image m i (take (x .head) bytes) x j end = rw head-is at d in
+        let u : Judges image m i (take (x .head) bytes) x j end = rw (sub-zero (x .head)) at d in
         rw (whole-step image (stateOf m) i (peerAt m i) o (take (x .head) bytes) x (ap (λ (z : Offer Tail). z .verdict) e) (stateOf m) (peerAt m i)
         same-state same-peer)
         (record { result = rw (u .judgement, k, ap (λ (z : Offer Tail). z .taken) e); memory = u .memory })
@@ -96,6 +95,6 @@ pub piece-once : (image m bytes : List ℕ) → Octets m → Held m → (n i : �
     → Did (stored (piece tails image (stateOf m) n bytes)) r after
 piece-once image m bytes f g n i d h e z r after o =
     piece-offered image m bytes f g n i d r h false
-    (sym (once-open image m bytes f i (piece-seat m g n i d h) (none-stands m i e z))) refl after o
+    (sym (once-open image m bytes f i (peer-seated n m i d h g) (none-stands m i e z))) refl after o
 
 pub ruleset fresh-or-not = (none-stands, piece-once, piecing)

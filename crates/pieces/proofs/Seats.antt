@@ -90,18 +90,16 @@ module _ (m : List ℕ) (f : Octets m) (i : ℕ) (s : Seated m i) where
       → after ≡ take (slotStart i + takenAt) m ++ (x ++ drop (slotStart i + takenAt + streamLength - (slotStart i + takenAt)) (drop (slotStart i + takenAt) m))
       → FedAt m i (offer tails (peerAt m i .stream) piece) r after
   fed-at piece x after r d e =
-      let q : streamIn (take (slotStart i + takenAt + streamLength - (slotStart i + takenAt)) (drop (slotStart i + takenAt) m)) ≡ peerAt m i .stream
-      = ap streamIn (cut-at (slotStart i + takenAt) streamLength m) ∙ stream-in in
-      let g : Fed (offer tails (peerAt m i .stream) piece) r x
-      = subst (λ (t : Tail). Fed (offer tails t piece) r x) q d in
+      let q = ap streamIn (cut-at (slotStart i + takenAt) streamLength m) ∙ stream-in in
+      let g = subst (λ (t : Tail). Fed (offer tails t piece) r x) q d in
+      let t = offer tails (peerAt m i .stream) piece .stream in
+      let b : after ≡ take (slotStart i + takenAt) m ++ (streamBytes t ++ drop (slotStart i + takenAt + streamLength) m)
+      = e ∙ put-at (slotStart i + takenAt) streamLength m x ∙ rw (g .bytes) in
       record {
         taken = g .taken;
         verdict = g .verdict;
-        bytes = e ∙ put-at (slotStart i + takenAt) streamLength m x ∙ rw (g .bytes);
-        memory =
-            e
-            ∙ put-at (slotStart i + takenAt) streamLength m x
-            ∙ rw (g .bytes) (sym (stream-put m (λ j. f j .fits) (s .held) i (s .below) (s .some) (offer tails (peerAt m i .stream) piece .stream)));
+        bytes = b;
+        memory = b ∙ sym (stream-put m (λ j. f j .fits) (s .held) i (s .below) (s .some) t);
       }
 
   -- the region of its head, as the code lends it
@@ -140,9 +138,7 @@ module _ (m : List ℕ) (f : Octets m) (i : ℕ) (s : Seated m i) where
 -- k zeros at b, and w more behind them
 zeros-more : (m : List ℕ) (b k w : ℕ) → take w (drop (b + k) m) ≡ replicate w 0 → replicate k 0 ++ drop (b + k) m ≡ replicate (k + w) 0 ++ drop (b + k + w) m
 zeros-more m b k w e =
-    ap (λ (y : List ℕ). replicate k 0 ++ y) (zeros-front m (b + k) w e)
-    ∙ sym (append-assoc (replicate k 0) (replicate w 0) (drop (b + k + w) m))
-    ∙ ap (λ (y : List ℕ). y ++ drop (b + k + w) m) (replicate-append-replicate k w 0)
+    rw (zeros-front m (b + k) w e, ← append-assoc (replicate k 0) (replicate w 0) (drop (b + k + w) m), replicate-append-replicate {A = ℕ} k w 0)
 
 -- zeros written over the counts of a stream and its head, where zeros stand behind it
 pub settled-at : (m z : List ℕ) (i n : ℕ) → length m ≡ memoryLength → i < 16 → n ≤ headRoom → behindIn m i n ≡ replicate (headRoom - n) 0
