@@ -1,7 +1,4 @@
-mod Unique
-mod Addresses
 mod Policy
-mod Calls
 mod Peers
 mod Everybody
 mod Whole

@@ -18,11 +18,14 @@ use Rattle.rules.specs.declared.Receiver.the-variants as to
 use Rattle.memory.specs.Encoding.{stateOf}
 use Rattle.memory.proofs.Reading.{slot-peer}
 use Rattle.slots.specs.Slots.{peerAt, Seated}
-use Rattle.judge.specs.declared.address.Destination.{Destination}
-use Rattle.judge.specs.declared.address.Destination.the-variants.{Absent, Bus, At, Unknown}
-use Rattle.judge.specs.Judging.{JudgedMessage, JudgementLeft, Judges}
-use Rattle.judge.specs.Steps.{addressOf, Stands, Seeks, Resolved, ToBus, ToAll, ToPeer, RepliesTo, Replies, Directs}
-use Rattle.judge.proofs.Peers.{left-as-is}
+use Rattle.addresses.specs.declared.Destination.{Destination}
+use Rattle.addresses.specs.declared.Destination.the-variants.{Absent, Bus, At, Unknown}
+use Rattle.waits.specs.Waits.{JudgementLeft}
+use Rattle.judge.specs.Judging.{JudgedMessage, Judges}
+use Rattle.addresses.specs.Destinations.{addressOf, Stands, Seeks, Resolved}
+use Rattle.waits.specs.Waits.{RepliesTo}
+use Rattle.judge.specs.Steps.{ToBus, ToAll, ToPeer, Replies, Directs}
+use Rattle.waits.proofs.Waits.{left-as-is}
 
 -- the bus is told, and nothing waits
 told : {image m : List ℕ} {i : ℕ} {head : List ℕ} {x : Header} → Seated m i → Octets m

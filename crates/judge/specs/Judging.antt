@@ -7,11 +7,11 @@ use Rattle.header.specs.declared.Header.{Header}
 use Rattle.header.specs.declared.Reading.the-variants.{Whole}
 use Rattle.header.specs.Header.{readHeader}
 use Rattle.image.specs.Contracts.{GoodImage}
-use Rattle.stream.specs.Tail.{Tail}
-use Rattle.rules.specs.Judge.{Judged, judged}
+use Rattle.rules.specs.Judge.{judged}
 use Rattle.rules.specs.declared.Judgement.{Judgement}
-use Rattle.memory.specs.Encoding.{memoryOf, stateOf}
+use Rattle.memory.specs.Encoding.{stateOf}
 use Rattle.slots.specs.Slots.{peerAt, Seated}
+use Rattle.waits.specs.Waits.{JudgementLeft}
 
 -- a message whose head is whole, of the peer in slot i of good memory, under a good image
 pub record JudgedMessage (image m : List ℕ) (i : ℕ) (head : List ℕ) (x : Header) : Type 0 where
@@ -19,11 +19,6 @@ pub record JudgedMessage (image m : List ℕ) (i : ℕ) (head : List ℕ) (x : H
   pub sender : Seated m i
   pub read : readHeader head ≡ Whole x
   pub long : length head ≡ x .head
-
--- what a judgement leaves: r is its answer with its receiver, and m the bytes of its state
-pub record JudgementLeft (j : Judged Tail) (r : Judgement) (m : List ℕ) : Type 0 where
-  pub judgement : r ≡ j .judgement
-  pub memory : m ≡ memoryOf (j .state)
 
 -- the judgement is that of the rules (rule 7.11), and memory is the bytes of the state that it leaves
 abbrev pub Judges : List ℕ → List ℕ → ℕ → List ℕ → Header → Judgement → List ℕ → Type 0

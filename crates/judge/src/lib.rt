@@ -1,8 +1,5 @@
 // The judgement of a whole message over the guard's memory: its answer, its receiver, and the pending calls that it begins or ends.
-mod address;
-mod pending;
-
-use address::Destination;
+use addresses::Destination;
 use header::CALL;
 use header::ERROR;
 use header::Header;
@@ -29,7 +26,8 @@ ghost use Rattle.rules.specs.Judge.{bit};
 ghost use Rattle.memory.specs.Layout.{gidRoom};
 ghost use Rattle.slots.specs.Slots.{At, Seated};
 ghost use Rattle.judge.specs.Judging.{JudgedMessage, Judges};
-ghost use Rattle.judge.specs.Steps.{Stands, Asks, Says, ToBus, Reaches, ToAll, Waits, Delivers, PolicyAnswer, ToPeer, RepliesTo, Replies, Directs};
+ghost use Rattle.addresses.specs.Destinations.{Stands};
+ghost use Rattle.judge.specs.Steps.{Asks, Says, ToBus, Reaches, ToAll, Delivers, PolicyAnswer, ToPeer, Replies, Directs};
 
 // ---- policy
 
@@ -156,25 +154,6 @@ fn to_all(image: &[u8], memory: &[u8], i: usize, head: &[u8], header: Header) ->
 
 // ---- to one peer
 
-// A call of slot i that expects a reply of the callee to this serial: 25, then 26 (rule 7.8).
-fn wait(memory: &mut [u8], i: usize, callee: u32, serial: u32) -> Judgement
-    requires { ⌜ Seated (now memory) i ⌝ }
-    ensures { λ r. ⌜ Waits (now (memory .entry)) i callee serial r (now (memory .exit)) ⌝ }
-{
-    let n = slots::count_pending(memory, i);
-    if slots::find_pending(memory, i, callee, serial, 0) < n {
-        return refused(25);
-    }
-    if 16 <= n {
-        return refused(26);
-    }
-    pending::begin_call(memory, i, n, callee, serial);
-    Judgement {
-        answer: 0,
-        receiver: Receiver::Peer(callee),
-    }
-}
-
 // A call or a signal of slot i that may pass to the peer of slot j: it becomes pending where a reply is expected (rule 7.8).
 fn deliver(memory: &mut [u8], i: usize, j: usize, header: Header) -> Judgement
     requires { ⌜ (Seated (now memory) i) × (Seated (now memory) j) ⌝ }
@@ -182,7 +161,7 @@ fn deliver(memory: &mut [u8], i: usize, j: usize, header: Header) -> Judgement
 {
     let receiver = slots::number_at(memory, j);
     if (header.kind == CALL) & (header.flags % 2 == 0) {
-        return wait(memory, i, receiver, header.serial);
+        return waits::wait(memory, i, receiver, header.serial);
     }
     Judgement {
         answer: 0,
@@ -225,32 +204,13 @@ fn to_peer(
 
 // ---- replies
 
-// A return or error of slot i to the peer of slot j, which must await it (rule 7.9).
-fn reply_to(memory: &mut [u8], i: usize, j: usize, header: Header) -> Judgement
-    requires { ⌜ (Seated (now memory) i) × (Seated (now memory) j) ⌝ }
-    ensures { λ r. ⌜ RepliesTo (now (memory .entry)) i j header r (now (memory .exit)) ⌝ }
-{
-    let callee = slots::number_at(memory, i);
-    let n = slots::count_pending(memory, j);
-    let k = slots::find_pending(memory, j, callee, header.reply_serial, 0);
-    if n <= k {
-        return refused(24);
-    }
-    let caller = slots::number_at(memory, j);
-    pending::end_call(memory, j, n, k);
-    Judgement {
-        answer: 0,
-        receiver: Receiver::Peer(caller),
-    }
-}
-
 // A return or error by its destination: only one to a peer can be awaited (rule 7.9).
 fn reply(memory: &mut [u8], i: usize, to: Destination, header: Header) -> Judgement
     requires { ⌜ (Seated (now memory) i) × (Stands (now memory) to) ⌝ }
     ensures { λ r. ⌜ Replies (now (memory .entry)) i to header r (now (memory .exit)) ⌝ }
 {
     match to {
-        Destination::At(j) => reply_to(memory, i, j, header),
+        Destination::At(j) => waits::reply_to(memory, i, j, header),
         Destination::Absent => refused(24),
         Destination::Bus => refused(24),
         Destination::Unknown => refused(24),
@@ -292,7 +252,7 @@ pub fn judge(image: &[u8], memory: &mut [u8], i: usize, head: &[u8], header: Hea
     if SIGNAL < header.kind {
         return refused(20);
     }
-    let to = address::resolve(memory, head, header.destination);
+    let to = addresses::resolve(memory, head, header.destination);
     if (header.kind == RETURN) | (header.kind == ERROR) {
         return reply(memory, i, to, header);
     }
