@@ -18,7 +18,6 @@ use Rattle.rules.specs.State.{Slot, free, peer, Peer, State, isPeer, firstBy, p
 use Rattle.rules.specs.Judge.{judged}
 use Rattle.rules.specs.Calls.{Step, stays, slotAt, noPiece, offered, offeredTo, pieceAt, piece}
 use Rattle.rules.specs.declared.Taken.{Taken}
-use Rattle.rules.proofs.First.{first-passes, taken-below}
 use Rattle.book.specs.Lists.{underImage}
 use Rattle.book.specs.Messages.{Takes}
 use Rattle.rules.specs.Places.{isJudged}
@@ -34,13 +33,6 @@ judged-no-fault a h l k = go (judged-low a h)
     go : (a ≡ 0) ⊎ ((20 ≤ a) × (a ≤ 26)) → ⊥
     go (inl q) = omega arith
     go (inr q) = omega (arith, q .0)
-
--- ---- the peer that a number finds
-
-pub number-found : {S : Type 0} (s : State S) (n : ℕ) (p : Peer S) → slotAt s (firstBy (isPeer n) (s .slots)) ≡ peer p → p .number ≡ n
-number-found s n p e =
-    eqb-true (p .number) n
-    (sym (ap (isPeer n) e) ∙ first-passes (isPeer n) (s .slots) free (taken-below (s .slots) (firstBy (isPeer n) (s .slots)) p e))
 
 module _ {S : Type 0} (O : Streams S) where
   -- the stream that a broken head leaves is judged so

@@ -14,6 +14,7 @@ use Rattle.rules.specs.Judge.{isReply, judged}
 use Rattle.rules.specs.Calls.{Step, slotAt}
 use Rattle.rules.specs.declared.Taken.{Taken}
 use Rattle.rules.specs.View.{seenSlot, seen}
+use Rattle.rules.proofs.First.{number-found}
 use Rattle.rules.proofs.View.{slot-seen, resolve-seen, put-seen}
 use Rattle.rules.proofs.Waits.{okPending}
 use Rattle.rules.specs.Awaited.{isWaiting, awaited, isAwaited}
@@ -21,7 +22,7 @@ use Rattle.rules.proofs.Replies.{reply-exact, reply-once}
 use Rattle.sound.proofs.Kept.{Alone}
 use Rattle.book.specs.Book.{books}
 use Rattle.book.specs.Messages.{EndsMessage}
-use Rattle.book.proofs.Pieces.{number-found, pieceUnder, consumed, ends-is}
+use Rattle.book.proofs.Pieces.{pieceUnder, consumed, ends-is}
 
 -- a slot's pending calls are good by themselves
 abbrev pub okSlot : {S : Type 0} → Slot S → Bool
@@ -93,7 +94,7 @@ module _ (b : State (List ℕ)) (image : List ℕ) (n : ℕ) (bytes h : List ℕ
   step = pieceUnder books (λ t. refl) image b n bytes
 
   number : done .number ≡ n
-  number = number-found b n sender (m .takes .sits)
+  number = number-found (b .slots) n sender (m .takes .sits)
 
   awaited-same : isAwaited later (done .number) h x ≡ isAwaited b n h x
   awaited-same = ap (λ (k : ℕ). isAwaited later k h x) number ∙ awaited-later b place sender (done .stream) (m .takes .sits) n h x

@@ -1,23 +1,18 @@
 -- What a call answers on good memory, over any streams whose faults are 1 to 9: at most 40; and from 30 on it leaves the state as it was and reports its
 -- answer alone (rule 8.1).
 use mathlib.Core.Path.{_≡_, refl, sym, ap, _∙_}
-use mathlib.Core.Bool.{cond}
-use mathlib.Core.List.{List, [], _∷_, _++_}
+use mathlib.Core.List.{List, [], _∷_}
 use Prim.Native.Nat.{ℕ, _≤_, _<_}
 use native.Mathlib.Omega.{arith}
-use lib.Dec.{ltb, leb}
-use lib.ListN.{length}
+use borrow.Author.Tests.{leb-true}
 use Rattle.wire.proofs.Texts.{impossible}
-use Rattle.policy.specs.Names.{owns}
-use Rattle.policy.specs.Decisions.{mayConnect, mayOwn}
-use Rattle.stream.specs.Stream.{Verdict, more, broken, whole, Streams, Offer, offer, settled}
+use Rattle.stream.specs.Stream.{Verdict, more, broken, whole, Streams, Offer, offer}
 use Rattle.stream.specs.Steps.{follows}
 use Rattle.stream.proofs.Offers.{offer-step}
-use Rattle.rules.specs.State.{Slot, free, peer, Peer, State, isFree, isPeer, firstBy, putSlot, withNames, withStream}
-use Rattle.rules.specs.Addresses.{ownable}
+use Rattle.rules.specs.State.{Slot, free, peer, Peer, State, isPeer, firstBy}
 use Rattle.rules.specs.Judge.{judged}
-use Rattle.rules.specs.Calls.{Step, stays, connect, connectAt, seated, noConnect, own, ownAt, ownNew, isOwner, slotAt, release, releaseAt, released}
-use Rattle.rules.specs.Calls.{noPiece, offered, offeredTo, pieceAt, piece, noGone, disconnect, disconnectAt}
+use Rattle.rules.specs.Calls.{Step, stays, connect, noConnect, own, ownAt, slotAt, release, releaseAt}
+use Rattle.rules.specs.Calls.{noPiece, offered, pieceAt, piece, noGone, disconnect, disconnectAt}
 use Rattle.rules.specs.declared.Connected.{Connected}
 use Rattle.rules.specs.declared.Taken.{Taken}
 use Rattle.rules.specs.declared.Gone.{Gone}
@@ -42,23 +37,10 @@ module _ {S : Type 0} (O : Streams S) (s : State S) where
   abbrev Connects : Step S Connected → Type 0
   Connects = Modest (λ r. r .answer) noConnect s
 
-  no-connect : (a : ℕ) → a ≤ 40 → Connects (stays s (noConnect a))
-  no-connect a h = high (λ (r : Connected). r .answer) noConnect s a refl h
-
   pub connect-modest : (image : List ℕ) (uid : ℕ) (gids : List ℕ) → Modest (λ (r : Connected). r .answer) noConnect s (connect O image s uid gids)
   unfolding connect
   connect-modest image uid gids =
-      let i = firstBy isFree (s .slots) in
-      let may = mayConnect image (record { 0 = uid }) gids in
-      let room = cond (ltb (s .last) 4294967295) (seated O s i uid gids) (stays s (noConnect 39)) in
-      choice Connects (ltb 16 (length gids)) (stays s (noConnect 37)) (cond may (connectAt O s i uid gids) (stays s (noConnect 36)))
-      (λ a. no-connect 37 (omega arith))
-      (λ a. choice Connects may (connectAt O s i uid gids) (stays s (noConnect 36))
-      (λ b. choice Connects (ltb i (length (s .slots))) room (stays s (noConnect 38))
-      (λ c. choice Connects (ltb (s .last) 4294967295) (seated O s i uid gids) (stays s (noConnect 39))
-      (λ d. low (λ (r : Connected). r .answer) noConnect (seated O s i uid gids) (omega arith)) (λ d. no-connect 39 (omega arith)))
-      (λ c. no-connect 38 (omega arith)))
-      (λ b. no-connect 36 (omega arith)))
+      search (choice Connects, high (λ (r : Connected). r .answer) noConnect s, low {S = S} (λ (r : Connected). r .answer) noConnect, leb-true) depth 8
 
   disconnect-at : (i : ℕ) (x : Slot S) → Modest (λ (r : Gone). r .answer) noGone s (disconnectAt O s i x)
   disconnect-at i free = high (λ (r : Gone). r .answer) noGone s 30 refl (omega arith)
@@ -82,18 +64,7 @@ module _ {S : Type 0} (s : State S) where
 
   own-at : (image : List ℕ) (i : ℕ) (x : Slot S) (name : List ℕ) → Names (ownAt image s i x name)
   own-at image i free name = no-name 30 (omega arith)
-  own-at image i (peer p) name =
-      let may = mayOwn image (record { 0 = p .uid }) (p .gids) name in
-      let after = putSlot s i (peer (withNames p (p .names ++ (name ∷ [])))) in
-      let full : Step S ℕ = cond (leb 4 (length (p .names))) (stays s 34) (stays after 0) in
-      let mine : Step S ℕ = cond (owns (p .names) name) (stays s 0) (ownNew s i p name) in
-      choice Names (ownable name) (cond may mine (stays s 32)) (stays s 31)
-      (λ a. choice Names may mine (stays s 32)
-      (λ b. choice Names (owns (p .names) name) (stays s 0) (ownNew s i p name) (λ c. named s)
-      (λ c. choice Names (ltb (firstBy (isOwner name) (s .slots)) (length (s .slots))) (stays s 33) full (λ d. no-name 33 (omega arith))
-      (λ d. choice Names (leb 4 (length (p .names))) (stays s 34) (stays after 0) (λ k. no-name 34 (omega arith)) (λ k. named after))))
-      (λ b. no-name 32 (omega arith)))
-      (λ a. no-name 31 (omega arith))
+  own-at image i (peer p) name = search (choice Names, no-name, named, leb-true) depth 8
 
   pub own-modest : (image : List ℕ) (n : ℕ) (name : List ℕ) → Modest (λ (x : ℕ). x) (λ (x : ℕ). x) s (own image s n name)
   unfolding own
@@ -101,11 +72,7 @@ module _ {S : Type 0} (s : State S) where
 
   release-at : (i : ℕ) (x : Slot S) (name : List ℕ) → Names (releaseAt s i x name)
   release-at i free name = no-name 30 (omega arith)
-  release-at i (peer p) name =
-      let after = putSlot s i (peer (withNames p (released name (p .names)))) in
-      choice Names (ownable name) (cond (owns (p .names) name) (stays after 0) (stays s 35)) (stays s 31)
-      (λ a. choice Names (owns (p .names) name) (stays after 0) (stays s 35) (λ b. named after) (λ b. no-name 35 (omega arith)))
-      (λ a. no-name 31 (omega arith))
+  release-at i (peer p) name = search (choice Names, no-name, named, leb-true)
 
   pub release-modest : (n : ℕ) (name : List ℕ) → Modest (λ (x : ℕ). x) (λ (x : ℕ). x) s (release s n name)
   unfolding release
@@ -145,11 +112,7 @@ module _ {S : Type 0} (O : Streams S) (faults : (t : S) (a : ℕ) → O .judge t
 
     piece-at : (image : List ℕ) (i : ℕ) (y : Slot S) (bytes : List ℕ) → Takes (pieceAt O image s i y bytes)
     piece-at image i free bytes = no-piece 30 (omega arith)
-    piece-at image i (peer p) bytes =
-        let o = offer O (p .stream) bytes in
-        let q = withStream p (settled O (o .verdict) (o .stream)) in
-        choice Takes (O .closed (p .stream)) (stays s (noPiece 40)) (offeredTo O image s i p o) (λ c. no-piece 40 (omega arith))
-        (λ c. offered-modest image (putSlot s i (peer q)) i q (o .taken) (o .verdict) (offer-faults (p .stream) bytes))
+    piece-at image i (peer p) bytes = search (choice Takes, no-piece, offered-modest, offer-faults (p .stream) bytes, leb-true)
 
     pub piece-modest : (image : List ℕ) (n : ℕ) (bytes : List ℕ) → Modest (λ (r : Taken). r .judgement .answer) noPiece s (piece O image s n bytes)
     unfolding piece
