@@ -74,7 +74,7 @@ module _ {cs : List Call} {m : List ℕ} (run : Reached m cs) where
   -- ---- a piece offered there
 
   module _ {image : List ℕ} {n : ℕ} {bytes : List ℕ} {r : Taken} {e : List ℕ} (ran : Ran m e (offers image n bytes) (taken r)) where
-    told : Told now (offers image n bytes) (taken r) e
+    told : Told (modelStep now (offers image n bytes)) (taken r) e
     told = one now (reached-holds run) ran
 
     said : r .judgement .answer ≡ pieceUnder books (λ t. refl) image now n bytes .result .judgement .answer

@@ -5,7 +5,7 @@ use mathlib.Core.List.{List}
 use Prim.Native.Nat.{ℕ, _+_, _≤_, _<_}
 use native.Mathlib.Omega.{arith}
 use lib.ListN.{length, getD, set, length-set, length-map}
-use borrow.Author.Tests.{lt-ltb, ltb-true, ltb-false, leb-false, eq-eqb}
+use borrow.Author.Tests.{lt-ltb, ltb-true, ltb-false, leb-true, leb-false, eq-eqb}
 use Rattle.wire.specs.Lists.{distinct, every}
 use Rattle.header.specs.declared.Header.{Header}
 use Rattle.policy.specs.Names.{owns}
@@ -26,7 +26,7 @@ use Rattle.rules.proofs.First.{first-passes, taken-below}
 use Rattle.sound.proofs.Kept.{sound-kept, kept-sound}
 use Rattle.sound.proofs.Put.{peer-fine, put-there, New, new-kept, gone-kept}
 use Rattle.sound.proofs.Renew.{stream-sound, granted-sound, released-sound}
-use Rattle.sound.proofs.Octets.{taken-octets, offer-octets, whole-read}
+use Rattle.sound.proofs.Octets.{taken-octets, offer-octets, offer-read}
 use Rattle.sound.proofs.Judged.{judged-sound}
 
 -- the call leaves a sound state
@@ -46,26 +46,9 @@ module _ (s : State Tail) (uid : ℕ) (gids : List ℕ) (g : Sound s)
   newcomer-new : length gids ≤ 16 → New (s .last) (newcomer tails (s .last + 1) uid gids)
   unfolding distinct owns awaits
   newcomer-new l =
-      record {
-        number = refl;
-        fine =
-            record {
-              low = omega arith;
-              high = omega arith;
-              few-gids = l;
-              few-pending = omega arith;
-              few-names = omega arith;
-              waits = refl;
-              owned = refl;
-              tail = fresh-good;
-              user = lt-ltb uid 4294967296 user;
-              groups = groups;
-              serials = refl;
-              bytes = refl;
-            };
-        nameless = λ y. refl;
-        waitless = λ c r. refl;
-      }
+      let low : 1 ≤ s .last + 1 = omega arith in
+      let high : s .last + 1 ≤ s .last + 1 = omega arith in
+      search (leb-true, lt-ltb, fresh-good)
 
   seated-sound : length gids ≤ 16 → (i : ℕ) → i < length (s .slots) → isFree (getD (s .slots) i free) ≡ true → s .last < 4294967295
       → Leaves (seated tails s i uid gids)
@@ -128,7 +111,7 @@ module _
       (λ a. offered-sound image i _ _ (o .verdict) _
       (stream-sound s i p g e _ (offer-keeps (p .stream) bytes (f .tail) a) (offer-octets (p .stream) bytes (f .bytes) small)) (put-there s i p _ e)
       (λ h x v. header-serial _ x (below-every 256 (o .stream .head) (omega arith) (taken-octets (p .stream) bytes (f .bytes) small))
-      (whole-read (p .stream) bytes h x v)))
+      (offer-read (p .stream) bytes h x v)))
 
   pub piece-sound : (image : List ℕ) (n : ℕ) → Sound (piece tails image s n bytes .state)
   unfolding piece
