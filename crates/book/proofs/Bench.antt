@@ -14,8 +14,7 @@ use Rattle.header.specs.Values.{numberIn, goodValue, goodField, goodValues}
 use Rattle.header.specs.Required.{hasRequired}
 use Rattle.header.specs.Header.{headerOf, judgedHead, readHead, readHeader}
 use Rattle.image.specs.Good.{goodCounts, goodSections, goodHeader, goodString, goodOrAny, goodOwned, goodConnectRule, goodOwnRule, goodStrings}
-use Rattle.image.specs.Good.{goodTransactionRule}
-use Rattle.image.specs.Good.{goodRule, goodImage, outcomeOf, imageAnswer}
+use Rattle.image.specs.Good.{goodTransactionRule, goodRule, goodImage, outcomeOf, imageAnswer}
 use Rattle.policy.specs.Subjects.{inGroups, subjectFits}
 use Rattle.policy.specs.Names.{owns}
 use Rattle.policy.specs.Precedence.{deciding}

@@ -1,9 +1,8 @@
 -- A piece offered whole comes to its bytes offered one by one: over any step that a piece makes, of which four laws are asked.
 use mathlib.Core.Path.{_≡_, refl, sym, ap, _∙_}
-use mathlib.Core.Bool.{Bool, true, false, not, _&&_, false≢true}
+use mathlib.Core.Bool.{true, false, false≢true}
 use mathlib.Core.List.{List, [], _∷_, _++_, append-assoc, append-nil}
 use Prim.Native.Nat.{ℕ, suc}
-use lib.Dec.{ltb}
 use lib.ListN.{length, drop, drop-of-length-le}
 use borrow.Author.Tests.{ltb-false}
 use Rattle.rules.specs.State.{State}
@@ -11,6 +10,7 @@ use Rattle.rules.specs.Judge.{refusal}
 use Rattle.rules.specs.Calls.{Step, stays, noPiece}
 use Rattle.rules.specs.declared.Judgement.{Judgement}
 use Rattle.rules.specs.declared.Taken.{Taken}
+use Rattle.rules.proofs.Tests.{by-test}
 use Rattle.rules.specs.Places.{isStop, goesOn}
 use Rattle.book.specs.Split.{said}
 
@@ -87,50 +87,35 @@ module _ {S : Type 0} (step : State S → List ℕ → Step S Taken) where
   module _ (laws : Laws) where
     pub call-first : (s : State S) (p : List ℕ) → bytewise s p ≡ call-then p (step s p)
     unfolding bytewise
-    call-first s [] = go (laws .idle s)
-      where
-        go : Idle s → bytewise s [] ≡ call-then [] (step s [])
-        go (idle-refuses r) = sym (ap (call-then []) (r .refused []) ∙ ap (λ (l : List Judgement). saidBefore l (bytewise s [])) (r .silent))
-        go (idles e) = sym (ap (call-then []) e)
-    call-first s (b ∷ p) = go (laws .way s b p) (call-first (step s (b ∷ []) .state) p)
-      where
-        t : State S
-        t = step s (b ∷ []) .state
-
-        go : Way s b p → bytewise t p ≡ call-then p (step t p) → bytewise s (b ∷ p) ≡ call-then (b ∷ p) (step s (b ∷ p))
-        go (refuses r) ih = sym (ap (call-then (b ∷ p)) (r .refused (b ∷ p)) ∙ ap (λ (l : List Judgement). saidBefore l (bytewise s (b ∷ p))) (r .silent))
-        go (joins q e) ih = ap (λ (l : List Judgement). saidBefore l (bytewise t p)) q ∙ ih ∙ sym (ap (call-then (b ∷ p)) e)
-        go (decides e k f) ih = sym (ap (call-then (b ∷ p)) e ∙ ap (λ (n : ℕ). saidBefore (said (step s (b ∷ []) .result)) (bytewise t (drop n (b ∷ p)))) k)
+    call-first s [] =
+        elim (laws .idle s) [
+          | idle-refuses r ↦ sym (ap (call-then []) (r .refused []) ∙ ap (λ (l : List Judgement). saidBefore l (bytewise s [])) (r .silent))
+          | idles e ↦ sym (ap (call-then []) e)
+        ]
+    call-first s (b ∷ p) =
+        let t = step s (b ∷ []) .state in
+        elim (laws .way s b p) [
+          | refuses r ↦ sym (ap (call-then (b ∷ p)) (r .refused (b ∷ p)) ∙ ap (λ (l : List Judgement). saidBefore l (bytewise s (b ∷ p))) (r .silent))
+          | joins q e ↦ ap (λ (l : List Judgement). saidBefore l (bytewise t p)) q ∙ call-first t p ∙ sym (ap (call-then (b ∷ p)) e)
+          | decides e k f ↦ sym (ap (call-then (b ∷ p)) e ∙ ap (λ (n : ℕ). saidBefore (said (step s (b ∷ []) .result)) (bytewise t (drop n (b ∷ p)))) k)
+        ]
 
     -- an answer that ends an offering leaves a state that refuses
     stopped : (s : State S) (p : List ℕ) → isStop (step s p .result .judgement .answer) ≡ true → Refuses (step s p .state)
-    stopped s [] h = go (laws .idle s)
-      where
-        go : Idle s → Refuses (step s [] .state)
-        go (idle-refuses r) = rw (r .refused []) r
-        go (idles e) = absurd (false≢true (rw e at h))
-    stopped s (b ∷ p) h = go (laws .way s b p) (stopped (step s (b ∷ []) .state) p)
-      where
-        t : State S
-        t = step s (b ∷ []) .state
-
-        go : Way s b p → (isStop (step t p .result .judgement .answer) ≡ true → Refuses (step t p .state)) → Refuses (step s (b ∷ p) .state)
-        go (refuses r) ih = rw (r .refused (b ∷ p)) r
-        go (joins q e) ih = rw e (ih (rw e at h))
-        go (decides e k f) ih = rw e (f (rw e at h))
+    stopped s [] h = elim (laws .idle s) [ idle-refuses r ↦ rw (r .refused []) r | idles e ↦ absurd (false≢true (rw e at h)) ]
+    stopped s (b ∷ p) h =
+        elim (laws .way s b p) [
+          | refuses r ↦ rw (r .refused (b ∷ p)) r
+          | joins q e ↦ rw e (stopped (step s (b ∷ []) .state) p (rw e at h))
+          | decides e k f ↦ rw e (f (rw e at h))
+        ]
 
     -- where the offering ends, the bytes left say nothing
     pub call-last : (s : State S) (p : List ℕ) → goesOn (step s p .result) p ≡ false
         → bytewise s p ≡ record { said = said (step s p .result); state = step s p .state }
     call-last s p h =
         let z = step s p in
-        call-first s p ∙ ap (saidBefore (said (z .result))) (go (isStop (z .result .judgement .answer)) refl h)
-        ∙ ap (λ (l : List Judgement). record { said = l; state = z .state }) (append-nil (said (z .result)))
-      where
-        z : Step S Taken
-        z = step s p
-
-        go : (b : Bool) → isStop (z .result .judgement .answer) ≡ b → not b && ltb (z .result .taken) (length p) ≡ false
-            → bytewise (z .state) (drop (z .result .taken) p) ≡ record { said = []; state = z .state }
-        go true e l = refused-silent (z .state) (drop (z .result .taken) p) (stopped s p e)
-        go false e l = ap (bytewise (z .state)) (drop-of-length-le p (ltb-false (z .result .taken) (length p) l)) ∙ bytewise-none (z .state)
+        let left : bytewise (z .state) (drop (z .result .taken) p) ≡ record { said = []; state = z .state }
+        = by-test (isStop (z .result .judgement .answer)) (λ e. refused-silent (z .state) (drop (z .result .taken) p) (stopped s p e))
+        (λ e. rw (drop-of-length-le p (ltb-false (z .result .taken) (length p) (rw e at h))) (bytewise-none (z .state))) in
+        call-first s p ∙ rw (left, append-nil (said (z .result)))

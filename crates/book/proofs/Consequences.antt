@@ -16,7 +16,7 @@ use Rattle.rules.specs.declared.Taken.{Taken}
 use Rattle.rules.specs.declared.Gone.{Gone}
 use Rattle.rules.specs.View.{seenPeer, seenSlot, seen}
 use Rattle.rules.proofs.View.{slot-seen}
-use Rattle.rules.proofs.First.{taken-below}
+use Rattle.rules.proofs.First.{taken-below, number-found}
 use Rattle.rules.specs.Awaited.{isWaiting, isAwaited}
 use Rattle.rules.proofs.Replies.{gone-unawaited}
 use Rattle.memory.specs.Layout.{memoryLength}
@@ -34,7 +34,7 @@ use Rattle.book.proofs.Messages.{parted, tail-behind, good-broken}
 use Rattle.rules.specs.Places.{isJudged}
 use Rattle.book.proofs.Never.{book-faults}
 use Rattle.sound.proofs.Answers.{offer-faults}
-use Rattle.book.proofs.Pieces.{number-found, pieceUnder, piece-breaks, piece-ends}
+use Rattle.book.proofs.Pieces.{pieceUnder, piece-breaks, piece-ends}
 use Rattle.book.proofs.Replied.{okSlot, waiting-seen, ok-slots, awaited-seen, piece-reply, piece-replied, alone-ok}
 
 -- ---- where a run has come to
@@ -74,7 +74,7 @@ module _ {cs : List Call} {m : List ℕ} (run : Reached m cs) where
   -- ---- a piece offered there
 
   module _ {image : List ℕ} {n : ℕ} {bytes : List ℕ} {r : Taken} {e : List ℕ} (ran : Ran m e (offers image n bytes) (taken r)) where
-    told : Told now (offers image n bytes) (taken r) e
+    told : Told (modelStep now (offers image n bytes)) (taken r) e
     told = one now (reached-holds run) ran
 
     said : r .judgement .answer ≡ pieceUnder books (λ t. refl) image now n bytes .result .judgement .answer
@@ -105,7 +105,7 @@ module _ {cs : List Call} {m : List ℕ} (run : Reached m cs) where
           place = i;
           who = seenPeer tailView q;
           sits = held-slot (told .holds) i ∙ ap (seenSlot tailView) t;
-          number = number-found now n p (z .takes .sits);
+          number = number-found (now .slots) n p (z .takes .sits);
           reads = v;
           found = good-broken (tailView (z .stream)) a (subst (Alone (modelStep now (offers image n bytes) .state .last)) u g .tail) v;
         }

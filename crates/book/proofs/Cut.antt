@@ -1,6 +1,6 @@
 -- The model's cut, one byte on: the byte begins a message where the one before it was whole, and joins it where not.
 use mathlib.Core.Path.{_≡_, refl, sym, ap, _∙_}
-use mathlib.Core.Bool.{Bool, true, false, cond, false≢true}
+use mathlib.Core.Bool.{true, false, cond, false≢true}
 use mathlib.Core.List.{List, [], _∷_, _++_}
 use Prim.Native.Nat.{ℕ, zero, suc, _+_, _≤_, _<_}
 use native.Mathlib.Omega.{arith}
@@ -16,9 +16,9 @@ use Rattle.header.specs.declared.Reading.the-variants.{Short, Broken, Whole}
 use Rattle.header.specs.Fixed.{headLength}
 use Rattle.header.specs.Header.{readHeader}
 use Rattle.header.proofs.Readings.{read-few, read-front, read-append, whole-fits}
-use Rattle.stream.specs.Stream.{more, whole}
+use Rattle.stream.specs.Stream.{Verdict, more, whole}
 use Rattle.stream.specs.Tail.{finished}
-use Rattle.rules.proofs.Tests.{clash}
+use Rattle.rules.proofs.Tests.{clash, refute, choice, by-test}
 use Rattle.book.specs.Book.{firstVerdict, isWhole, size, past, cutOff, current}
 
 -- one byte more
@@ -41,48 +41,36 @@ module _ (xs : List ℕ) where
   pub whole-begins : isWhole (firstVerdict xs) ≡ true → (x : Header) × Begins xs x
   whole-begins e = go (readHeader xs) refl e
     where
-      last : (x : Header) → readHeader xs ≡ Whole x → (b : Bool) → ltb (length xs) (x .head + x .body) ≡ b
-          → isWhole (cond b more (whole (take (x .head) xs) x)) ≡ true
-          → (x : Header) × Begins xs x
-      last x r true l q = absurd (false≢true q)
-      last x r false l q = (x, record { read = r; reached = ltb-false (length xs) (x .head + x .body) l })
-
       go : (r : Reading) → readHeader xs ≡ r → isWhole (finished (length xs) xs r) ≡ true → (x : Header) × Begins xs x
       go Short r q = absurd (false≢true q)
       go (Broken a) r q = absurd (false≢true q)
-      go (Whole x) r q = last x r (ltb (length xs) (x .head + x .body)) refl q
+      go (Whole x) r q =
+          choice (λ (v : Verdict). isWhole v ≡ true → (x : Header) × Begins xs x) (ltb (length xs) (x .head + x .body)) _ _
+          (λ l p. absurd (false≢true p)) (λ l p. (x, record { read = r; reached = ltb-false (length xs) (x .head + x .body) l })) q
 
-  module _ (x : Header) (w : Begins xs x) where
-    begins-size : size (firstVerdict xs) ≡ x .head + x .body
-    begins-size = ap size (begins-whole x w)
-
-    begins-some : 16 ≤ size (firstVerdict xs)
-    begins-some = let f = whole-fits xs x (w .read) in omega (arith, begins-size, f .head-low)
-
-    begins-reached : size (firstVerdict xs) ≤ length xs
-    begins-reached = omega (arith, begins-size, w .reached)
-
-    begins-append : (ys : List ℕ) → firstVerdict (xs ++ ys) ≡ firstVerdict xs
-    begins-append ys =
-        let f = whole-fits xs x (w .read) in
-        let r : readHeader (xs ++ ys) ≡ Whole x = read-append xs ys never ∙ w .read in
-        let l = length-append xs ys in
-        rw (r, le-ltb (length (xs ++ ys)) (x .head + x .body) (omega (arith, w .reached)), take-append-le (x .head) xs ys (f .head-inside))
-        (sym (begins-whole x w))
-      where
-        never : readHeader xs ≡ Short → ⊥
-        never e = let q : Whole x ≡ Short = sym (w .read) ∙ e in impossible cc
+  begins-size : (x : Header) → Begins xs x → size (firstVerdict xs) ≡ x .head + x .body
+  begins-size x w = ap size (begins-whole x w)
 
   -- a whole message is whole whatever follows it
   module _ (e : isWhole (firstVerdict xs) ≡ true) where
     pub whole-some : 16 ≤ size (firstVerdict xs)
-    whole-some = let w = whole-begins e in begins-some (w .0) (w .1)
+    whole-some = let w = whole-begins e in omega (arith, begins-size (w .0) (w .1), whole-fits xs (w .0) (w .1 .read) .head-low)
 
     pub whole-reached : size (firstVerdict xs) ≤ length xs
-    whole-reached = let w = whole-begins e in begins-reached (w .0) (w .1)
+    whole-reached = let w = whole-begins e in omega (arith, begins-size (w .0) (w .1), w .1 .reached)
 
     pub whole-append : (ys : List ℕ) → firstVerdict (xs ++ ys) ≡ firstVerdict xs
-    whole-append = let w = whole-begins e in begins-append (w .0) (w .1)
+    whole-append ys =
+        let x = whole-begins e .0 in
+        let w = whole-begins e .1 in
+        let r : readHeader (xs ++ ys) ≡ Whole x = read-append xs ys (λ q. impossible (cc (w .read, q))) ∙ w .read in
+        let l = length-append xs ys in
+        rw (
+          r,
+          le-ltb (length (xs ++ ys)) (x .head + x .body) (omega (arith, w .reached)),
+          take-append-le (x .head) xs ys (whole-fits xs x (w .read) .head-inside),
+        )
+        (sym (begins-whole x w))
 
 -- ---- bytes that go on past their first message
 
@@ -124,46 +112,27 @@ unfolding cutOff
 cut-step f xs e = rw (e, cutOff)
 
 pub past-few : (xs : List ℕ) → length xs ≤ 16 → past xs ≡ false
-past-few xs h = go (past xs) refl
-  where
-    go : (p : Bool) → past xs ≡ p → past xs ≡ false
-    go true e = absurd (omega (arith, past-less xs e, whole-some xs (past-whole xs e)))
-    go false e = e
+past-few xs h = refute (past xs) (λ e. omega (arith, past-less xs e, whole-some xs (past-whole xs e)))
 
 -- as many cuts as there are bytes are enough
 pub cut-enough : (f g : ℕ) (xs : List ℕ) → length xs ≤ f → length xs ≤ g → cutOff f xs ≡ cutOff g xs
 cut-enough zero g xs h k = let e = past-few xs (omega arith) in cut-stops 0 xs e ∙ sym (cut-stops g xs e)
 cut-enough (suc f) zero xs h k = let e = past-few xs (omega arith) in cut-stops (suc f) xs e ∙ sym (cut-stops 0 xs e)
-cut-enough (suc f) (suc g) xs h k = go (past xs) refl (cut-enough f g (drop (size (firstVerdict xs)) xs))
-  where
-    rest : List ℕ
-    rest = drop (size (firstVerdict xs)) xs
-
-    go : (p : Bool) → past xs ≡ p → (length rest ≤ f → length rest ≤ g → cutOff f rest ≡ cutOff g rest) → cutOff (suc f) xs ≡ cutOff (suc g) xs
-    go true e ih =
-        let w = whole-some xs (past-whole xs e) in
-        let l = length-drop (size (firstVerdict xs)) xs in
-        cut-step f xs e ∙ ih (omega arith) (omega arith) ∙ sym (cut-step g xs e)
-    go false e ih = cut-stops (suc f) xs e ∙ sym (cut-stops (suc g) xs e)
+cut-enough (suc f) (suc g) xs h k =
+    by-test (past xs)
+    (λ e. let w = whole-some xs (past-whole xs e) in
+    let l = length-drop (size (firstVerdict xs)) xs in
+    cut-step f xs e ∙ cut-enough f g (drop (size (firstVerdict xs)) xs) (omega arith) (omega arith) ∙ sym (cut-step g xs e))
+    (λ e. cut-stops (suc f) xs e ∙ sym (cut-stops (suc g) xs e))
 
 -- the first message of xs goes on to its end
 module _ (f : ℕ) (xs : List ℕ) (b : ℕ) (n : past xs ≡ false) where
   last-snoc : cutOff (suc f) (snoc xs b) ≡ cond (isWhole (firstVerdict xs)) (b ∷ []) (snoc xs b)
-  last-snoc = go (isWhole (firstVerdict xs)) refl
-    where
-      ends : isWhole (firstVerdict xs) ≡ true → length xs ≤ size (firstVerdict xs)
-      ends e = ltb-false (size (firstVerdict xs)) (length xs) (rw e at n)
-
-      none : isWhole (firstVerdict xs) ≡ false → (p : Bool) → past (snoc xs b) ≡ p → past (snoc xs b) ≡ false
-      none e true q = absurd (clash (whole-before xs b q) e)
-      none e false q = q
-
-      go : (w : Bool) → isWhole (firstVerdict xs) ≡ w → cutOff (suc f) (snoc xs b) ≡ cond w (b ∷ []) (snoc xs b)
-      go true e =
-          cut-step f (snoc xs b) (past-snoc xs b e)
-          ∙ ap (cutOff f) (drop-snoc xs b e ∙ ap (λ (l : List ℕ). snoc l b) (drop-of-length-le xs (ends e)))
-          ∙ cut-stops f (b ∷ []) (past-few (b ∷ []) (omega arith))
-      go false e = cut-stops (suc f) (snoc xs b) (none e (past (snoc xs b)) refl)
+  last-snoc =
+      by-test (isWhole (firstVerdict xs))
+      (λ e. let ends = ltb-false (size (firstVerdict xs)) (length xs) (rw e at n) in
+      rw (e, cut-step f (snoc xs b) (past-snoc xs b e), drop-snoc xs b e, drop-of-length-le xs ends) (cut-stops f (b ∷ []) (past-few (b ∷ []) (omega arith))))
+      (λ e. rw e (cut-stops (suc f) (snoc xs b) (refute (past (snoc xs b)) (λ q. clash (whole-before xs b q) e))))
 
 abbrev onward : List ℕ → ℕ → List ℕ
 onward c b = cond (isWhole (firstVerdict c)) (b ∷ []) (snoc c b)
@@ -173,20 +142,14 @@ cut-snoc : (f : ℕ) (xs : List ℕ) (b : ℕ) → length xs ≤ f → cutOff (s
 cut-snoc zero xs b h =
     let e = past-few xs (omega arith) in
     last-snoc 0 xs b e ∙ ap (λ (c : List ℕ). onward c b) (sym (cut-stops 0 xs e))
-cut-snoc (suc f) xs b h = go (past xs) refl (cut-snoc f (drop (size (firstVerdict xs)) xs) b)
-  where
-    rest : List ℕ
-    rest = drop (size (firstVerdict xs)) xs
-
-    go : (p : Bool) → past xs ≡ p → (length rest ≤ f → cutOff (suc f) (snoc rest b) ≡ onward (cutOff f rest) b)
-        → cutOff (suc (suc f)) (snoc xs b) ≡ onward (cutOff (suc f) xs) b
-    go true e ih =
-        let w = past-whole xs e in
-        cut-step (suc f) (snoc xs b) (past-snoc xs b w)
-        ∙ ap (cutOff (suc f)) (drop-snoc xs b w)
-        ∙ ih (omega (arith, length-drop (size (firstVerdict xs)) xs, whole-some xs w))
-        ∙ ap (λ (c : List ℕ). onward c b) (sym (cut-step f xs e))
-    go false e ih = last-snoc (suc f) xs b e ∙ ap (λ (c : List ℕ). onward c b) (sym (cut-stops (suc f) xs e))
+cut-snoc (suc f) xs b h =
+    by-test (past xs)
+    (λ e. let w = past-whole xs e in
+    cut-step (suc f) (snoc xs b) (past-snoc xs b w)
+    ∙ ap (cutOff (suc f)) (drop-snoc xs b w)
+    ∙ cut-snoc f (drop (size (firstVerdict xs)) xs) b (omega (arith, length-drop (size (firstVerdict xs)) xs, whole-some xs w))
+    ∙ ap (λ (c : List ℕ). onward c b) (sym (cut-step f xs e)))
+    (λ e. last-snoc (suc f) xs b e ∙ ap (λ (c : List ℕ). onward c b) (sym (cut-stops (suc f) xs e)))
 
 pub current-snoc : (xs : List ℕ) (b : ℕ) → current (snoc xs b) ≡ cond (isWhole (firstVerdict (current xs))) (b ∷ []) (snoc (current xs) b)
 current-snoc xs b =

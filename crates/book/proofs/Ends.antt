@@ -1,6 +1,6 @@
 -- An offering ends, whatever the memory, the image and the piece: a call that does not end it takes at least one byte.
 use mathlib.Core.Path.{_≡_, refl, sym, _∙_}
-use mathlib.Core.Bool.{Bool, true, false, cond, not, false≢true}
+use mathlib.Core.Bool.{false, not, false≢true}
 use mathlib.Core.List.{List, _++_}
 use Prim.Native.Nat.{ℕ, zero, suc, _<_}
 use native.Mathlib.Omega.{arith}
@@ -9,17 +9,17 @@ use lib.ListN.{length, drop, length-drop}
 use borrow.Author.Tests.{ltb-true, not-true}
 use Rattle.wire.proofs.Texts.{both-first, both-second}
 use Rattle.image.specs.Good.{imageAnswer}
-use Rattle.stream.specs.Stream.{Verdict, more, broken, whole, Streams, offer, settled}
+use Rattle.stream.specs.Stream.{Verdict, more, broken, whole, Streams, offer}
 use Rattle.stream.specs.Tail.{tails}
 use Rattle.stream.proofs.Offers.{taken-some}
-use Rattle.rules.specs.State.{Slot, free, peer, Peer, State, isPeer, firstBy, putSlot, withStream}
-use Rattle.rules.specs.Calls.{Step, stays, slotAt, noPiece, offered, offeredTo, pieceAt, piece}
+use Rattle.rules.specs.State.{Slot, free, peer, Peer, State, isPeer, firstBy}
+use Rattle.rules.specs.Calls.{Step, slotAt, offered, pieceAt, piece}
 use Rattle.rules.specs.declared.Judgement.{Judgement}
 use Rattle.rules.specs.declared.Taken.{Taken}
-use Rattle.rules.proofs.Tests.{choice}
+use Rattle.rules.proofs.Tests.{choice, by-test}
 use Rattle.memory.specs.Encoding.{stateOf}
 use Rattle.memory.specs.Good.{good}
-use Rattle.memory.specs.Calls.{MemoryStep, Did, stored, unchanged, pieceOn}
+use Rattle.memory.specs.Calls.{MemoryStep, Did, pieceOn}
 use Rattle.rules.specs.Places.{isStop, goesOn}
 use Rattle.book.specs.Split.{said, Offers, ends, again}
 use Rattle.book.proofs.Images.{image-refuses}
@@ -37,11 +37,8 @@ module _ {S : Type 0} (O : Streams S) (image : List ℕ) (s : State S) (p : List
   at-takes : (i : ℕ) (y : Slot S) → Takes (pieceAt O image s i y p .result)
   at-takes i free = λ e. absurd (false≢true (sym e))
   at-takes i (peer q) =
-      let o = offer O (q .stream) p in
-      let r = withStream q (settled O (o .verdict) (o .stream)) in
-      choice (λ (z : Step S Taken). Takes (z .result)) (O .closed (q .stream)) (stays s (noPiece 40)) (offeredTo O image s i q o)
-      (λ c e. absurd (false≢true (sym e)))
-      (λ c. offered-takes (putSlot s i (peer r)) i r (o .taken) (o .verdict) (taken-some O (q .stream) p l))
+      choice (λ (z : Step S Taken). Takes (z .result)) (O .closed (q .stream)) _ _ (λ c e. absurd (false≢true (sym e)))
+      (λ c. offered-takes _ i _ _ (offer O (q .stream) p .verdict) (taken-some O (q .stream) p l))
 
   -- a piece that is not empty has a byte taken, where its stream is open (rule 9.2)
   pub piece-takes : (n : ℕ) → Takes (piece O image s n p .result)
@@ -52,11 +49,9 @@ module _ (image : List ℕ) (n : ℕ) where
   call-takes : (m p : List ℕ) → 0 < length p → Takes (pieceOn image m n p .result)
   unfolding pieceOn
   call-takes m p l =
-      let step = piece tails image (stateOf m) n p in
-      let over = cond (good m) (stored step) (unchanged m (noPiece 51)) in
       let P : MemoryStep Taken → Type 0 = λ z. Takes (z .result) in
-      choice P (eqb (imageAnswer image) 0) over (unchanged m (noPiece (imageAnswer image)))
-      (λ a. choice P (good m) (stored step) (unchanged m (noPiece 51)) (λ b. piece-takes tails image (stateOf m) p l n) (λ b e. absurd (false≢true (sym e))))
+      choice P (eqb (imageAnswer image) 0) _ _
+      (λ a. choice P (good m) _ _ (λ b. piece-takes tails image (stateOf m) p l n) (λ b e. absurd (false≢true (sym e))))
       (λ a e. absurd (false≢true (sym e ∙ image-refuses image a .stops)))
 
   pub record Ended (m p : List ℕ) : Type 0 where
@@ -66,29 +61,17 @@ module _ (image : List ℕ) (n : ℕ) where
 
   ending : (k : ℕ) (m p : List ℕ) → length p < k → Ended m p
   ending zero m p l = absurd (omega arith)
-  ending (suc k) m p l = go (goesOn r p) refl (ending k d (drop (r .taken) p))
-    where
-      r : Taken
-      r = pieceOn image m n p .result
-
-      d : List ℕ
-      d = pieceOn image m n p .memory
-
-      did : Did (pieceOn image m n p) r d
-      did = record { result = refl; memory = refl }
-
-      less : goesOn r p ≡ true → length (drop (r .taken) p) < k
-      less e =
-          let t = ltb-true (r .taken) (length p) (both-second (not (isStop (r .judgement .answer))) (ltb (r .taken) (length p)) e) in
-          let q = call-takes m p (omega arith)
-          (not-true (isStop (r .judgement .answer)) (both-first (not (isStop (r .judgement .answer))) (ltb (r .taken) (length p)) e)) in
-          omega (arith, length-drop (r .taken) p)
-
-      go : (b : Bool) → goesOn r p ≡ b → (length (drop (r .taken) p) < k → Ended d (drop (r .taken) p)) → Ended m p
-      go false e f = record { memory = d; verdicts = said r; offered = ends did e }
-      go true e f =
-          let i = f (less e) in
-          record { memory = i .memory; verdicts = said r ++ i .verdicts; offered = again did e (i .offered) }
+  ending (suc k) m p l =
+      let r = pieceOn image m n p .result in
+      let d = pieceOn image m n p .memory in
+      let did : Did (pieceOn image m n p) r d = record { result = refl; memory = refl } in
+      let stop = isStop (r .judgement .answer) in
+      by-test (goesOn r p)
+      (λ e. let t = ltb-true (r .taken) (length p) (both-second (not stop) (ltb (r .taken) (length p)) e) in
+      let q = call-takes m p (omega arith) (not-true stop (both-first (not stop) (ltb (r .taken) (length p)) e)) in
+      let i = ending k d (drop (r .taken) p) (omega (arith, length-drop (r .taken) p)) in
+      record { memory = i .memory; verdicts = said r ++ i .verdicts; offered = again did e (i .offered) })
+      (λ e. record { memory = d; verdicts = said r; offered = ends did e })
 
   pub offering-ends : (m p : List ℕ) → Ended m p
   offering-ends m p = ending (suc (length p)) m p (omega arith)

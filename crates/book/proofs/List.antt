@@ -1,20 +1,15 @@
 -- Every list of calls (rule 12.1): calls made one after the other on a started guard, each as its contract says, answer what the model answers, and
 -- leave the bytes of what the model holds.
 use mathlib.Core.Path.{_≡_, refl, ap, ap₂, _∙_, subst}
-use mathlib.Core.Bool.{Bool, true, false, cond}
 use mathlib.Core.List.{List, _∷_}
-use Prim.Native.Nat.{ℕ, _<_}
+use Prim.Native.Nat.{ℕ}
 use lib.Dec.{eqb}
 use lib.ListN.{length}
 use borrow.Author.Tests.{eq-eqb}
-use Rattle.wire.specs.Bytes.{Below}
 use Rattle.image.specs.Good.{imageAnswer}
 use Rattle.stream.specs.Tail.{Tail, tails}
 use Rattle.rules.specs.State.{State}
-use Rattle.rules.specs.Calls.{Step, stays, empty, connect, own, release, piece, disconnect, noConnect, noPiece, noGone}
-use Rattle.rules.specs.declared.Connected.{Connected}
-use Rattle.rules.specs.declared.Taken.{Taken}
-use Rattle.rules.specs.declared.Gone.{Gone}
+use Rattle.rules.specs.Calls.{Step, empty, connect, own, release, piece, disconnect, noConnect, noPiece, noGone}
 use Rattle.rules.proofs.Tests.{choice}
 use Rattle.rules.specs.View.{seen, seenStep}
 use Rattle.rules.proofs.View.{chosen}
@@ -22,13 +17,13 @@ use Rattle.rules.proofs.Seen.{connect-seen, own-seen, release-seen, piece-seen,
 use Rattle.memory.specs.Layout.{memoryLength}
 use Rattle.memory.specs.Encoding.{memoryOf, stateOf}
 use Rattle.memory.specs.Sound.{Sound}
-use Rattle.memory.specs.Calls.{MemoryStep, Did, stored, unchanged, onMemory, onImage, startOn, connectOn, ownOn, releaseOn, pieceOn, disconnectOn}
+use Rattle.memory.specs.Calls.{MemoryStep, Did, stored, onMemory, onImage, startOn, connectOn, ownOn, releaseOn, pieceOn, disconnectOn}
 use Rattle.memory.proofs.Sound.{state-again, good-memory}
 use Rattle.memory.proofs.Frame.{memory-length}
 use Rattle.memory.proofs.Octets.{every-below}
 use Rattle.sound.proofs.Keep.{empty-sound, connect-sound, own-sound, release-sound, piece-sound, disconnect-sound}
 use Rattle.book.specs.Book.{books, tailView}
-use Rattle.book.specs.Lists.{Call, starts, Answer, plain, connected, taken, gone, underImage, modelStep, answers, after}
+use Rattle.book.specs.Lists.{Call, starts, Answer, plain, connected, taken, gone, underImage, ModelStep, toldStep, modelStep, answers, after}
 use Rattle.book.specs.Lists.{Ran, ran-start, ran-connect, ran-own, ran-release, ran-piece, ran-leave, Run, done, then, Agrees}
 use Rattle.book.proofs.Tails.{simulates}
 use Rattle.book.proofs.Never.{nevers}
@@ -40,12 +35,7 @@ module _ {R : Type 0} (s : State Tail) (g : Sound s) (refuse : ℕ → R) (step 
   on-memory = rw (good-memory s g, state-again s g)
 
   pub on-image : (image : List ℕ) → onImage refuse image (memoryOf s) (step (stateOf (memoryOf s))) ≡ stored (underImage refuse image s (step s))
-  on-image image = rw on-memory (go (eqb (imageAnswer image) 0))
-    where
-      go : (b : Bool) → cond b (stored (step s)) (unchanged (memoryOf s) (refuse (imageAnswer image)))
-          ≡ stored (cond b (step s) (stays s (refuse (imageAnswer image))))
-      go true = refl
-      go false = refl
+  on-image image = rw on-memory (chosen stored (eqb (imageAnswer image) 0) _ _ _ _ refl refl)
 
 -- ---- memory that holds the model's state
 
@@ -54,36 +44,34 @@ pub record Holds (m : List ℕ) (b : State (List ℕ)) : Type 0 where
   pub sound : Sound (seen tailView b)
 
 -- what a call is shown to do: it answers as the model's step does, and memory holds the state after it
-pub record Meets {R : Type 0} (say : R → Answer) (z : Step (List ℕ) R) (r : R) (e : List ℕ) : Type 0 where
-  pub answer : say r ≡ say (z .result)
-  pub holds : Holds e (z .state)
+pub record Told (t : ModelStep) (a : Answer) (e : List ℕ) : Type 0 where
+  pub answer : a ≡ t .answer
+  pub holds : Holds e (t .state)
+
+-- a call that stores what the model's step is seen as
+met : {R : Type 0} (say : R → Answer) (z : Step (List ℕ) R) {o : MemoryStep R} {r : R} {e : List ℕ} → o ≡ stored (seenStep tailView z)
+    → Sound (seen tailView (z .state)) → Did o r e → Told (toldStep say z) (say r) e
+met {R} say z q k d =
+    record {
+      answer = ap say (d .result ∙ ap (λ (x : MemoryStep R). x .result) q);
+      holds = record { bytes = d .memory ∙ ap (λ (x : MemoryStep R). x .memory) q; sound = k };
+    }
 
 module _ {R : Type 0} (say : R → Answer) {m : List ℕ} {b : State (List ℕ)} (h : Holds m b) (refuse : ℕ → R) (step : State Tail → Step Tail R)
     (z : Step (List ℕ) R) (seen-is : step (seen tailView b) ≡ seenStep tailView z) (keeps : Sound (step (seen tailView b) .state)) where
   sound-after : Sound (seen tailView (z .state))
   sound-after = subst (λ (y : Step Tail R). Sound (y .state)) seen-is keeps
 
-  meets-memory : {r : R} {e : List ℕ} → Did (onMemory refuse m (step (stateOf m))) r e → Meets say z r e
-  meets-memory d =
-      let q = ap (λ (x : List ℕ). onMemory refuse x (step (stateOf x))) (h .bytes) ∙ on-memory (seen tailView b) (h .sound) refuse step ∙ ap stored seen-is in
-      record {
-        answer = ap say (d .result ∙ ap (λ (x : MemoryStep R). x .result) q);
-        holds = record { bytes = d .memory ∙ ap (λ (x : MemoryStep R). x .memory) q; sound = sound-after };
-      }
+  meets-memory : {r : R} {e : List ℕ} → Did (onMemory refuse m (step (stateOf m))) r e → Told (toldStep say z) (say r) e
+  meets-memory = met say z (rw (h .bytes, on-memory (seen tailView b) (h .sound) refuse step, seen-is)) sound-after
 
-  meets-image : (image : List ℕ) {r : R} {e : List ℕ} → Did (onImage refuse image m (step (stateOf m))) r e → Meets say (underImage refuse image b z) r e
-  meets-image image d =
-      let no = refuse (imageAnswer image) in
-      let c : underImage refuse image (seen tailView b) (step (seen tailView b)) ≡ seenStep tailView (underImage refuse image b z)
-      = chosen (seenStep tailView) (eqb (imageAnswer image) 0) z (stays b no) (step (seen tailView b)) (stays (seen tailView b) no) seen-is refl in
-      let q = ap (λ (x : List ℕ). onImage refuse image x (step (stateOf x))) (h .bytes) ∙ on-image (seen tailView b) (h .sound) refuse step image
-      ∙ ap stored c in
-      let k = choice (λ (y : Step (List ℕ) R). Sound (seen tailView (y .state))) (eqb (imageAnswer image) 0) z (stays b no) (λ a. sound-after)
-      (λ a. h .sound) in
-      record {
-        answer = ap say (d .result ∙ ap (λ (x : MemoryStep R). x .result) q);
-        holds = record { bytes = d .memory ∙ ap (λ (x : MemoryStep R). x .memory) q; sound = k };
-      }
+  meets-image : (image : List ℕ) {r : R} {e : List ℕ} → Did (onImage refuse image m (step (stateOf m))) r e
+      → Told (toldStep say (underImage refuse image b z)) (say r) e
+  meets-image image =
+      met say (underImage refuse image b z)
+      (rw (h .bytes, on-image (seen tailView b) (h .sound) refuse step image)
+      (ap stored (chosen (seenStep tailView) (eqb (imageAnswer image) 0) _ _ _ _ seen-is refl)))
+      (choice (λ (y : Step (List ℕ) R). Sound (seen tailView (y .state))) (eqb (imageAnswer image) 0) _ _ (λ a. sound-after) (λ a. h .sound))
 
 -- ---- start
 
@@ -101,56 +89,26 @@ holds-length {b = b} h = ap length (h .bytes) ∙ memory-length (seen tailView b
 
 -- ---- one call
 
-pub record Told (b : State (List ℕ)) (c : Call) (a : Answer) (e : List ℕ) : Type 0 where
-  pub answer : a ≡ modelStep b c .answer
-  pub holds : Holds e (modelStep b c .state)
-
 module _ {m : List ℕ} (b : State (List ℕ)) (h : Holds m b) where
   abbrev v : State Tail
   v = seen tailView b
 
-  connect-meets : (image : List ℕ) (uid : ℕ) (gids : List ℕ) {r : Connected} {e : List ℕ} → uid < 4294967296 → Below 4294967296 gids
-      → Did (connectOn image m uid gids) r e
-      → Meets connected (underImage noConnect image b (connect books image b uid gids)) r e
-  unfolding connectOn
-  connect-meets image uid gids u w d =
+  pub one : {e : List ℕ} {c : Call} {a : Answer} → Ran m e c a → Told (modelStep b c) a e
+  unfolding modelStep connectOn ownOn releaseOn pieceOn disconnectOn
+  one (ran-start d) = let s = start-holds m (holds-length h) d in record { answer = ap plain (s .0); holds = s .1 }
+  one (ran-connect {image} {uid} {gids} u w d) =
       meets-image connected h noConnect (λ s. connect tails image s uid gids) (connect books image b uid gids)
-      (connect-seen books tails tailView simulates image b uid gids)
-      (connect-sound v uid gids (h .sound) u (every-below 4294967296 gids w) image) image d
-
-  own-meets : (image : List ℕ) (n : ℕ) (name : List ℕ) {r : ℕ} {e : List ℕ} → Did (ownOn image m n name) r e
-      → Meets plain (underImage (λ a. a) image b (own image b n name)) r e
-  unfolding ownOn
-  own-meets image n name d =
-      meets-image plain h (λ a. a) (λ s. own image s n name) (own image b n name) (own-seen tailView b image n name) (own-sound v (h .sound) image n name)
-      image d
-
-  release-meets : (n : ℕ) (name : List ℕ) {r : ℕ} {e : List ℕ} → Did (releaseOn m n name) r e → Meets plain (release b n name) r e
-  unfolding releaseOn
-  release-meets n name d =
+      (connect-seen books tails tailView simulates image b uid gids) (connect-sound v uid gids (h .sound) u (every-below 4294967296 gids w) image) image d
+  one (ran-own {image} {n} {name} d) =
+      meets-image plain h (λ a. a) (λ s. own image s n name) (own image b n name) (own-seen tailView b image n name) (own-sound v (h .sound) image n name) image d
+  one (ran-release {n} {name} d) =
       meets-memory plain h (λ a. a) (λ s. release s n name) (release b n name) (release-seen tailView b n name) (release-sound v (h .sound) n name) d
-
-  piece-meets : (image : List ℕ) (n : ℕ) (bytes : List ℕ) {r : Taken} {e : List ℕ} → Below 256 bytes → Did (pieceOn image m n bytes) r e
-      → Meets taken (underImage noPiece image b (piece books image b n bytes)) r e
-  unfolding pieceOn
-  piece-meets image n bytes w d =
-      meets-image taken h noPiece (λ s. piece tails image s n bytes) (piece books image b n bytes) (piece-seen books tails tailView simulates image b n bytes)
-      (piece-sound v (h .sound) bytes (every-below 256 bytes w) image n) image d
-
-  leave-meets : (n : ℕ) {r : Gone} {e : List ℕ} → Did (disconnectOn m n) r e → Meets gone (disconnect books b n) r e
-  unfolding disconnectOn
-  leave-meets n d =
+  one (ran-piece {image} {n} {bytes} w d) =
+      meets-image taken h noPiece (λ s. piece tails image s n bytes) (piece books image b n bytes)
+      (piece-seen books tails tailView simulates image b n bytes) (piece-sound v (h .sound) bytes (every-below 256 bytes w) image n) image d
+  one (ran-leave {n} d) =
       meets-memory gone h noGone (λ s. disconnect tails s n) (disconnect books b n) (disconnect-seen books tails tailView simulates b n)
       (disconnect-sound v (h .sound) n) d
-
-  pub one : {e : List ℕ} {c : Call} {a : Answer} → Ran m e c a → Told b c a e
-  unfolding modelStep
-  one (ran-start d) = let s = start-holds m (holds-length h) d in record { answer = ap plain (s .0); holds = s .1 }
-  one (ran-connect {image} {uid} {gids} u w d) = let t = connect-meets image uid gids u w d in record { answer = t .answer; holds = t .holds }
-  one (ran-own {image} {n} {name} d) = let t = own-meets image n name d in record { answer = t .answer; holds = t .holds }
-  one (ran-release {n} {name} d) = let t = release-meets n name d in record { answer = t .answer; holds = t .holds }
-  one (ran-piece {image} {n} {bytes} w d) = let t = piece-meets image n bytes w d in record { answer = t .answer; holds = t .holds }
-  one (ran-leave {n} d) = let t = leave-meets n d in record { answer = t .answer; holds = t .holds }
 
 -- ---- the list
 

@@ -21,41 +21,40 @@ use Rattle.book.specs.Split.{joinedPieces}
 use Rattle.book.specs.Messages.{WholeMessage, Messages, Parted}
 use Rattle.book.proofs.Cut.{snoc, begins-whole, whole-begins, whole-append, whole-some, whole-reached, past-few, front-none, cut-step, cut-stops}
 use Rattle.book.proofs.Cut.{cut-enough, current-snoc}
+use Rattle.rules.proofs.Tests.{by-test}
 use Rattle.sound.proofs.Numbers.{broken-read}
 
 -- ---- messages one after the other
 
--- a whole message is followed by the next one
-pub message-then : (m ys : List ℕ) → WholeMessage m → 0 < length ys → current (m ++ ys) ≡ current ys
-message-then m ys w l =
-    let x = w .header in
-    let f : firstVerdict m ≡ whole (take (x .head) m) x = begins-whole m x (record { read = w .read; reached = omega (arith, w .sized) }) in
-    let t : isWhole (firstVerdict m) ≡ true = ap isWhole f in
-    let s : size (firstVerdict m) ≡ length m = ap size f ∙ sym (w .sized) in
-    let a = whole-append m t ys in
-    let n = length-append m ys in
-    let p : past (m ++ ys) ≡ true = rw (a, t, s, lt-ltb (length m) (length (m ++ ys)) (omega arith)) in
-    let k : 1 ≤ length (m ++ ys) = omega arith in
-    one-less (length (m ++ ys)) refl k p (ap size a ∙ s)
-  where
-    one-less : (k : ℕ) → length (m ++ ys) ≡ k → 1 ≤ k → past (m ++ ys) ≡ true → size (firstVerdict (m ++ ys)) ≡ length m → cutOff k (m ++ ys) ≡ current ys
-    one-less zero e h p s = absurd (omega arith)
-    one-less (suc k) e h p s =
-        cut-step k (m ++ ys) p ∙ ap (cutOff k) (drop-at m ys (size (firstVerdict (m ++ ys))) (sym s))
-        ∙ cut-enough k (length ys) ys (omega (arith, length-append m ys, some)) (omega arith)
-      where
-        some : 1 ≤ length m
-        some = omega (arith, s, whole-some (m ++ ys) (begun p))
-          where
-            begun : past (m ++ ys) ≡ true → isWhole (firstVerdict (m ++ ys)) ≡ true
-            begun q = both-first (isWhole (firstVerdict (m ++ ys))) (ltb (size (firstVerdict (m ++ ys))) (length (m ++ ys))) q
+module _ (m : List ℕ) (w : WholeMessage m) where
+  message-verdict : firstVerdict m ≡ whole (take (w .header .head) m) (w .header)
+  message-verdict = begins-whole m (w .header) (record { read = w .read; reached = omega (arith, w .sized) })
+
+  message-whole : isWhole (firstVerdict m) ≡ true
+  message-whole = ap isWhole message-verdict
+
+  message-size : size (firstVerdict m) ≡ length m
+  message-size = ap size message-verdict ∙ sym (w .sized)
+
+  message-alone : past m ≡ false
+  message-alone = rw (message-whole, message-size, le-ltb (length m) (length m) (omega arith))
+
+  -- a whole message is followed by the next one
+  pub message-then : (ys : List ℕ) → 0 < length ys → current (m ++ ys) ≡ current ys
+  message-then ys l =
+      let k = length (m ++ ys) in
+      let n = length-append m ys in
+      let a = whole-append m message-whole ys in
+      let p : past (m ++ ys) ≡ true = rw (a, message-whole, message-size, lt-ltb (length m) k (omega arith)) in
+      cut-enough k (suc k) (m ++ ys) (omega arith) (omega arith) ∙ cut-step k (m ++ ys) p
+      ∙ ap (cutOff k) (drop-at m ys (size (firstVerdict (m ++ ys))) (sym (ap size a ∙ message-size))) ∙ cut-enough k (length ys) ys (omega arith) (omega arith)
 
 -- however many have come: the current message is that of the bytes behind them
 pub current-behind : (ms : List (List ℕ)) (ys : List ℕ) → Messages ms → 0 < length ys → current (joinedPieces ms ++ ys) ≡ current ys
 current-behind [] ys w l = refl
 current-behind (m ∷ ms) ys w l =
     ap current (append-assoc m (joinedPieces ms) ys)
-    ∙ message-then m (joinedPieces ms ++ ys) (w .0) (omega (arith, length-append (joinedPieces ms) ys))
+    ∙ message-then m (w .0) (joinedPieces ms ++ ys) (omega (arith, length-append (joinedPieces ms) ys))
     ∙ current-behind ms ys (w .1) l
 
 -- and every stream is such: whole messages, and then the current one
@@ -79,23 +78,19 @@ first-message xs e =
 cut-is : (f : ℕ) (xs : List ℕ) → Cut xs (cutOff f xs)
 unfolding cutOff
 cut-is zero xs = record { messages = []; are = tt; bytes = refl }
-cut-is (suc f) xs = go (past xs) refl (cut-is f (drop (size (firstVerdict xs)) xs))
-  where
-    n : ℕ
-    n = size (firstVerdict xs)
-
-    go : (p : Bool) → past xs ≡ p → Cut (drop n xs) (cutOff f (drop n xs)) → Cut xs (cutOff (suc f) xs)
-    go true e i =
-        let w = both-first (isWhole (firstVerdict xs)) (ltb n (length xs)) e in
-        record {
-          messages = take n xs ∷ i .messages;
-          are = (first-message xs w, i .are);
-          bytes =
-              sym (take-append-drop n xs) ∙ ap (_++_ (take n xs)) (i .bytes)
-              ∙ sym (append-assoc (take n xs) (joinedPieces (i .messages)) (cutOff f (drop n xs)))
-              ∙ ap (_++_ (take n xs ++ joinedPieces (i .messages))) (sym (cut-step f xs e));
-        }
-    go false e i = record { messages = []; are = tt; bytes = sym (cut-stops (suc f) xs e) }
+cut-is (suc f) xs =
+    let n = size (firstVerdict xs) in
+    let i = cut-is f (drop n xs) in
+    by-test (past xs)
+    (λ e. record {
+      messages = take n xs ∷ i .messages;
+      are = (first-message xs (both-first (isWhole (firstVerdict xs)) (ltb n (length xs)) e), i .are);
+      bytes =
+          sym (take-append-drop n xs) ∙ ap (_++_ (take n xs)) (i .bytes)
+          ∙ sym (append-assoc (take n xs) (joinedPieces (i .messages)) (cutOff f (drop n xs)))
+          ∙ ap (_++_ (take n xs ++ joinedPieces (i .messages))) (sym (cut-step f xs e));
+    })
+    (λ e. record { messages = []; are = tt; bytes = sym (cut-stops (suc f) xs e) })
 
 pub current-cut : (xs : List ℕ) → Cut xs (current xs)
 current-cut xs = cut-is (length xs) xs
@@ -109,14 +104,12 @@ current-first ys p = cut-stops (length ys) ys p
 cut-done : (f : ℕ) (xs : List ℕ) → length xs ≤ f → past (cutOff f xs) ≡ false
 unfolding cutOff
 cut-done zero xs l = past-few xs (omega arith)
-cut-done (suc f) xs l = go (past xs) refl (cut-done f (drop (size (firstVerdict xs)) xs))
-  where
-    go : (p : Bool) → past xs ≡ p → (length (drop (size (firstVerdict xs)) xs) ≤ f → past (cutOff f (drop (size (firstVerdict xs)) xs)) ≡ false)
-        → past (cutOff (suc f) xs) ≡ false
-    go true e ih =
-        let w = whole-some xs (both-first (isWhole (firstVerdict xs)) (ltb (size (firstVerdict xs)) (length xs)) e) in
-        rw (cut-step f xs e) (ih (omega (arith, length-drop (size (firstVerdict xs)) xs)))
-    go false e ih = rw (cut-stops (suc f) xs e) e
+cut-done (suc f) xs l =
+    let n = size (firstVerdict xs) in
+    by-test (past xs)
+    (λ e. let w = whole-some xs (both-first (isWhole (firstVerdict xs)) (ltb n (length xs)) e) in
+    rw (cut-step f xs e) (cut-done f (drop n xs) (omega (arith, length-drop n xs))))
+    (λ e. rw (cut-stops (suc f) xs e) e)
 
 -- bytes that are whole and not past their first message are one message
 only-message : (ys : List ℕ) → isWhole (firstVerdict ys) ≡ true → past ys ≡ false → WholeMessage ys
@@ -134,27 +127,17 @@ joined-snoc (k ∷ ms) m = ap (_++_ k) (joined-snoc ms m) ∙ sym (append-assoc 
 
 -- every stream is whole messages, and then one that is not whole
 pub parted : (xs : List ℕ) → Parted xs
-parted xs = go (isWhole (firstVerdict (current xs))) refl (current-cut xs)
-  where
-    go : (w : Bool) → isWhole (firstVerdict (current xs)) ≡ w → Cut xs (current xs) → Parted xs
-    go true e c =
-        record {
-          messages = c .messages ++ (current xs ∷ []);
-          present = [];
-          are = messages-snoc (c .messages) (current xs) (c .are) (only-message (current xs) e (cut-done (length xs) xs (omega arith)));
-          unfinished = ap isWhole front-none;
-          bytes = c .bytes ∙ sym (joined-snoc (c .messages) (current xs)) ∙ sym (append-nil (joinedPieces (c .messages ++ (current xs ∷ []))));
-        }
-    go false e c = record { messages = c .messages; present = current xs; are = c .are; unfinished = e; bytes = c .bytes }
-
-message-whole : (m : List ℕ) → WholeMessage m → isWhole (firstVerdict m) ≡ true
-message-whole m w = ap isWhole (begins-whole m (w .header) (record { read = w .read; reached = omega (arith, w .sized) }))
-
-message-alone : (m : List ℕ) → WholeMessage m → past m ≡ false
-message-alone m w =
-    let s : size (firstVerdict m) ≡ length m = ap size (begins-whole m (w .header) (record { read = w .read; reached = omega (arith, w .sized) }))
-    ∙ sym (w .sized) in
-    rw (message-whole m w, s, le-ltb (length m) (length m) (omega arith))
+parted xs =
+    let c = current-cut xs in
+    by-test (isWhole (firstVerdict (current xs)))
+    (λ e. record {
+      messages = c .messages ++ (current xs ∷ []);
+      present = [];
+      are = messages-snoc (c .messages) (current xs) (c .are) (only-message (current xs) e (cut-done (length xs) xs (omega arith)));
+      unfinished = ap isWhole front-none;
+      bytes = c .bytes ∙ sym (joined-snoc (c .messages) (current xs)) ∙ sym (append-nil (joinedPieces (c .messages ++ (current xs ∷ []))));
+    })
+    (λ e. record { messages = c .messages; present = current xs; are = c .are; unfinished = e; bytes = c .bytes })
 
 -- and of that one the guard has the count and the head, however the stream is parted so
 pub tail-behind : (ms : List (List ℕ)) (ys : List ℕ) → Messages ms → isWhole (firstVerdict ys) ≡ false → tailView (joinedPieces ms ++ ys) ≡ keptTail ys
@@ -172,7 +155,7 @@ tail-behind (m ∷ ms) ys w u = go (joinedPieces ms ++ ys) refl (tail-behind ms 
     go (b ∷ zs) e ih =
         let n : length (joinedPieces ms ++ ys) ≡ length (b ∷ zs) = ap length e in
         ap tailView (append-assoc m (joinedPieces ms) ys)
-        ∙ ap (λ (c : List ℕ). cond (isWhole (firstVerdict c)) fresh (keptTail c)) (message-then m (joinedPieces ms ++ ys) (w .0) (omega arith))
+        ∙ ap (λ (c : List ℕ). cond (isWhole (firstVerdict c)) fresh (keptTail c)) (message-then m (w .0) (joinedPieces ms ++ ys) (omega arith))
         ∙ ih
 
 -- ---- where a head breaks

@@ -8,7 +8,7 @@ use lib.ListN.{length}
 use Rattle.image.specs.Good.{imageAnswer}
 use Rattle.stream.specs.Stream.{broken}
 use Rattle.rules.specs.State.{State}
-use Rattle.rules.specs.Calls.{Step, stays, connect, own, piece, noConnect, noPiece}
+use Rattle.rules.specs.Calls.{Step}
 use Rattle.rules.specs.declared.Connected.{Connected}
 use Rattle.rules.specs.declared.Taken.{Taken}
 use Rattle.rules.proofs.Tests.{choice}
@@ -28,15 +28,15 @@ never : (b : State (List ℕ)) (c : Call) → numberOf (modelStep b c .answer) �
 unfolding modelStep
 never b starts = λ e. omega arith
 never b (connects image uid gids) =
-    choice (λ (z : Step (List ℕ) Connected). z .result .answer ≡ 51 → ⊥) (eqb (imageAnswer image) 0) (connect books image b uid gids)
-    (stays b (noConnect (imageAnswer image))) (λ a. few (connect-modest books b image uid gids .most)) (λ a. image-refuses image a .not51)
+    choice (λ (z : Step (List ℕ) Connected). z .result .answer ≡ 51 → ⊥) (eqb (imageAnswer image) 0) _ _
+    (λ a. few (connect-modest books b image uid gids .most)) (λ a. image-refuses image a .not51)
 never b (claims image n name) =
-    choice (λ (z : Step (List ℕ) ℕ). z .result ≡ 51 → ⊥) (eqb (imageAnswer image) 0) (own image b n name) (stays b (imageAnswer image))
+    choice (λ (z : Step (List ℕ) ℕ). z .result ≡ 51 → ⊥) (eqb (imageAnswer image) 0) _ _
     (λ a. few (own-modest b image n name .most)) (λ a. image-refuses image a .not51)
 never b (releases n name) = few (release-modest b n name .most)
 never b (offers image n bytes) =
-    choice (λ (z : Step (List ℕ) Taken). z .result .judgement .answer ≡ 51 → ⊥) (eqb (imageAnswer image) 0) (piece books image b n bytes)
-    (stays b (noPiece (imageAnswer image))) (λ a. few (piece-modest books book-faults b image n bytes .most)) (λ a. image-refuses image a .not51)
+    choice (λ (z : Step (List ℕ) Taken). z .result .judgement .answer ≡ 51 → ⊥) (eqb (imageAnswer image) 0) _ _
+    (λ a. few (piece-modest books book-faults b image n bytes .most)) (λ a. image-refuses image a .not51)
 never b (leaves n) = few (disconnect-modest books b n .most)
 
 pub nevers : (b : State (List ℕ)) (cs : List Call) → Never51 (answers b cs)

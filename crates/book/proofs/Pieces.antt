@@ -1,8 +1,8 @@
 -- What an answer says of the piece that was given it, over any streams: 1 to 9 that a head broke, 0 and 20 to 26 that a message ended.
 use mathlib.Core.Path.{_≡_, refl, sym, ap, _∙_}
-use mathlib.Core.Logic.{_⊎_, inl, inr}
-use mathlib.Core.Bool.{Bool, true, false, cond, false≢true}
-use mathlib.Core.List.{List, [], _∷_}
+use mathlib.Core.Logic.{inl, inr}
+use mathlib.Core.Bool.{true, false≢true}
+use mathlib.Core.List.{List}
 use Prim.Native.Nat.{ℕ, _≤_}
 use native.Mathlib.Omega.{arith}
 use lib.Dec.{eqb}
@@ -10,18 +10,17 @@ use borrow.Author.Tests.{eqb-true, eq-eqb}
 use Rattle.wire.proofs.Texts.{impossible}
 use Rattle.image.specs.Good.{imageAnswer}
 use Rattle.header.specs.declared.Header.{Header}
-use Rattle.stream.specs.Stream.{Verdict, more, broken, whole, Streams, Offer, offer, settled}
-use Rattle.stream.specs.Steps.{follows}
+use Rattle.stream.specs.Stream.{Verdict, more, broken, whole, Streams, offer, settled}
 use Rattle.stream.specs.Tail.{isBroken}
-use Rattle.stream.proofs.Offers.{offer-step}
 use Rattle.rules.specs.State.{Slot, free, peer, Peer, State, isPeer, firstBy, putSlot, withStream}
 use Rattle.rules.specs.Judge.{judged}
-use Rattle.rules.specs.Calls.{Step, stays, slotAt, noPiece, offered, offeredTo, pieceAt, piece}
+use Rattle.rules.specs.Calls.{Step, slotAt, noPiece, offered, pieceAt, piece}
 use Rattle.rules.specs.declared.Taken.{Taken}
-use Rattle.rules.proofs.First.{first-passes, taken-below}
 use Rattle.book.specs.Lists.{underImage}
 use Rattle.book.specs.Messages.{Takes}
 use Rattle.rules.specs.Places.{isJudged}
+use Rattle.rules.proofs.Tests.{choice}
+use Rattle.sound.proofs.Octets.{offer-judged}
 use Rattle.sound.proofs.Numbers.{judged-low, judged-few, judged-proper}
 use Rattle.book.proofs.Images.{image-refuses}
 use Rattle.book.proofs.Ways.{at-open}
@@ -29,35 +28,9 @@ use Rattle.book.proofs.Ways.{at-open}
 -- ---- numbers
 
 judged-no-fault : (a : ℕ) → isJudged a ≡ true → 1 ≤ a → a ≤ 9 → ⊥
-judged-no-fault a h l k = go (judged-low a h)
-  where
-    go : (a ≡ 0) ⊎ ((20 ≤ a) × (a ≤ 26)) → ⊥
-    go (inl q) = omega arith
-    go (inr q) = omega (arith, q .0)
-
--- ---- the peer that a number finds
-
-pub number-found : {S : Type 0} (s : State S) (n : ℕ) (p : Peer S) → slotAt s (firstBy (isPeer n) (s .slots)) ≡ peer p → p .number ≡ n
-number-found s n p e =
-    eqb-true (p .number) n
-    (sym (ap (isPeer n) e) ∙ first-passes (isPeer n) (s .slots) free (taken-below (s .slots) (firstBy (isPeer n) (s .slots)) p e))
+judged-no-fault a h l k = elim (judged-low a h) [ inl q ↦ omega arith | inr q ↦ omega (arith, q .0) ]
 
 module _ {S : Type 0} (O : Streams S) where
-  -- the stream that a broken head leaves is judged so
-  offer-breaks : (t : S) (p : List ℕ) (a : ℕ) → offer O t p .verdict ≡ broken a → O .judge (offer O t p .stream) ≡ broken a
-  unfolding offer
-  offer-breaks t [] a e = impossible cc
-  offer-breaks t (b ∷ p) a e =
-      ap (λ (o : Offer S). O .judge (o .stream)) (offer-step O t b p)
-      ∙ go (O .judge (O .push t b)) refl (ap (λ (o : Offer S). o .verdict) (sym (offer-step O t b p)) ∙ e) (offer-breaks (O .push t b) p a)
-    where
-      go : (v : Verdict) → O .judge (O .push t b) ≡ v → follows v (O .push t b) (offer O (O .push t b) p) .verdict ≡ broken a
-          → (offer O (O .push t b) p .verdict ≡ broken a → O .judge (offer O (O .push t b) p .stream) ≡ broken a)
-          → O .judge (follows v (O .push t b) (offer O (O .push t b) p) .stream) ≡ broken a
-      go more q c ih = ih c
-      go (broken n) q c ih = q ∙ c
-      go (whole k y) q c ih = impossible cc
-
   module _ (image : List ℕ) (z : State S) (i : ℕ) (q : Peer S) (k : ℕ) where
     fault-broken : (v : Verdict) (a : ℕ) → offered image z i q k v .result .judgement .answer ≡ a → 1 ≤ a → a ≤ 9 → v ≡ broken a
     fault-broken more a e l m = absurd (omega arith)
@@ -93,24 +66,16 @@ module _ {S : Type 0} (O : Streams S) where
 
     takes-at : (y : Slot S) → slotAt s place ≡ y → imageAnswer image ≡ 0 → pieceAt O image s place y bytes .result .judgement .answer ≤ 26 → Takes O s image n
     takes-at free e i l = absurd (omega arith)
-    takes-at (peer p) e i l = go (O .closed (p .stream)) refl l
-      where
-        go : (c : Bool) → O .closed (p .stream) ≡ c
-            → cond c (stays s (noPiece 40)) (offeredTo O image s place p (offer O (p .stream) bytes)) .result .judgement .answer ≤ 26
-            → Takes O s image n
-        go true c k = absurd (omega arith)
-        go false c k = record { passed = i; sender = p; sits = e; unbroken = c }
+    takes-at (peer p) e i l =
+        choice (λ (z : Step S Taken). z .result .judgement .answer ≤ 26 → Takes O s image n) (O .closed (p .stream)) _ _
+        (λ c k. absurd (omega arith)) (λ c k. record { passed = i; sender = p; sits = e; unbroken = c }) l
 
     -- an answer below 30 says that it was
     pub low-takes : pieceUnder .result .judgement .answer ≤ 26 → Takes O s image n
     unfolding piece
-    low-takes l = go (eqb (imageAnswer image) 0) refl l
-      where
-        go : (c : Bool) → eqb (imageAnswer image) 0 ≡ c
-            → cond c (piece O image s n bytes) (stays s (noPiece (imageAnswer image))) .result .judgement .answer ≤ 26
-            → Takes O s image n
-        go true e k = takes-at (slotAt s place) refl (eqb-true (imageAnswer image) 0 e) k
-        go false e k = absurd (omega (arith, image-refuses image e .high))
+    low-takes l =
+        choice (λ (z : Step S Taken). z .result .judgement .answer ≤ 26 → Takes O s image n) (eqb (imageAnswer image) 0) _ _
+        (λ e k. takes-at (slotAt s place) refl (eqb-true (imageAnswer image) 0 e) k) (λ e k. absurd (omega (arith, image-refuses image e .high))) l
 
     -- ---- a head that breaks
 
@@ -129,7 +94,7 @@ module _ {S : Type 0} (O : Streams S) where
         let c = takes-is t in
         let v = fault-broken image (putSlot s place (peer q)) place q (o .taken) (o .verdict) a
         (sym (ap (λ (z : Step S Taken). z .result .judgement .answer) c) ∙ e) l k in
-        record { takes = t; stream = o .stream; reads = offer-breaks (p .stream) bytes a v; state = ap (λ (z : Step S Taken). z .state) (c ∙ ap (comes p) v) }
+        record { takes = t; stream = o .stream; reads = offer-judged O (broken a) (λ q. impossible cc) (p .stream) bytes v; state = ap (λ (z : Step S Taken). z .state) (c ∙ ap (comes p) v) }
 
     -- ---- a message that ends
 

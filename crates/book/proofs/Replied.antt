@@ -14,14 +14,15 @@ use Rattle.rules.specs.Judge.{isReply, judged}
 use Rattle.rules.specs.Calls.{Step, slotAt}
 use Rattle.rules.specs.declared.Taken.{Taken}
 use Rattle.rules.specs.View.{seenSlot, seen}
-use Rattle.rules.proofs.View.{slot-seen, resolve-seen, put-seen}
+use Rattle.rules.proofs.First.{number-found}
+use Rattle.rules.proofs.View.{same-seen, slot-seen, resolve-seen, put-seen}
 use Rattle.rules.proofs.Waits.{okPending}
 use Rattle.rules.specs.Awaited.{isWaiting, awaited, isAwaited}
 use Rattle.rules.proofs.Replies.{reply-exact, reply-once}
 use Rattle.sound.proofs.Kept.{Alone}
 use Rattle.book.specs.Book.{books}
 use Rattle.book.specs.Messages.{EndsMessage}
-use Rattle.book.proofs.Pieces.{number-found, pieceUnder, consumed, ends-is}
+use Rattle.book.proofs.Pieces.{pieceUnder, consumed, ends-is}
 
 -- a slot's pending calls are good by themselves
 abbrev pub okSlot : {S : Type 0} → Slot S → Bool
@@ -30,15 +31,10 @@ okSlot (peer p) = okPending (p .pending)
 
 module _ {A B : Type 0} (f : A → B) where
   pub waiting-seen : (c r : ℕ) (y : Slot A) → isWaiting c r (seenSlot f y) ≡ isWaiting c r y
-  waiting-seen c r free = refl
-  waiting-seen c r (peer p) = refl
-
-  ok-seen : (y : Slot A) → okSlot (seenSlot f y) ≡ okSlot y
-  ok-seen free = refl
-  ok-seen (peer p) = refl
+  waiting-seen c r = same-seen f (isWaiting c r) (isWaiting c r) refl (λ p. refl)
 
   pub ok-slots : (s : State A) (j : ℕ) → okSlot (slotAt (seen f s) j) ≡ okSlot (slotAt s j)
-  ok-slots s j = ap okSlot (slot-seen f s j) ∙ ok-seen (slotAt s j)
+  ok-slots s j = ap okSlot (slot-seen f s j) ∙ same-seen f okSlot okSlot refl (λ p. refl) (slotAt s j)
 
   pub awaited-seen : (s : State A) (n : ℕ) (h : List ℕ) (x : Header) → isAwaited (seen f s) n h x ≡ isAwaited s n h x
   awaited-seen s n h x =
@@ -93,7 +89,7 @@ module _ (b : State (List ℕ)) (image : List ℕ) (n : ℕ) (bytes h : List ℕ
   step = pieceUnder books (λ t. refl) image b n bytes
 
   number : done .number ≡ n
-  number = number-found b n sender (m .takes .sits)
+  number = number-found (b .slots) n sender (m .takes .sits)
 
   awaited-same : isAwaited later (done .number) h x ≡ isAwaited b n h x
   awaited-same = ap (λ (k : ℕ). isAwaited later k h x) number ∙ awaited-later b place sender (done .stream) (m .takes .sits) n h x

@@ -1,7 +1,7 @@
 -- A piece offered whole or in parts: the same verdicts in the same order, the same bytes afterwards, and so the same answers to whatever calls follow
 -- (rule 12.2).
 use mathlib.Core.Path.{_≡_, refl, sym, ap, ap₂, _∙_, subst}
-use mathlib.Core.Bool.{Bool, true, false, cond, false≢true}
+use mathlib.Core.Bool.{true, false, cond, false≢true}
 use mathlib.Core.List.{List, [], _∷_, _++_, map, append-nil}
 use Prim.Native.Nat.{ℕ, zero, suc, _+_}
 use native.Mathlib.Omega.{arith}
@@ -15,13 +15,14 @@ use Rattle.rules.specs.State.{State}
 use Rattle.rules.specs.Calls.{Step, stays, empty, piece, noPiece}
 use Rattle.rules.specs.declared.Judgement.{Judgement}
 use Rattle.rules.specs.declared.Taken.{Taken}
-use Rattle.rules.proofs.Tests.{choice}
+use Rattle.rules.proofs.Tests.{choice, by-test}
+use Rattle.rules.proofs.View.{chosen}
 use Rattle.rules.specs.View.{seen}
 use Rattle.memory.specs.Layout.{memoryLength}
 use Rattle.memory.specs.Encoding.{memoryOf, stateOf}
 use Rattle.memory.specs.Good.{good}
 use Rattle.memory.specs.Sound.{Sound}
-use Rattle.memory.specs.Calls.{MemoryStep, stored, unchanged, pieceOn}
+use Rattle.memory.specs.Calls.{MemoryStep, Did, stored, unchanged, pieceOn}
 use Rattle.memory.proofs.Good.{good-is, good-sound}
 use Rattle.memory.proofs.Octets.{every-below}
 use Rattle.sound.proofs.Keep.{piece-sound}
@@ -31,7 +32,7 @@ use Rattle.book.specs.Lists.{ran-own, ran-release, ran-piece, ran-leave,
 use Rattle.rules.specs.Places.{isStop}
 use Rattle.book.specs.Split.{said, Offers, ends, again, OffersAll, nothing, next, joinedPieces}
 use Rattle.book.proofs.Images.{Refusal, image-refuses}
-use Rattle.book.proofs.List.{on-image, Holds, started}
+use Rattle.book.proofs.List.{on-image, started}
 use Rattle.book.proofs.Bytewise.{Offering, Refuses, Laws, idle-refuses, refuses, bytewise, bytewise-none, bytewise-append, call-first, call-last}
 use Rattle.book.proofs.Ways.{stepOf, piece-laws}
 
@@ -70,15 +71,11 @@ module _ (image : List ℕ) (n : ℕ) where
 
   laws : Laws step
   unfolding step
-  laws = choice Laws (eqb (imageAnswer image) 0) (stepOf tails (λ t. refl) image n) refused (λ e. piece-laws tails (λ t. refl) image n) bad-laws
+  laws = choice Laws (eqb (imageAnswer image) 0) _ _ (λ e. piece-laws tails (λ t. refl) image n) bad-laws
 
   step-is : (s : State Tail) (p : List ℕ) → step s p ≡ underImage noPiece image s (piece tails image s n p)
   unfolding step
-  step-is s p = go (eqb (imageAnswer image) 0)
-    where
-      go : (b : Bool) → cond b (stepOf tails (λ t. refl) image n) refused s p ≡ cond b (piece tails image s n p) (stays s (noPiece (imageAnswer image)))
-      go true = refl
-      go false = refl
+  step-is s p = sym (chosen (λ (k : State Tail → List ℕ → Step Tail Taken). k s p) (eqb (imageAnswer image) 0) _ _ _ _ refl refl)
 
   module _ (s : State Tail) (g : Sound s) (p : List ℕ) where
     piece-on : pieceOn image (memoryOf s) n p ≡ stored (step s p)
@@ -87,9 +84,14 @@ module _ (image : List ℕ) (n : ℕ) where
 
     step-sound : Below 256 p → Sound (step s p .state)
     step-sound b =
-        subst (λ (z : Step Tail Taken). Sound (z .state)) (sym (step-is s p))
-        (choice (λ (z : Step Tail Taken). Sound (z .state)) (eqb (imageAnswer image) 0) (piece tails image s n p) (refused s p)
-        (λ e. piece-sound s g p (every-below 256 p b) image n) (λ e. g))
+        rw (step-is s p)
+        (choice (λ (z : Step Tail Taken). Sound (z .state)) (eqb (imageAnswer image) 0) _ _ (λ e. piece-sound s g p (every-below 256 p b) image n) (λ e. g))
+
+    -- what a call with the bytes of s gives
+    called : {m e : List ℕ} {r : Taken} → m ≡ memoryOf s → Did (pieceOn image m n p) r e → (r ≡ step s p .result) × (e ≡ memoryOf (step s p .state))
+    called q d =
+        let w = ap (λ (x : List ℕ). pieceOn image x n p) q ∙ piece-on in
+        (d .result ∙ ap (λ (x : MemoryStep Taken). x .result) w, d .memory ∙ ap (λ (x : MemoryStep Taken). x .memory) w)
 
   -- ---- what the calls of an offering come to, from the bytes of a sound state
 
@@ -100,17 +102,15 @@ module _ (image : List ℕ) (n : ℕ) where
 
   comes : {e m p : List ℕ} {vs : List Judgement} (s : State Tail) → Sound s → Below 256 p → m ≡ memoryOf s → Offers image n e m p vs
       → Comes vs e (bytewise step s p)
-  comes s g b q (ends {p = p} {r = r} d o) =
-      let w = ap (λ (x : List ℕ). pieceOn image x n p) q ∙ piece-on s g p in
-      let c : r ≡ step s p .result = d .result ∙ ap (λ (x : MemoryStep Taken). x .result) w in
-      let f = call-last step laws s p (rw c at o) in
-      rw f (record { said = ap said c; bytes = d .memory ∙ ap (λ (x : MemoryStep Taken). x .memory) w; sound = step-sound s g p b })
+  comes s g b q (ends {p = p} d o) =
+      let c = called s g p q d in
+      rw (call-last step laws s p (rw (c .0) at o)) (record { said = ap said (c .0); bytes = c .1; sound = step-sound s g p b })
   comes s g b q (again {p = p} {r = r} {vs = vs} d o rest) =
-      let w = ap (λ (x : List ℕ). pieceOn image x n p) q ∙ piece-on s g p in
-      let c : r ≡ step s p .result = d .result ∙ ap (λ (x : MemoryStep Taken). x .result) w in
-      let i = comes (step s p .state) (step-sound s g p b) (below-drop (r .taken) p b) (d .memory ∙ ap (λ (x : MemoryStep Taken). x .memory) w) rest in
-      let j : Comes vs _ (bytewise step (step s p .state) (drop (step s p .result .taken) p)) = rw c at i in
-      rw (call-first step laws s p) (record { said = ap₂ (λ (x : Taken) (l : List Judgement). said x ++ l) c (j .said); bytes = j .bytes; sound = j .sound })
+      let c = called s g p q d in
+      let i = comes (step s p .state) (step-sound s g p b) (below-drop (r .taken) p b) (c .1) rest in
+      let j : Comes vs _ (bytewise step (step s p .state) (drop (step s p .result .taken) p)) = rw (c .0) at i in
+      rw (call-first step laws s p)
+      (record { said = ap₂ (λ (x : Taken) (l : List Judgement). said x ++ l) (c .0) (j .said); bytes = j .bytes; sound = j .sound })
 
   comes-all : {m e : List ℕ} {ps : List (List ℕ)} {vs : List Judgement} (s : State Tail) → Sound s → Below 256 (joinedPieces ps) → m ≡ memoryOf s
       → OffersAll image n m e ps vs
@@ -125,13 +125,10 @@ module _ (image : List ℕ) (n : ℕ) where
 
   piece-bad : (m p : List ℕ) → good m ≡ false → (a : ℕ) × (isStop a ≡ true) × (said (noPiece a) ≡ []) × (pieceOn image m n p ≡ unchanged m (noPiece a))
   unfolding pieceOn
-  piece-bad m p g = rw g (go (eqb (imageAnswer image) 0) (image-refuses image))
-    where
-      go : (b : Bool) → (b ≡ false → Refusal (imageAnswer image))
-          → (a : ℕ) × (isStop a ≡ true) × (said (noPiece a) ≡ [])
-          × (cond b (unchanged m (noPiece 51)) (unchanged m (noPiece (imageAnswer image))) ≡ unchanged m (noPiece a))
-      go true f = (51, refl, refl, refl)
-      go false f = (imageAnswer image, f refl .stops, no-verdict (f refl), refl)
+  piece-bad m p g =
+      rw g
+      (choice (λ (o : MemoryStep Taken). (a : ℕ) × (isStop a ≡ true) × (said (noPiece a) ≡ []) × (o ≡ unchanged m (noPiece a))) (eqb (imageAnswer image) 0) _ _
+      (λ e. (51, refl, refl, refl)) (λ e. let f = image-refuses image e in (imageAnswer image, f .stops, no-verdict f, refl)))
 
   bad : {e m p : List ℕ} {vs : List Judgement} → good m ≡ false → Offers image n e m p vs → (vs ≡ []) × (e ≡ m)
   bad g (ends {m = m} {p = p} d o) =
@@ -149,34 +146,24 @@ module _ (image : List ℕ) (n : ℕ) where
       let z = bad-all (rw (a .1) g) os in
       (ap₂ _++_ (a .0) (z .0), z .1 ∙ a .1)
 
+  -- from the bytes of a sound state
+  sound-split : {m e d : List ℕ} {ps : List (List ℕ)} {vs ws : List Judgement} (s : State Tail) → Sound s → m ≡ memoryOf s → Below 256 (joinedPieces ps)
+      → Offers image n e m (joinedPieces ps) vs
+      → OffersAll image n m d ps ws
+      → (vs ≡ ws) × (e ≡ d)
+  sound-split s g q b o os =
+      let a = comes s g b q o in
+      let z = comes-all s g b q os in
+      (a .said ∙ sym (z .said), a .bytes ∙ sym (z .bytes))
+
   -- THE CLAIM: over any memory, good or not, and any image
   pub split-claim : {m e d : List ℕ} {ps : List (List ℕ)} {vs ws : List Judgement} → Below 256 m → Below 256 (joinedPieces ps)
       → Offers image n e m (joinedPieces ps) vs
       → OffersAll image n m d ps ws
       → (vs ≡ ws) × (e ≡ d)
-  split-claim {m} {e} {d} {vs = vs} {ws = ws} bm b o os = go (good m) refl
-    where
-      go : (x : Bool) → good m ≡ x → (vs ≡ ws) × (e ≡ d)
-      go true g =
-          let s = good-sound m bm g in
-          let q = sym (good-is m bm g) in
-          let a = comes (stateOf m) s b q o in
-          let z = comes-all (stateOf m) s b q os in
-          (a .said ∙ sym (z .said), a .bytes ∙ sym (z .bytes))
-      go false g =
-          let a = bad g o in
-          let z = bad-all g os in
-          (a .0 ∙ sym (z .0), a .1 ∙ sym (z .1))
-
-  -- the same from memory that holds what the model does
-  held-split : {m e d : List ℕ} {ps : List (List ℕ)} {vs ws : List Judgement} (b : State (List ℕ)) → Holds m b → Below 256 (joinedPieces ps)
-      → Offers image n e m (joinedPieces ps) vs
-      → OffersAll image n m d ps ws
-      → (vs ≡ ws) × (e ≡ d)
-  held-split b h w o os =
-      let a = comes (seen tailView b) (h .sound) w (h .bytes) o in
-      let z = comes-all (seen tailView b) (h .sound) w (h .bytes) os in
-      (a .said ∙ sym (z .said), a .bytes ∙ sym (z .bytes))
+  split-claim {m} bm b o os =
+      by-test (good m) (λ g. sound-split (stateOf m) (good-sound m bm g) (sym (good-is m bm g)) b o os)
+      (λ g. let a = bad g o in let z = bad-all g os in (a .0 ∙ sym (z .0), a .1 ∙ sym (z .1)))
 
 -- ---- the same calls from the same memory give the same
 
@@ -206,7 +193,8 @@ lists-alike {e₂ = e₂} {f₂ = f₂} {later = later} {bs₂ = bs₂} {ps = ps
     let a = started empty l₁ r₁ in
     let z = started empty l₂ r₂ in
     let q = z .holds .bytes ∙ sym (a .holds .bytes) in
-    let s = held-split image n (after empty (starts ∷ _)) (a .holds) w o (subst (λ (x : List ℕ). OffersAll image n x e₂ ps ws) q os) in
+    let h = a .holds in
+    let s = sound-split image n (seen tailView (after empty (starts ∷ _))) (h .sound) (h .bytes) w o (subst (λ (x : List ℕ). OffersAll image n x e₂ ps ws) q os) in
     let u = same-run t₁ (subst (λ (x : List ℕ). Run x later bs₂ f₂) (sym (s .1)) t₂) in
     (a .answered ∙ sym (z .answered), s .0, u .0, u .1)
 

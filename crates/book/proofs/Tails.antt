@@ -1,6 +1,6 @@
 -- The guard's streams are the model's, seen by their last message: how many of its bytes have come, and those of its head.
 use mathlib.Core.Path.{_≡_, refl, sym, ap, _∙_}
-use mathlib.Core.Bool.{Bool, true, false, cond, false≢true}
+use mathlib.Core.Bool.{true, false, cond, false≢true}
 use mathlib.Core.List.{List, [], _∷_, _++_}
 use Prim.Native.Nat.{ℕ, _≤_, _<_}
 use native.Mathlib.Omega.{arith}
@@ -16,8 +16,10 @@ use Rattle.header.specs.Header.{readHeader}
 use Rattle.header.proofs.Front.{head-low, head-front, head-append}
 use Rattle.header.proofs.Readings.{read-front, whole-fits}
 use Rattle.stream.specs.Stream.{Verdict, more, broken, whole}
-use Rattle.stream.specs.Tail.{finished, isBroken, headEnd, fresh, push, judge, closed, tails}
+use Rattle.stream.specs.Tail.{Tail, finished, isBroken, headEnd, fresh, push, judge, closed, tails}
 use Rattle.stream.proofs.Good.{end-is, fresh-more}
+use Rattle.rules.proofs.Tests.{choice, by-test}
+use Rattle.rules.proofs.View.{chosen}
 use Rattle.rules.proofs.Seen.{Simulates}
 use Rattle.book.specs.Book.{firstVerdict, isWhole, current, books, keptTail, tailView}
 use Rattle.book.proofs.Cut.{snoc, length-snoc, current-snoc, current-none}
@@ -28,18 +30,14 @@ few-end : (c : List ℕ) → length c < 16 → headEnd c ≡ 16
 few-end c h = rw (lt-ltb (length c) 16 h)
 
 end-low : (c : List ℕ) → 16 ≤ headEnd c
-end-low c = go (decLt (length c) 16)
-  where
-    go : Dec (length c < 16) → 16 ≤ headEnd c
-    go (yes h) = rw (few-end c h) (omega arith)
-    go (no h) = rw (end-is c (omega arith)) (head-low c)
+end-low c = elim (decLt (length c) 16) [ yes h ↦ rw (few-end c h) (omega arith) | no h ↦ rw (end-is c (omega arith)) (head-low c) ]
 
 read-kept : (c : List ℕ) → readHeader (take (headEnd c) c) ≡ readHeader c
-read-kept c = go (decLt (length c) 16)
-  where
-    go : Dec (length c < 16) → readHeader (take (headEnd c) c) ≡ readHeader c
-    go (yes h) = ap readHeader (take-all (headEnd c) c (omega (arith, end-low c)))
-    go (no h) = rw (end-is c (omega arith)) (read-front (headLength c) c (head-low c) (omega arith))
+read-kept c =
+    elim (decLt (length c) 16) [
+      | yes h ↦ ap readHeader (take-all (headEnd c) c (omega (arith, end-low c)))
+      | no h ↦ rw (end-is c (omega arith)) (read-front (headLength c) c (head-low c) (omega arith))
+    ]
 
 judge-kept : (c : List ℕ) → judge (keptTail c) ≡ firstVerdict c
 judge-kept c = ap (finished (length c) (take (headEnd c) c)) (read-kept c) ∙ go (readHeader c) refl
@@ -87,16 +85,10 @@ push-kept c b =
     let h = head-kept c b in
     λ i. record { taken = n i; head = h i }
 
--- the first byte of a message
-push-first : (b : ℕ) → push fresh b ≡ keptTail (b ∷ [])
-push-first b = push-kept [] b
-
 push-view : (xs : List ℕ) (b : ℕ) → push (tailView xs) b ≡ keptTail (current (snoc xs b))
-push-view xs b = go (isWhole (firstVerdict (current xs))) ∙ ap keptTail (sym (current-snoc xs b))
-  where
-    go : (w : Bool) → push (cond w fresh (keptTail (current xs))) b ≡ keptTail (cond w (b ∷ []) (snoc (current xs) b))
-    go true = push-first b
-    go false = push-kept (current xs) b
+push-view xs b =
+    rw (current-snoc xs b)
+    (by-test (isWhole (firstVerdict (current xs))) (λ e. rw e (push-kept [] b)) (λ e. rw e (push-kept (current xs) b)))
 
 -- ---- the view
 
@@ -112,29 +104,21 @@ whole-open more e = absurd (false≢true e)
 whole-open (broken a) e = absurd (false≢true e)
 whole-open (whole h x) e = refl
 
-module _ (xs : List ℕ) where
-  closed-view : (w : Bool) → isWhole (firstVerdict (current xs)) ≡ w → closed (cond w fresh (keptTail (current xs))) ≡ isBroken (firstVerdict (current xs))
-  closed-view true e = ap isBroken fresh-more ∙ sym (whole-open (firstVerdict (current xs)) e)
-  closed-view false e = ap isBroken (judge-kept (current xs))
-
-  count-view : (w : Bool) → cond w fresh (keptTail (current xs)) .taken ≡ cond w 0 (length (current xs))
-  count-view true = refl
-  count-view false = refl
+closed-view : (xs : List ℕ) → closed (tailView xs) ≡ isBroken (firstVerdict (current xs))
+closed-view xs =
+    by-test (isWhole (firstVerdict (current xs))) (λ e. rw e (ap isBroken fresh-more ∙ sym (whole-open (firstVerdict (current xs)) e)))
+    (λ e. rw e (ap isBroken (judge-kept (current xs))))
 
 fresh-view : fresh ≡ tailView []
-fresh-view = go (isWhole (firstVerdict (current []))) ∙ refl
-  where
-    go : (w : Bool) → fresh ≡ cond w fresh (keptTail (current []))
-    go true = refl
-    go false = sym (ap keptTail current-none)
+fresh-view = choice (λ (t : Tail). fresh ≡ t) (isWhole (firstVerdict (current []))) _ _ (λ e. refl) (λ e. sym (ap keptTail current-none))
 
 -- the guard's streams answer as the model's do, whatever bytes have come
 pub simulates : Simulates books tails tailView
 simulates =
     record {
       fresh = fresh-view;
-      closed = λ xs. closed-view xs (isWhole (firstVerdict (current xs))) refl;
-      count = λ xs. count-view xs (isWhole (firstVerdict (current xs)));
+      closed = closed-view;
+      count = λ xs. sym (chosen (λ (t : Tail). t .taken) (isWhole (firstVerdict (current xs))) _ _ _ _ refl refl);
       judge = λ xs b. ap judge (push-view xs b) ∙ judge-kept (current (snoc xs b));
       more = λ xs b e. push-view xs b ∙ view-unless (snoc xs b) more refl e;
       broken = λ xs b a e. push-view xs b ∙ view-unless (snoc xs b) (broken a) refl e;

@@ -1,9 +1,9 @@
 -- A piece's first byte, over any streams that are closed exactly where they are broken and whose faults are 1 to 9: the laws that an offering asks.
 use mathlib.Core.Path.{_≡_, refl, sym, ap, _∙_}
-use mathlib.Core.Logic.{_⊎_, inl, inr}
-use mathlib.Core.Bool.{Bool, true, false, cond, false≢true}
+use mathlib.Core.Logic.{inl, inr}
+use mathlib.Core.Bool.{true, false, cond, false≢true}
 use mathlib.Core.List.{List, [], _∷_}
-use Prim.Native.Nat.{ℕ, suc, _≤_}
+use Prim.Native.Nat.{ℕ, suc}
 use native.Mathlib.Omega.{arith}
 use lib.ListN.{set}
 use lib.Seq.{getD-set-same, set-set, set-getD}
@@ -17,6 +17,7 @@ use Rattle.rules.specs.State.{Slot, free, peer, Peer, State, isPeer, firstBy, p
 use Rattle.rules.specs.Judge.{refusal, judged}
 use Rattle.rules.specs.Calls.{Step, stays, slotAt, noPiece, offered, offeredTo, pieceAt, piece}
 use Rattle.rules.specs.declared.Taken.{Taken}
+use Rattle.rules.proofs.Tests.{by-test}
 use Rattle.rules.proofs.First.{first-set, taken-below}
 use Rattle.rules.specs.Places.{isStop, isJudged}
 use Rattle.book.specs.Split.{said}
@@ -25,12 +26,9 @@ use Rattle.book.proofs.Bytewise.{bumped, Refuses, Idle, idle-refuses, i
 
 -- a judged message ends no offering
 judged-goes : (a : ℕ) → isJudged a ≡ true → isStop a ≡ false
-judged-goes a h = go (judged-low a h)
-  where
-    go : (a ≡ 0) ⊎ ((20 ≤ a) × (a ≤ 26)) → isStop a ≡ false
-    go (inl q) = rw q
-    go (inr (l, k)) =
-        rw (le-leb 1 a (omega arith), lt-leb a 9 (omega arith), lt-leb 30 a (omega arith))
+judged-goes a h =
+    elim (judged-low a h)
+    [ inl q ↦ rw q | inr (l, k) ↦ rw (le-leb 1 a (omega arith), lt-leb a 9 (omega arith), lt-leb 30 a (omega arith)) ]
 
 module _ {S : Type 0} (O : Streams S) (shut : (t : S) → O .closed t ≡ isBroken (O .judge t)) (image : List ℕ) (n : ℕ) where
   abbrev pub stepOf : State S → List ℕ → Step S Taken
@@ -143,19 +141,11 @@ module _ {S : Type 0} (O : Streams S) (shut : (t : S) → O .closed t ≡ isBrok
 
     idle-at : (y : Slot S) → slotAt s place ≡ y → Idle stepOf s
     idle-at free e = idle-refuses (nobody-refuses e)
-    idle-at (peer q) e = go (O .closed (q .stream)) refl
-      where
-        go : (c : Bool) → O .closed (q .stream) ≡ c → Idle stepOf s
-        go true c = idle-refuses (closed-refuses q e c)
-        go false c = idles (open-idles q e c)
+    idle-at (peer q) e = by-test (O .closed (q .stream)) (λ c. idle-refuses (closed-refuses q e c)) (λ c. idles (open-idles q e c))
 
     way-at : (b : ℕ) (p : List ℕ) (y : Slot S) → slotAt s place ≡ y → Way stepOf s b p
     way-at b p free e = refuses (nobody-refuses e)
-    way-at b p (peer q) e = go (O .closed (q .stream)) refl
-      where
-        go : (c : Bool) → O .closed (q .stream) ≡ c → Way stepOf s b p
-        go true c = refuses (closed-refuses q e c)
-        go false c = way-open q e c b p
+    way-at b p (peer q) e = by-test (O .closed (q .stream)) (λ c. refuses (closed-refuses q e c)) (λ c. way-open q e c b p)
 
   pub piece-laws : Laws stepOf
   piece-laws = record { idle = λ s. idle-at s (slotAt s (place s)) refl; way = λ s b p. way-at s b p (slotAt s (place s)) refl }

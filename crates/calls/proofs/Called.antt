@@ -1,10 +1,10 @@
 -- Each call of an entry, and its report.
-use mathlib.Core.Path.{_≡_, refl, sym, ap, ap₂, _∙_}
-use mathlib.Core.Bool.{Bool, true, false}
+use mathlib.Core.Path.{_≡_, refl, ap, _∙_}
+use mathlib.Core.Bool.{true}
 use mathlib.Core.List.{List, [], _∷_}
 use Prim.Native.Nat.{ℕ, _+_, _-_, _*_, _/_, _%_, _≤_, min, _<_}
 use native.Mathlib.Omega.{arith}
-use native.Mathlib.Nat.{sub-zero, add-mul-div-left, add-mul-mod-self-left}
+use native.Mathlib.Nat.{sub-zero}
 use lib.Dec.{leb}
 use lib.ListN.{length, take, drop, length-drop}
 use lib.Seq.{length-take-le}
@@ -15,6 +15,7 @@ use Rattle.wire.specs.declared.Order.the-variants.{Little}
 use Rattle.wire.proofs.Words.{Octets, rest-at, cut-at}
 use Rattle.tables.specs.Tables.{cells}
 use Rattle.tables.proofs.Words.{bytes-drop}
+use Rattle.rules.proofs.Tests.{by-test}
 use Rattle.rules.specs.Calls.{connect}
 use Rattle.rules.specs.declared.Connected.{Connected}
 use Rattle.rules.specs.declared.Taken.{Taken}
@@ -32,6 +33,9 @@ use Rattle.calls.proofs.Entries.{at-least}
 
 -- ---- reports
 
+low-digit : (x y q : ℕ) → x ≡ y + 256 * q → y % 256 ≡ x % 256
+low-digit x y q e = omega arith
+
 -- four bytes hold no more of a number
 low-word : (n : ℕ) → wordBytes (n % 4294967296) ≡ wordBytes n
 unfolding wordBytes
@@ -39,15 +43,15 @@ low-word n =
     let m = n % 4294967296 in
     let q = n / 4294967296 in
     let e : n ≡ m + 256 * (16777216 * q) = omega arith in
-    let a : n % 256 ≡ m % 256 = ap (λ (x : ℕ). x % 256) e ∙ add-mul-mod-self-left m 256 (16777216 * q) in
-    let e₁ : n / 256 ≡ m / 256 + 256 * (65536 * q) = ap (λ (x : ℕ). x / 256) e ∙ add-mul-div-left m (16777216 * q) (omega arith) ∙ omega arith in
-    let b : n / 256 % 256 ≡ m / 256 % 256 = ap (λ (x : ℕ). x % 256) e₁ ∙ add-mul-mod-self-left (m / 256) 256 (65536 * q) in
-    let e₂ : n / 256 / 256 ≡ m / 256 / 256 + 256 * (256 * q) = ap (λ (x : ℕ). x / 256) e₁ ∙ add-mul-div-left (m / 256) (65536 * q) (omega arith)
-    ∙ omega arith in
-    let c : n / 256 / 256 % 256 ≡ m / 256 / 256 % 256 = ap (λ (x : ℕ). x % 256) e₂ ∙ add-mul-mod-self-left (m / 256 / 256) 256 (256 * q) in
-    let e₃ : n / 256 / 256 / 256 ≡ m / 256 / 256 / 256 + 256 * q = ap (λ (x : ℕ). x / 256) e₂ ∙ add-mul-div-left (m / 256 / 256) (256 * q) (omega arith) in
-    let d : n / 256 / 256 / 256 % 256 ≡ m / 256 / 256 / 256 % 256 = ap (λ (x : ℕ). x % 256) e₃ ∙ add-mul-mod-self-left (m / 256 / 256 / 256) 256 q in
-    sym (ap₂ _∷_ a (ap₂ _∷_ b (ap₂ _∷_ c (ap (λ (x : ℕ). x ∷ []) d))))
+    let f : n / 256 ≡ m / 256 + 256 * (65536 * q) = omega arith in
+    let g : n / 256 / 256 ≡ m / 256 / 256 + 256 * (256 * q) = omega arith in
+    let h : n / 256 / 256 / 256 ≡ m / 256 / 256 / 256 + 256 * q = omega arith in
+    rw (
+      low-digit n m (16777216 * q) e,
+      low-digit (n / 256) (m / 256) (65536 * q) f,
+      low-digit (n / 256 / 256) (m / 256 / 256) (256 * q) g,
+      low-digit (n / 256 / 256 / 256) (m / 256 / 256 / 256) q h,
+    )
 
 seven : (a t k n c u d : ℕ) → wordBytes t ≡ wordBytes u → wordBytes c ≡ wordBytes d
     → cells wordBytes (a ∷ t ∷ k ∷ n ∷ c ∷ 0 ∷ 0 ∷ []) ≡ cells wordBytes (a ∷ u ∷ k ∷ n ∷ d ∷ 0 ∷ 0 ∷ [])
@@ -89,13 +93,11 @@ unfolding connectOn connect
 many image m uid g h p q = rw (lt-ltb 16 (length g) p, lt-ltb 16 (length h) q)
 
 enough : (image m : List ℕ) (uid n : ℕ) (s : List ℕ) → connectOn image m uid (words (min n 17) s) ≡ connectOn image m uid (words n s)
-enough image m uid n s = go (leb n 17) refl
-  where
-    go : (b : Bool) → leb n 17 ≡ b → connectOn image m uid (words (min n 17) s) ≡ connectOn image m uid (words n s)
-    go true q = let l = leb-true n 17 q in let e : min n 17 ≡ n = omega arith in ap (λ (k : ℕ). connectOn image m uid (words k s)) e
-    go false q =
-        let l = leb-false n 17 q in
-        many image m uid (words (min n 17) s) (words n s) (omega (arith, words-length (min n 17) s)) (omega (arith, words-length n s))
+enough image m uid n s =
+    by-test (leb n 17)
+    (λ q. let l = leb-true n 17 q in let e : min n 17 ≡ n = omega arith in rw e)
+    (λ q. let l = leb-false n 17 q in
+    many image m uid (words (min n 17) s) (words n s) (omega (arith, words-length (min n 17) s)) (omega (arith, words-length n s)))
 
 pub connect-front : (image m e gids : List ℕ) (uid count : ℕ) (r : Connected) → Did (connectOn image m uid (take (count - 0) gids)) r e
     → Did (connectOn image m uid (take count gids)) r e

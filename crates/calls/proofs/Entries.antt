@@ -1,6 +1,6 @@
 -- The entries of a script: their lengths, and the layout to its end.
 use mathlib.Core.Path.{_≡_, refl, sym, ap, _∙_}
-use mathlib.Core.Bool.{Bool, true, false, not, cond, _&&_, false≢true}
+use mathlib.Core.Bool.{Bool, true, false, not, _&&_, false≢true}
 use mathlib.Core.List.{List, [], _∷_}
 use Prim.Native.Nat.{ℕ, zero, suc, _+_, _-_, _%_, _≤_, _<_}
 use native.Mathlib.Omega.{arith}
@@ -12,6 +12,7 @@ use Rattle.wire.specs.Words.{wordAt}
 use Rattle.wire.specs.declared.Order.the-variants.{Little}
 use Rattle.wire.proofs.Texts.{both-first, both-second}
 use Rattle.wire.proofs.Words.{rest-at}
+use Rattle.rules.proofs.Tests.{choice, by-test}
 use Rattle.calls.specs.Script.{entryKind, sizeOf, argumentOf, wellSized, entrySize, layout, scriptCalls, callOf}
 use Rattle.calls.specs.Steps.{Sized, Entry, Counted}
 
@@ -39,13 +40,10 @@ module _ (kind n : ℕ) where
     -- all but a start begin with a word
     pub at-least : wellSized kind n ≡ true → 4 ≤ n
     unfolding wellSized
-    at-least w = go (eqb kind 1) refl (eqb kind 5) refl (rw (ne-eqb kind 0 h) at w)
-      where
-        go : (x : Bool) → eqb kind 1 ≡ x → (y : Bool) → eqb kind 5 ≡ y
-            → cond x (leb 4 n && eqb (n % 4) 0) (cond y (eqb n 4) (ltb kind 5 && leb 4 n)) ≡ true → 4 ≤ n
-        go true p y q e = leb-true 4 n (both-first (leb 4 n) (eqb (n % 4) 0) e)
-        go false p true q e = omega (arith, eqb-true n 4 e)
-        go false p false q e = leb-true 4 n (both-second (ltb kind 5) (leb 4 n) e)
+    at-least w =
+        choice (λ (b : Bool). b ≡ true → 4 ≤ n) (eqb kind 1) _ _ (λ p e. leb-true 4 n (both-first (leb 4 n) (eqb (n % 4) 0) e))
+        (λ p. choice (λ (b : Bool). b ≡ true → 4 ≤ n) (eqb kind 5) _ _ (λ q e. omega (arith, eqb-true n 4 e))
+        (λ q e. leb-true 4 n (both-second (ltb kind 5) (leb 4 n) e))) (rw (ne-eqb kind 0 h) at w)
 
 pub ruleset kinds = (sized-start, sized-connect, sized-leave, sized-peer, needs)
 
@@ -82,13 +80,12 @@ pub ruleset sizes = (size-short, size-bad, size-cut, size-good, needs)
 -- an entry of some length stands there
 pub entry-of : (s : List ℕ) → (entrySize s ≡ 0 → ⊥) → Entry s
 unfolding entrySize
-entry-of s h = go (ltb (length s) 8) refl (wellSized (entryKind s) (sizeOf s)) refl (ltb (length s - 8) (sizeOf s)) refl
-  where
-    go : (x : Bool) → ltb (length s) 8 ≡ x → (y : Bool) → wellSized (entryKind s) (sizeOf s) ≡ y → (z : Bool) → ltb (length s - 8) (sizeOf s) ≡ z → Entry s
-    go true p y q z r = absurd (h (rw p))
-    go false p false q z r = absurd (h (rw (p, q)))
-    go false p true q true r = absurd (h (rw (p, q, r)))
-    go false p true q false r = record { long = ltb-false (length s) 8 p; inside = ltb-false (length s - 8) (sizeOf s) r; sized = q }
+entry-of s h =
+    by-test (ltb (length s) 8) (λ p. absurd (h (rw p)))
+    (λ p. by-test (wellSized (entryKind s) (sizeOf s))
+    (λ q. by-test (ltb (length s - 8) (sizeOf s)) (λ r. absurd (h (rw (p, q, r))))
+    (λ r. record { long = ltb-false (length s) 8 p; inside = ltb-false (length s - 8) (sizeOf s) r; sized = q }))
+    (λ q. absurd (h (rw (p, q)))))
 
 -- ---- one entry on
 

@@ -1,6 +1,6 @@
 -- How far a script has been run, and that it ends as the model says.
 use mathlib.Core.Path.{_≡_, refl, sym, ap, _∙_}
-use mathlib.Core.Bool.{Bool, true, false, not}
+use mathlib.Core.Bool.{true, false, not}
 use mathlib.Core.List.{List, [], _∷_, _++_, append-assoc, append-nil}
 use Prim.Native.Nat.{ℕ, zero, suc, _+_, _-_, _*_, _/_, _≤_, _<_}
 use native.Mathlib.Omega.{arith}
@@ -13,6 +13,7 @@ use Rattle.wire.specs.Words.{wordBytes}
 use Rattle.wire.proofs.Words.{word-length, rest-at, put-at}
 use Rattle.tables.specs.Tables.{cells}
 use Rattle.tables.proofs.Cells.{cells-length, cells-snoc}
+use Rattle.rules.proofs.Tests.{by-test}
 use Rattle.rules.specs.Calls.{empty}
 use Rattle.rules.specs.declared.Receiver.{Receiver}
 use Rattle.rules.specs.declared.Receiver.the-variants as to
@@ -105,53 +106,11 @@ module _ {image s m₀ x m y rest : List ℕ} {at : ℕ} (g : Going image s m₀
 
     pub going-less : {k : ℕ} → Sized rest k → length (take (length rest - k) (drop k rest)) < length rest
     going-less {k} z =
-        let p : 0 < k = go k (z .is) in
+        let n = front-entry (g .fuel) rest h (g .whole) in
+        let p : k ≡ 0 → ⊥ = λ e. n (sym (z .is) ∙ e) in
         omega (arith, ap length (rest-at k rest), length-drop k rest)
-      where
-        go : (j : ℕ) → j ≡ entrySize rest → 0 < j
-        go zero q = absurd (front-entry (g .fuel) rest h (g .whole) (sym q))
-        go (suc j) q = omega arith
 
     module _ {k : ℕ} (z : Sized rest k) (e w : List ℕ) (t : Stepped image rest m e w) (same : length e ≡ length m) where
-      goes : (f : ℕ) → length rest ≤ suc f → layout (suc f) rest ≡ true → scriptCalls image (length s) s ≡ g .past ++ scriptCalls image (suc f) rest
-          → at + 28 * length (scriptCalls image (suc f) rest) ≤ length x
-          → Going image s m₀ x e (take at y ++ (w ++ drop (at + 28) y)) (drop (entrySize rest) rest) (at + 28)
-      goes f l q a r =
-          let n : entrySize rest ≡ 0 → ⊥ = front-entry (suc f) rest h q in
-          let c = callOf image (entryKind rest) (argumentOf rest) in
-          let o = cells answerPlace (g .given) in
-          let lw : length w ≡ 28 = ap length (t .written) ∙ place-length (t .answer) in
-          let ty : take at y ≡ o = ap (take at) (g .text) ∙ take-at o (drop at x) at written in
-          let dy : drop (at + 28) y ≡ drop (at + 28) x
-          = sym (drop-drop 28 at y) ∙ ap (λ (v : List ℕ). drop 28 (drop at v)) (g .text) ∙ ap (drop 28) (drop-at o (drop at x) at written)
-          ∙ drop-drop 28 at x in
-          let b : cells answerPlace (g .given ++ (t .answer ∷ [])) ≡ o ++ w = cells-snoc answerPlace (g .given) (t .answer)
-          ∙ ap (λ (v : List ℕ). o ++ v) (sym (t .written)) in
-          let text : take at y ++ (w ++ drop (at + 28) y) ≡ cells answerPlace (g .given ++ (t .answer ∷ [])) ++ drop (at + 28) x
-          = rw (ty, dy, b) (sym (append-assoc o w (drop (at + 28) x))) in
-          let lo : length (cells answerPlace (g .given ++ (t .answer ∷ []))) ≡ at + 28 = ap length b ∙ length-append o w ∙ omega (arith, written) in
-          let d : length (drop (entrySize rest) rest) ≡ length rest - entrySize rest = length-drop (entrySize rest) rest in
-          let cs : length (scriptCalls image (suc f) rest) ≡ suc (length (scriptCalls image f (drop (entrySize rest) rest))) =
-          ap length (calls-step image f rest h) in
-          record {
-            fuel = f;
-            enough = omega (arith, d);
-            whole = sym (layout-step f rest h n) ∙ q;
-            past = g .past ++ (c ∷ []);
-            given = g .given ++ (t .answer ∷ []);
-            ran = run-append (g .ran) (then (t .ran) done);
-            all =
-                a
-                ∙ ap (λ (v : List Call). g .past ++ v) (calls-step image f rest h)
-                ∙ sym (append-assoc (g .past) (c ∷ []) (scriptCalls image f (drop (entrySize rest) rest)));
-            place = omega (arith, g .place, length-append (g .past) (c ∷ []));
-            text = text;
-            room = omega arith;
-            sized = ap length text ∙ length-append (cells answerPlace (g .given ++ (t .answer ∷ []))) (drop (at + 28) x)
-                ∙ omega (arith, lo, length-drop (at + 28) x);
-            fits = same ∙ g .fits;
-          }
-
       pub going-on : Going image s m₀ x e (take at y ++ (w ++ drop (at + 28 - at) (drop at y))) (take (length rest - k) (drop k rest)) (at + 28)
       going-on = rw (behind z, put-at at 28 y w) (go (g .fuel) (g .enough) (g .whole) (g .all) (g .room))
         where
@@ -159,7 +118,41 @@ module _ {image s m₀ x m y rest : List ℕ} {at : ℕ} (g : Going image s m₀
               → at + 28 * length (scriptCalls image f rest) ≤ length x
               → Going image s m₀ x e (take at y ++ (w ++ drop (at + 28) y)) (drop (entrySize rest) rest) (at + 28)
           go zero l q a r = absurd (omega arith)
-          go (suc f) l q a r = goes f l q a r
+          go (suc f) l q a r =
+              let n : entrySize rest ≡ 0 → ⊥ = front-entry (suc f) rest h q in
+              let c = callOf image (entryKind rest) (argumentOf rest) in
+              let o = cells answerPlace (g .given) in
+              let lw : length w ≡ 28 = ap length (t .written) ∙ place-length (t .answer) in
+              let ty : take at y ≡ o = ap (take at) (g .text) ∙ take-at o (drop at x) at written in
+              let dy : drop (at + 28) y ≡ drop (at + 28) x
+              = sym (drop-drop 28 at y) ∙ ap (λ (v : List ℕ). drop 28 (drop at v)) (g .text) ∙ ap (drop 28) (drop-at o (drop at x) at written)
+              ∙ drop-drop 28 at x in
+              let b : cells answerPlace (g .given ++ (t .answer ∷ [])) ≡ o ++ w = cells-snoc answerPlace (g .given) (t .answer)
+              ∙ ap (λ (v : List ℕ). o ++ v) (sym (t .written)) in
+              let text : take at y ++ (w ++ drop (at + 28) y) ≡ cells answerPlace (g .given ++ (t .answer ∷ [])) ++ drop (at + 28) x
+              = rw (ty, dy, b) (sym (append-assoc o w (drop (at + 28) x))) in
+              let lo : length (cells answerPlace (g .given ++ (t .answer ∷ []))) ≡ at + 28 = ap length b ∙ length-append o w ∙ omega (arith, written) in
+              let d : length (drop (entrySize rest) rest) ≡ length rest - entrySize rest = length-drop (entrySize rest) rest in
+              let cs : length (scriptCalls image (suc f) rest) ≡ suc (length (scriptCalls image f (drop (entrySize rest) rest))) =
+              ap length (calls-step image f rest h) in
+              record {
+                fuel = f;
+                enough = omega (arith, d);
+                whole = sym (layout-step f rest h n) ∙ q;
+                past = g .past ++ (c ∷ []);
+                given = g .given ++ (t .answer ∷ []);
+                ran = run-append (g .ran) (then (t .ran) done);
+                all =
+                    a
+                    ∙ ap (λ (v : List Call). g .past ++ v) (calls-step image f rest h)
+                    ∙ sym (append-assoc (g .past) (c ∷ []) (scriptCalls image f (drop (entrySize rest) rest)));
+                place = omega (arith, g .place, length-append (g .past) (c ∷ []));
+                text = text;
+                room = omega arith;
+                sized = ap length text ∙ length-append (cells answerPlace (g .given ++ (t .answer ∷ []))) (drop (at + 28) x)
+                    ∙ omega (arith, lo, length-drop (at + 28) x);
+                fits = same ∙ g .fits;
+              }
 
   pub going-ends : length rest ≤ 0 → Replayed image s x m y
   going-ends h =
@@ -174,19 +167,14 @@ pub ruleset going = (going-begins, going-room, going-entry, going-less, going-on
 
 start-refused : (m e : List ℕ) (r : ℕ) → Did (startOn m) r e → (r ≡ 0 → ⊥) → (length m ≡ memoryLength → ⊥) × (e ≡ m)
 unfolding startOn
-start-refused m e r d h = go (eqb (length m) memoryLength) refl
-  where
-    go : (b : Bool) → eqb (length m) memoryLength ≡ b → (length m ≡ memoryLength → ⊥) × (e ≡ m)
-    go true q = absurd (h (rw q at (d .result)))
-    go false q = (eqb-false (length m) memoryLength q, rw q at (d .memory))
+start-refused m e r d h =
+    by-test (eqb (length m) memoryLength) (λ q. absurd (h (rw q at (d .result)))) (λ q. (eqb-false (length m) memoryLength q, rw q at (d .memory)))
 
 start-done : (m e : List ℕ) (r : ℕ) → Did (startOn m) r e → r ≡ 0 → (length m ≡ memoryLength) × (e ≡ memoryOf empty)
 unfolding startOn
-start-done m e r d h = go (eqb (length m) memoryLength) refl
-  where
-    go : (b : Bool) → eqb (length m) memoryLength ≡ b → (length m ≡ memoryLength) × (e ≡ memoryOf empty)
-    go true q = (eqb-true (length m) memoryLength q, rw q at (d .memory))
-    go false q = let z : r ≡ 51 = rw q at (d .result) in absurd (omega arith)
+start-done m e r d h =
+    by-test (eqb (length m) memoryLength) (λ q. (eqb-true (length m) memoryLength q, rw q at (d .memory)))
+    (λ q. let z : r ≡ 51 = rw q at (d .result) in absurd (omega arith))
 
 module _ (image s m x : List ℕ) (c : Count) (o : Counted s c) where
   pub run-broken : not (c .whole) ≡ true → EndsAs (outcome image s m x) 67 m x

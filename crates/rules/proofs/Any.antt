@@ -1,7 +1,7 @@
 -- Lists by their tests: one of them passes, each passes, and each stands once.
 use mathlib.Core.Path.{_≡_, refl}
 use mathlib.Core.Logic.{_⊎_, inl, inr}
-use mathlib.Core.Bool.{Bool, true, false, not, _&&_, _||_, false≢true}
+use mathlib.Core.Bool.{Bool, true, false, not, _&&_, false≢true}
 use mathlib.Core.List.{List, [], _∷_, _++_}
 use borrow.Author.Tests.{not-true}
 use Rattle.wire.specs.Lists.{any, distinct}
@@ -13,21 +13,12 @@ use Rattle.rules.proofs.Fewer.{Fewer, none, skip, keep}
 
 module _ {A : Type 0} (t : A → Bool) where
   pub any-snoc : (xs : List A) (v : A) → any t (xs ++ (v ∷ [])) ≡ true → (any t xs ≡ true) ⊎ (t v ≡ true)
-  any-snoc [] v h = go (either (t v) false h)
-    where
-      go : (t v ≡ true) ⊎ (false ≡ true) → (false ≡ true) ⊎ (t v ≡ true)
-      go (inl e) = inr e
-      go (inr e) = inl e
-  any-snoc (x ∷ xs) v h = go (either (t x) (any t (xs ++ (v ∷ []))) h) (any-snoc xs v)
-    where
-      last : (any t xs ≡ true) ⊎ (t v ≡ true) → (t x || any t xs ≡ true) ⊎ (t v ≡ true)
-      last (inl p) = inl (or-right (t x) (any t xs) p)
-      last (inr p) = inr p
-
-      go : (t x ≡ true) ⊎ (any t (xs ++ (v ∷ [])) ≡ true) → (any t (xs ++ (v ∷ [])) ≡ true → (any t xs ≡ true) ⊎ (t v ≡ true))
-          → (t x || any t xs ≡ true) ⊎ (t v ≡ true)
-      go (inl e) ih = inl (or-left (t x) (any t xs) e)
-      go (inr e) ih = last (ih e)
+  any-snoc [] v h = elim (either (t v) false h) [ inl e ↦ inr e | inr e ↦ inl e ]
+  any-snoc (x ∷ xs) v h =
+      elim (either (t x) (any t (xs ++ (v ∷ []))) h) [
+        | inl e ↦ inl (or-left (t x) (any t xs) e)
+        | inr e ↦ elim (any-snoc xs v e) [ inl p ↦ inl (or-right (t x) (any t xs) p) | inr p ↦ inr p ]
+      ]
 
   pub any-fewer : {xs ys : List A} → Fewer xs ys → any t ys ≡ true → any t xs ≡ true
   any-fewer none h = h
@@ -62,12 +53,11 @@ module _ {A : Type 0} (t : A → Bool) (is : A → A → Bool) where
   unfolding distinct
   distinct-snoc v p turn [] e n = rw p
   distinct-snoc v p turn (x ∷ xs) e n =
-      distinct-cons x (xs ++ (v ∷ [])) (first-good x xs e) (refute (any (is x) (xs ++ (v ∷ []))) (λ h. go (any-snoc (is x) xs v h)))
+      distinct-cons x (xs ++ (v ∷ [])) (first-good x xs e)
+      (refute (any (is x) (xs ++ (v ∷ [])))
+      (λ h. elim (any-snoc (is x) xs v h)
+      [ inl q ↦ clash q (first-once x xs e) | inr q ↦ clash (or-left (is v x) (any (is v) xs) (turn x q)) n ]))
       (distinct-snoc v p turn xs (rest-distinct x xs e) (refute (any (is v) xs) (λ h. clash (or-right (is v x) (any (is v) xs) h) n)))
-    where
-      go : (any (is x) xs ≡ true) ⊎ (is x v ≡ true) → ⊥
-      go (inl q) = clash q (first-once x xs e)
-      go (inr q) = clash (or-left (is v x) (any (is v) xs) (turn x q)) n
 
   pub distinct-fewer : {xs ys : List A} → Fewer xs ys → distinct t is xs ≡ true → distinct t is ys ≡ true
   distinct-fewer none e = e
@@ -79,11 +69,8 @@ module _ {A : Type 0} (t : A → Bool) (is : A → A → Bool) where
   -- what one of them is asked, where it passes another test
   pub distinct-any : (P : Type 0) (u : A → Bool) → ((x : A) → t x ≡ true → u x ≡ true → P) → (xs : List A) → distinct t is xs ≡ true → any u xs ≡ true → P
   distinct-any P u f [] e h = absurd (false≢true h)
-  distinct-any P u f (x ∷ xs) e h = go (either (u x) (any u xs) h) (distinct-any P u f xs (rest-distinct x xs e))
-    where
-      go : (u x ≡ true) ⊎ (any u xs ≡ true) → (any u xs ≡ true → P) → P
-      go (inl p) ih = f x (first-good x xs e) p
-      go (inr p) ih = ih p
+  distinct-any P u f (x ∷ xs) e h =
+      elim (either (u x) (any u xs) h) [ inl p ↦ f x (first-good x xs e) p | inr p ↦ distinct-any P u f xs (rest-distinct x xs e) p ]
 
   -- another test that each of them passes
   pub distinct-pass : (u : A → Bool) → ((x : A) → is x x ≡ true)

@@ -1,6 +1,6 @@
 -- A list with some of its things gone and the later ones moved down.
 use mathlib.Core.Path.{_≡_, refl}
-use mathlib.Core.Bool.{Bool, true, false, cond}
+use mathlib.Core.Bool.{Bool, cond}
 use mathlib.Core.List.{List, [], _∷_}
 use Prim.Native.Nat.{ℕ, _≤_}
 use native.Mathlib.Omega.{arith}
@@ -8,6 +8,7 @@ use lib.Dec.{eqb}
 use lib.ListN.{length}
 use Rattle.rules.specs.State.{Pending, dropFirst}
 use Rattle.rules.specs.Pending.{endedAll}
+use Rattle.rules.proofs.Tests.{choice}
 
 pub data Fewer {A : Type 0} : List A → List A → Type 0 where
   none : Fewer [] []
@@ -28,11 +29,9 @@ dropped-fewer : {A : Type 0} (t : A → Bool) (out rest : List A → List A) →
     → ((x : A) (xs : List A) → out (x ∷ xs) ≡ cond (t x) (rest xs) (x ∷ out xs)) → ((xs : List A) → Fewer xs (out xs) → Fewer xs (rest xs))
     → (xs : List A) → Fewer xs (out xs)
 dropped-fewer t out rest e s k [] = rw e none
-dropped-fewer t out rest e s k (x ∷ xs) = rw (s x xs) (go (t x) (dropped-fewer t out rest e s k xs))
-  where
-    go : (b : Bool) → Fewer xs (out xs) → Fewer (x ∷ xs) (cond b (rest xs) (x ∷ out xs))
-    go true f = skip (k xs f)
-    go false f = keep f
+dropped-fewer t out rest e s k (x ∷ xs) =
+    let f = dropped-fewer t out rest e s k xs in
+    rw (s x xs) (choice (Fewer (x ∷ xs)) (t x) _ _ (λ p. skip (k xs f)) (λ p. keep f))
 
 -- the first that passes a test taken out, and all the waits for a callee
 pub drop-fewer : {A : Type 0} (t : A → Bool) (xs : List A) → Fewer xs (dropFirst t xs)

@@ -1,7 +1,7 @@
 -- What the rules come to for replies: one passes exactly where its call is pending, a second one does not, and nobody awaits a peer that is gone.
 use mathlib.Core.Path.{_≡_, refl, sym, ap, ap₂, _∙_}
-use mathlib.Core.Logic.{_⊎_, inl, inr}
-use mathlib.Core.Bool.{Bool, true, false, cond, false≢true}
+use mathlib.Core.Logic.{inl, inr}
+use mathlib.Core.Bool.{true, false, cond, false≢true}
 use mathlib.Core.List.{List}
 use mathlib.Core.Option.{Option, none, some}
 use Prim.Native.Nat.{ℕ}
@@ -19,20 +19,21 @@ use Rattle.policy.specs.Matching.{fieldOf}
 use Rattle.stream.specs.Stream.{Streams}
 use Rattle.rules.specs.State.{Slot, free, peer, Peer, Pending, State, isPeer, firstBy, withPending}
 use Rattle.rules.specs.Addresses.{Address, undirected, bus, slot, unknown, answersTo, found, resolve}
-use Rattle.rules.specs.Pending.{awaits, ended, removeCallsTo}
+use Rattle.rules.specs.Pending.{ended, removeCallsTo}
 use Rattle.rules.specs.Awaited.{isWaiting, awaited}
 use Rattle.rules.specs.Judge.{Judged, replyTo, reply, isReply, judged}
 use Rattle.rules.specs.Calls.{slotAt, disconnectAt, disconnect}
 use Rattle.rules.specs.declared.Receiver.the-variants as to
-use Rattle.rules.proofs.First.{first-passes, first-set, taken-below}
+use Rattle.rules.proofs.First.{first-set, taken-below, number-found}
+use Rattle.rules.proofs.Tests.{choice}
+use Rattle.rules.proofs.View.{chosen}
 use Rattle.rules.proofs.Waits.{okPending, ended-ends, ended-all-ends}
 
 reply-low : (x : Header) → isReply x ≡ true → ltb 4 (x .kind) ≡ false
-reply-low x r = go (either (eqb (x .kind) return) (eqb (x .kind) error) r)
-  where
-    go : (eqb (x .kind) return ≡ true) ⊎ (eqb (x .kind) error ≡ true) → ltb 4 (x .kind) ≡ false
-    go (inl e) = le-ltb 4 (x .kind) (omega (arith, eqb-true (x .kind) return e))
-    go (inr e) = le-ltb 4 (x .kind) (omega (arith, eqb-true (x .kind) error e))
+reply-low x r =
+    le-ltb 4 (x .kind)
+    (elim (either (eqb (x .kind) return) (eqb (x .kind) error) r)
+    [ inl e ↦ omega (arith, eqb-true (x .kind) return e) | inr e ↦ omega (arith, eqb-true (x .kind) error e) ])
 
 module _ {S : Type 0} (image : List ℕ) (s : State S) (i : ℕ) (sender : Peer S) (h : List ℕ) (x : Header) (r : isReply x ≡ true) where
   abbrev pub address : Address
@@ -43,22 +44,18 @@ module _ {S : Type 0} (image : List ℕ) (s : State S) (i : ℕ) (sender : Peer 
   judged-reply = rw (reply-low x r, r)
 
   -- it passes exactly where its call is pending (rule 7.9)
-  to-answer : (j : ℕ) (y : Slot S) → replyTo s j sender y x .judgement .answer ≡ cond (isWaiting (sender .number) (x .«reply_serial») y) 0 24
+  to-answer : (j : ℕ) (y : Slot S) → cond (isWaiting (sender .number) (x .«reply_serial») y) 0 24 ≡ replyTo s j sender y x .judgement .answer
   to-answer j free = refl
-  to-answer j (peer caller) = go (awaits (sender .number) (x .«reply_serial») (caller .pending)) refl
-    where
-      go : (b : Bool) → awaits (sender .number) (x .«reply_serial») (caller .pending) ≡ b → replyTo s j sender (peer caller) x .judgement .answer ≡ cond b 0 24
-      go true e = rw e
-      go false e = rw e
+  to-answer j (peer caller) = search (chosen (λ (z : Judged S). z .judgement .answer))
 
-  reply-answer : (a : Address) → reply s sender a x .judgement .answer ≡ cond (awaited (s .slots) (sender .number) (x .«reply_serial») a) 0 24
+  reply-answer : (a : Address) → cond (awaited (s .slots) (sender .number) (x .«reply_serial») a) 0 24 ≡ reply s sender a x .judgement .answer
   reply-answer undirected = refl
   reply-answer bus = refl
   reply-answer unknown = refl
   reply-answer (slot j) = to-answer j (getD (s .slots) j free)
 
   pub reply-exact : judged image s i sender h x .judgement .answer ≡ cond (awaited (s .slots) (sender .number) (x .«reply_serial») address) 0 24
-  reply-exact = ap (λ (j : Judged S). j .judgement .answer) judged-reply ∙ reply-answer address
+  reply-exact = rw judged-reply (sym (reply-answer address))
 
   -- ---- it ends that call: a second reply is 24 (rule 7.9)
 
@@ -89,12 +86,7 @@ module _ {S : Type 0} (image : List ℕ) (s : State S) (i : ℕ) (sender : Peer 
 
   resolve-to : (d : Option (List ℕ)) (j : ℕ) (y : Slot S) → getD (s .slots) j free ≡ y → resolve (replyTo s j sender y x .state .slots) d ≡ resolve (s .slots) d
   resolve-to d j free e = refl
-  resolve-to d j (peer caller) e = go (awaits (sender .number) (x .«reply_serial») (caller .pending)) refl
-    where
-      go : (b : Bool) → awaits (sender .number) (x .«reply_serial») (caller .pending) ≡ b
-          → resolve (replyTo s j sender (peer caller) x .state .slots) d ≡ resolve (s .slots) d
-      go true w = rw w (resolve-put j caller (ended (sender .number) (x .«reply_serial») (caller .pending)) d e)
-      go false w = rw w
+  resolve-to d j (peer caller) e = search (choice (λ (z : Judged S). resolve (z .state .slots) d ≡ resolve (s .slots) d), resolve-put)
 
   resolve-after : (d : Option (List ℕ)) (a : Address) → resolve (reply s sender a x .state .slots) d ≡ resolve (s .slots) d
   resolve-after d undirected = refl
@@ -107,11 +99,7 @@ module _ {S : Type 0} (image : List ℕ) (s : State S) (i : ℕ) (sender : Peer 
     pub reply-once : awaited (s .slots) (sender .number) (x .«reply_serial») address ≡ true
         → awaited (judged image s i sender h x .state .slots) (sender .number) (x .«reply_serial»)
         (resolve (judged image s i sender h x .state .slots) (fieldOf h (x .destination))) ≡ false
-    reply-once w =
-        ap (λ (j : Judged S). awaited (j .state .slots) (sender .number) (x .«reply_serial») (resolve (j .state .slots) (fieldOf h (x .destination))))
-        judged-reply
-        ∙ ap (awaited (reply s sender address x .state .slots) (sender .number) (x .«reply_serial»)) (resolve-after (fieldOf h (x .destination)) address)
-        ∙ once ok address w
+    reply-once w = rw (judged-reply, resolve-after (fieldOf h (x .destination)) address) (once ok address w)
 
 -- the same reply again, by the peer with that number, is 24
 pub second-reply : {S : Type 0} (image : List ℕ) (s : State S) (i : ℕ) (sender : Peer S) (h : List ℕ) (x : Header) → isReply x ≡ true
@@ -128,23 +116,16 @@ gone-slot : {S : Type 0} (n r : ℕ) (y : Slot S) → isWaiting n r (removeCalls
 gone-slot n r free = refl
 gone-slot n r (peer p) = ended-all-ends n r (p .pending)
 
--- its number is the one that was asked for
-gone-number : {S : Type 0} (s : State S) (n : ℕ) (p : Peer S) → getD (s .slots) (firstBy (isPeer n) (s .slots)) free ≡ peer p → p .number ≡ n
-gone-number s n p e =
-    eqb-true (p .number) n
-    (sym (ap (isPeer n) e) ∙ first-passes (isPeer n) (s .slots) free (taken-below (s .slots) (firstBy (isPeer n) (s .slots)) p e))
-
 gone-at : {S : Type 0} (O : Streams S) (s : State S) (n i : ℕ) (y : Slot S) → ((p : Peer S) → y ≡ peer p → p .number ≡ n)
     → disconnectAt O s i y .result .answer ≡ 0
     → (j r : ℕ) → isWaiting n r (getD (disconnectAt O s i y .state .slots) j free) ≡ false
 gone-at O s n i free f a j r = absurd (omega arith)
 gone-at O s n i (peer p) f a j r =
-    ap (isWaiting n r) (List·getD-map (removeCallsTo (p .number)) (set (s .slots) i free) j free)
-    ∙ rw (f p refl) (gone-slot n r (getD (set (s .slots) i free) j free))
+    rw (List·getD-map (removeCallsTo (p .number)) (set (s .slots) i free) j free, f p refl) (gone-slot n r (getD (set (s .slots) i free) j free))
 
 pub gone-unawaited : {S : Type 0} (O : Streams S) (s : State S) (n : ℕ) → disconnect O s n .result .answer ≡ 0
     → (j r : ℕ) → isWaiting n r (getD (disconnect O s n .state .slots) j free) ≡ false
 unfolding disconnect
 gone-unawaited O s n a j r =
     let i = firstBy (isPeer n) (s .slots) in
-    gone-at O s n i (slotAt s i) (λ p e. gone-number s n p e) a j r
+    gone-at O s n i (slotAt s i) (number-found (s .slots) n) a j r

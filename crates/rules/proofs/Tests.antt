@@ -26,3 +26,8 @@ refute false h = refl
 pub choice : {A : Type 0} (P : A → Type 0) (b : Bool) (x y : A) → (b ≡ true → P x) → (b ≡ false → P y) → P (cond b x y)
 choice P true x y p q = p refl
 choice P false x y p q = q refl
+
+-- a test decides either way
+pub by-test : {P : Type 0} (b : Bool) → (b ≡ true → P) → (b ≡ false → P) → P
+by-test true p q = p refl
+by-test false p q = q refl

@@ -7,11 +7,9 @@ use Prim.Native.Nat.{ℕ, zero, suc}
 use lib.ListN.{length, getD, set, length-map, List·getD-map}
 use Rattle.wire.specs.Bytes.{same}
 use Rattle.policy.specs.Names.{busName}
-use Rattle.rules.specs.State.{Slot, free, peer, State, isFree, isPeer, firstBy, putSlot}
+use Rattle.rules.specs.State.{Peer, Slot, free, peer, State, isPeer, firstBy, putSlot}
 use Rattle.rules.specs.Addresses.{Address, answersTo, found, resolve}
-use Rattle.rules.specs.Pending.{removeCallsTo}
-use Rattle.rules.specs.Calls.{isOwner}
-use Rattle.rules.specs.View.{seenSlot, seen}
+use Rattle.rules.specs.View.{seenPeer, seenSlot, seen}
 
 -- ---- choices and maps
 
@@ -38,40 +36,21 @@ first-over f t u e [] = refl
 first-over f t u e (x ∷ l) = ap₂ (λ (b : Bool) (k : ℕ). cond b 0 (suc k)) (e x) (first-over f t u e l)
 
 module _ {A B : Type 0} (f : A → B) where
-  -- ---- tests of a slot
-
-  free-seen : (x : Slot A) → isFree (seenSlot f x) ≡ isFree x
-  free-seen free = refl
-  free-seen (peer p) = refl
-
-  peer-seen : (n : ℕ) (x : Slot A) → isPeer n (seenSlot f x) ≡ isPeer n x
-  peer-seen n free = refl
-  peer-seen n (peer p) = refl
-
-  owner-seen : (name : List ℕ) (x : Slot A) → isOwner name (seenSlot f x) ≡ isOwner name x
-  owner-seen name free = refl
-  owner-seen name (peer p) = refl
-
-  answers-seen : (text : List ℕ) (x : Slot A) → answersTo text (seenSlot f x) ≡ answersTo text x
-  unfolding answersTo
-  answers-seen text free = refl
-  answers-seen text (peer p) = refl
-
-  pub calls-removed-seen : (n : ℕ) (x : Slot A) → removeCallsTo n (seenSlot f x) ≡ seenSlot f (removeCallsTo n x)
-  calls-removed-seen n free = refl
-  calls-removed-seen n (peer p) = refl
+  -- what says the same of every peer seen says the same of every slot seen
+  pub same-seen : {C : Type 0} (t : Slot A → C) (u : Slot B → C) → u free ≡ t free → ((p : Peer A) → u (peer (seenPeer f p)) ≡ t (peer p))
+      → (x : Slot A) → u (seenSlot f x) ≡ t x
+  same-seen t u e g free = e
+  same-seen t u e g (peer p) = g p
 
   -- ---- what is found
 
   module _ (s : State A) where
-    pub first-free : firstBy isFree (seen f s .slots) ≡ firstBy isFree (s .slots)
-    first-free = first-over (seenSlot f) isFree isFree free-seen (s .slots)
+    pub first-seen : (t : Slot A → Bool) (u : Slot B → Bool) → u free ≡ t free → ((p : Peer A) → u (peer (seenPeer f p)) ≡ t (peer p))
+        → firstBy u (seen f s .slots) ≡ firstBy t (s .slots)
+    first-seen t u e g = first-over (seenSlot f) t u (same-seen t u e g) (s .slots)
 
     pub first-peer : (n : ℕ) → firstBy (isPeer n) (seen f s .slots) ≡ firstBy (isPeer n) (s .slots)
-    first-peer n = first-over (seenSlot f) (isPeer n) (isPeer n) (peer-seen n) (s .slots)
-
-    pub first-owner : (name : List ℕ) → firstBy (isOwner name) (seen f s .slots) ≡ firstBy (isOwner name) (s .slots)
-    first-owner name = first-over (seenSlot f) (isOwner name) (isOwner name) (owner-seen name) (s .slots)
+    first-peer n = first-seen (isPeer n) (isPeer n) refl (λ p. refl)
 
     pub long-seen : length (seen f s .slots) ≡ length (s .slots)
     long-seen = length-map (s .slots) (seenSlot f)
@@ -80,11 +59,10 @@ module _ {A B : Type 0} (f : A → B) where
     slot-seen i = List·getD-map (seenSlot f) (s .slots) i free
 
     pub resolve-seen : (d : Option (List ℕ)) → resolve (seen f s .slots) d ≡ resolve (s .slots) d
-    unfolding resolve
+    unfolding resolve answersTo
     resolve-seen none = refl
     resolve-seen (some text) =
-        ap₂ (λ (n i : ℕ). cond (same text busName) Address.bus (found n i)) long-seen
-        (first-over (seenSlot f) (answersTo text) (answersTo text) (answers-seen text) (s .slots))
+        ap₂ (λ (n i : ℕ). cond (same text busName) Address.bus (found n i)) long-seen (first-seen (answersTo text) (answersTo text) refl (λ p. refl))
 
     -- ---- what is put
 

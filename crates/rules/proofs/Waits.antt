@@ -1,7 +1,7 @@
 -- A peer's pending calls, as a list: what is good in it by itself, and what one more and some fewer leave.
-use mathlib.Core.Path.{_≡_, refl, sym, subst}
-use mathlib.Core.Logic.{_⊎_, inl, inr}
-use mathlib.Core.Bool.{Bool, true, false, cond, _&&_}
+use mathlib.Core.Path.{_≡_, refl, sym}
+use mathlib.Core.Logic.{inl, inr}
+use mathlib.Core.Bool.{Bool, true, false}
 use mathlib.Core.List.{List, [], _∷_, _++_}
 use Prim.Native.Nat.{ℕ, _≤_}
 use lib.Dec.{ltb, leb, eqb}
@@ -11,7 +11,7 @@ use Rattle.wire.specs.Lists.{distinct}
 use Rattle.wire.proofs.Texts.{both-first, both-second, either}
 use Rattle.rules.specs.State.{Pending, firstBy, dropFirst}
 use Rattle.rules.specs.Pending.{isCall, sameCall, awaits, ended, endedAll}
-use Rattle.rules.proofs.Tests.{clash, or-left, or-right}
+use Rattle.rules.proofs.Tests.{clash, or-grow, choice}
 use Rattle.rules.proofs.First.{first-any}
 use Rattle.rules.proofs.Fewer.{Fewer}
 use Rattle.rules.proofs.Any.{any-fewer, first-once, rest-distinct, distinct-snoc}
@@ -64,35 +64,26 @@ awaits-fewer f c s h = any-fewer (isCall c s) f h
 pub ended-ends : (c s : ℕ) (ws : List Pending) → okPending ws ≡ true → awaits c s (ended c s ws) ≡ false
 unfolding awaits ended dropFirst
 ended-ends c s [] e = refl
-ended-ends c s (w ∷ ws) e = go (isCall c s w) refl (ended-ends c s ws (rest-distinct hasSerial sameCall w ws e))
-  where
-    go : (b : Bool) → isCall c s w ≡ b → awaits c s (ended c s ws) ≡ false → awaits c s (cond b ws (w ∷ ended c s ws)) ≡ false
-    go true p ih =
-        subst (λ (x : ℕ). awaits x s ws ≡ false) (call-callee c s w p)
-        (subst (λ (x : ℕ). awaits (w .callee) x ws ≡ false) (call-serial c s w p) (first-once hasSerial sameCall w ws e))
-    go false p ih = rw p ih
+ended-ends c s (w ∷ ws) e =
+    choice (λ (l : List Pending). awaits c s l ≡ false) (isCall c s w) _ _
+    (λ p. rw (← call-callee c s w p, ← call-serial c s w p) (first-once hasSerial sameCall w ws e))
+    (λ p. rw p (ended-ends c s ws (rest-distinct hasSerial sameCall w ws e)))
 
 -- the other calls still wait
 pub ended-keeps : (c s d r : ℕ) (ws : List Pending) → (isCall c s (call d r) ≡ false) → awaits d r ws ≡ true → awaits d r (ended c s ws) ≡ true
 unfolding awaits ended dropFirst
 ended-keeps c s d r [] n h = h
-ended-keeps c s d r (w ∷ ws) n h = go (isCall c s w) refl (either (isCall d r w) (awaits d r ws) h) (ended-keeps c s d r ws n)
-  where
-    go : (b : Bool) → isCall c s w ≡ b → (isCall d r w ≡ true) ⊎ (awaits d r ws ≡ true) → (awaits d r ws ≡ true → awaits d r (ended c s ws) ≡ true)
-        → awaits d r (cond b ws (w ∷ ended c s ws)) ≡ true
-    go true p (inl q) ih =
-        absurd (clash p (subst (λ (x : ℕ). eqb x c && eqb (w .serial) s ≡ false) (sym (call-callee d r w q))
-        (subst (λ (x : ℕ). eqb d c && eqb x s ≡ false) (sym (call-serial d r w q)) n)))
-    go true p (inr q) ih = q
-    go false p (inl q) ih = or-left (isCall d r w) (awaits d r (ended c s ws)) q
-    go false p (inr q) ih = or-right (isCall d r w) (awaits d r (ended c s ws)) (ih q)
+ended-keeps c s d r (w ∷ ws) n h =
+    let later = ended-keeps c s d r ws n in
+    choice (λ (l : List Pending). awaits d r l ≡ true) (isCall c s w) _ _
+    (λ p. elim (either (isCall d r w) (awaits d r ws) h)
+    [ inl q ↦ absurd (clash p (rw (call-callee d r w q, call-serial d r w q) n)) | inr q ↦ q ])
+    (λ p. or-grow (isCall d r w) (awaits d r ws) (awaits d r (ended c s ws)) later h)
 
 -- a callee that is gone is awaited no longer
 pub ended-all-ends : (c s : ℕ) (ws : List Pending) → awaits c s (endedAll c ws) ≡ false
 unfolding awaits endedAll
 ended-all-ends c s [] = refl
-ended-all-ends c s (w ∷ ws) = go (eqb (w .callee) c) refl (ended-all-ends c s ws)
-  where
-    go : (b : Bool) → eqb (w .callee) c ≡ b → awaits c s (endedAll c ws) ≡ false → awaits c s (cond b (endedAll c ws) (w ∷ endedAll c ws)) ≡ false
-    go true p ih = ih
-    go false p ih = rw p ih
+ended-all-ends c s (w ∷ ws) =
+    let ih = ended-all-ends c s ws in
+    choice (λ (l : List Pending). awaits c s l ≡ false) (eqb (w .callee) c) _ _ (λ p. ih) (λ p. rw p ih)

@@ -1,6 +1,6 @@
 -- Good memory stays good, whatever call comes, with any image and any argument (rule 10.6): uids and gids are of 32 bits, and bytes of 8.
 use mathlib.Core.Path.{_≡_, ap, _∙_}
-use mathlib.Core.Bool.{Bool, true, false, cond}
+use mathlib.Core.Bool.{true}
 use mathlib.Core.List.{List}
 use Prim.Native.Nat.{ℕ, _<_}
 use lib.Dec.{eqb}
@@ -13,11 +13,12 @@ use Rattle.rules.specs.Calls.{Step, empty, noConnect, noPiece, noGone, connect,
 use Rattle.rules.specs.declared.Connected.{Connected}
 use Rattle.rules.specs.declared.Taken.{Taken}
 use Rattle.rules.specs.declared.Gone.{Gone}
+use Rattle.rules.proofs.Tests.{choice}
 use Rattle.memory.specs.Layout.{memoryLength}
 use Rattle.memory.specs.Encoding.{stateOf}
 use Rattle.memory.specs.Good.{good}
 use Rattle.memory.specs.Sound.{Sound}
-use Rattle.memory.specs.Calls.{Did, unchanged, onMemory, onImage, startOn, connectOn, ownOn, releaseOn, pieceOn, disconnectOn}
+use Rattle.memory.specs.Calls.{MemoryStep, Did, onMemory, onImage, startOn, connectOn, ownOn, releaseOn, pieceOn, disconnectOn}
 use Rattle.memory.proofs.Good.{good-sound}
 use Rattle.memory.proofs.Octets.{every-below}
 use Rattle.memory.proofs.Sound.{good-memory}
@@ -30,11 +31,8 @@ module _ {R : Type 0} (refuse : ℕ → R) (m : List ℕ) (g : good m ≡ true) 
   memory-good d = ap good (rw g at (d .memory)) ∙ good-memory (z .state) s
 
   image-good : (image : List ℕ) {r : R} {e : List ℕ} → Did (onImage refuse image m z) r e → good e ≡ true
-  image-good image {r} {e} d = go (eqb (imageAnswer image) 0) d
-    where
-      go : (b : Bool) → Did (cond b (onMemory refuse m z) (unchanged m (refuse (imageAnswer image)))) r e → good e ≡ true
-      go true x = memory-good x
-      go false x = ap good (x .memory) ∙ g
+  image-good image {r} {e} d =
+      choice (λ (o : MemoryStep R). Did o r e → good e ≡ true) (eqb (imageAnswer image) 0) _ _ (λ b. memory-good) (λ b x. ap good (x .memory) ∙ g) d
 
 -- ---- each call
 

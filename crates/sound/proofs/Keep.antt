@@ -1,24 +1,21 @@
 -- An empty guard is sound, and each call keeps a sound state sound (rule 10.6).
 use mathlib.Core.Path.{_≡_, refl, _∙_}
-use mathlib.Core.Bool.{true, cond}
-use mathlib.Core.List.{List, [], _∷_, _++_}
+use mathlib.Core.Bool.{true}
+use mathlib.Core.List.{List}
 use Prim.Native.Nat.{ℕ, _+_, _≤_, _<_}
 use native.Mathlib.Omega.{arith}
-use lib.Dec.{leb, ltb}
 use lib.ListN.{length, getD, set, length-set, length-map}
-use borrow.Author.Tests.{lt-ltb, ltb-true, ltb-false, leb-false, eq-eqb}
+use borrow.Author.Tests.{lt-ltb, ltb-true, ltb-false, leb-true, leb-false, eq-eqb}
 use Rattle.wire.specs.Lists.{distinct, every}
 use Rattle.header.specs.declared.Header.{Header}
 use Rattle.policy.specs.Names.{owns}
-use Rattle.policy.specs.Decisions.{mayConnect, mayOwn}
-use Rattle.stream.specs.Stream.{Verdict, more, broken, whole, offer, settled}
+use Rattle.stream.specs.Stream.{Verdict, more, broken, whole, offer}
 use Rattle.stream.proofs.Good.{fresh-good}
 use Rattle.stream.specs.Tail.{Tail, closed, tails}
-use Rattle.rules.specs.State.{Peer, Slot, free, peer, State, isFree, isPeer, firstBy, putSlot, withNames, withStream}
-use Rattle.rules.specs.Addresses.{ownable}
+use Rattle.rules.specs.State.{Peer, Slot, free, peer, State, isFree, isPeer, firstBy}
 use Rattle.rules.specs.Pending.{awaits, removeCallsTo}
-use Rattle.rules.specs.Calls.{Step, stays, empty, noConnect, newcomer, seated, connectAt, connect, isOwner, ownNew, ownAt, slotAt, own, released}
-use Rattle.rules.specs.Calls.{releaseAt, release, noPiece, offered, offeredTo, pieceAt, piece, disconnectAt, disconnect}
+use Rattle.rules.specs.Calls.{Step, empty, newcomer, seated, connect, ownAt, slotAt, own, releaseAt, release, offered, pieceAt, piece, disconnectAt, disconnect}
+use Rattle.rules.specs.declared.Connected.{Connected}
 use Rattle.memory.specs.Good.{goodSlots}
 use Rattle.memory.proofs.Octets.{below-every}
 use Rattle.memory.specs.Sound.{word32, narrow, octet, headOctets, Sound}
@@ -29,7 +26,7 @@ use Rattle.rules.proofs.First.{first-passes, taken-below}
 use Rattle.sound.proofs.Kept.{sound-kept, kept-sound}
 use Rattle.sound.proofs.Put.{peer-fine, put-there, New, new-kept, gone-kept}
 use Rattle.sound.proofs.Renew.{stream-sound, granted-sound, released-sound}
-use Rattle.sound.proofs.Octets.{taken-octets, offer-octets, whole-read}
+use Rattle.sound.proofs.Octets.{taken-octets, offer-octets, offer-read}
 use Rattle.sound.proofs.Judged.{judged-sound}
 
 -- the call leaves a sound state
@@ -49,26 +46,9 @@ module _ (s : State Tail) (uid : ℕ) (gids : List ℕ) (g : Sound s)
   newcomer-new : length gids ≤ 16 → New (s .last) (newcomer tails (s .last + 1) uid gids)
   unfolding distinct owns awaits
   newcomer-new l =
-      record {
-        number = refl;
-        fine =
-            record {
-              low = omega arith;
-              high = omega arith;
-              few-gids = l;
-              few-pending = omega arith;
-              few-names = omega arith;
-              waits = refl;
-              owned = refl;
-              tail = fresh-good;
-              user = lt-ltb uid 4294967296 user;
-              groups = groups;
-              serials = refl;
-              bytes = refl;
-            };
-        nameless = λ y. refl;
-        waitless = λ c r. refl;
-      }
+      let low : 1 ≤ s .last + 1 = omega arith in
+      let high : s .last + 1 ≤ s .last + 1 = omega arith in
+      search (leb-true, lt-ltb, fresh-good)
 
   seated-sound : length gids ≤ 16 → (i : ℕ) → i < length (s .slots) → isFree (getD (s .slots) i free) ≡ true → s .last < 4294967295
       → Leaves (seated tails s i uid gids)
@@ -76,40 +56,16 @@ module _ (s : State Tail) (uid : ℕ) (gids : List ℕ) (g : Sound s)
       kept-sound (seated tails s i uid gids .state) (length-set (s .slots) i (peer (newcomer tails (s .last + 1) uid gids)) ∙ g .sixteen) (omega arith)
       (new-kept (s .last) (s .slots) i (newcomer tails (s .last + 1) uid gids) h f (sound-kept g) (newcomer-new l))
 
-  connect-at : length gids ≤ 16 → (i : ℕ) → (i < length (s .slots) → isFree (getD (s .slots) i free) ≡ true) → Leaves (connectAt tails s i uid gids)
-  connect-at l i f =
-      let inner = cond (ltb (s .last) 4294967295) (seated tails s i uid gids) (stays s (noConnect 39)) in
-      choice Leaves (ltb i (length (s .slots))) inner (stays s (noConnect 38))
-      (λ a. let h = ltb-true i (length (s .slots)) a in
-      choice Leaves (ltb (s .last) 4294967295) (seated tails s i uid gids) (stays s (noConnect 39))
-      (λ b. seated-sound l i h (f h) (ltb-true (s .last) 4294967295 b)) (λ b. g))
-      (λ a. g)
-
   pub connect-sound : (image : List ℕ) → Sound (connect tails image s uid gids .state)
   unfolding connect
-  connect-sound image =
-      let at = connectAt tails s (firstBy isFree (s .slots)) uid gids in
-      let may = mayConnect image (record { 0 = uid }) gids in
-      choice Leaves (ltb 16 (length gids)) (stays s (noConnect 37)) (cond may at (stays s (noConnect 36))) (λ a. g)
-      (λ a. choice Leaves may at (stays s (noConnect 36)) (λ b. connect-at (ltb-false 16 (length gids) a) (firstBy isFree (s .slots))
-      (first-passes isFree (s .slots) free)) (λ b. g))
+  connect-sound image = search (choice (Leaves {R = Connected}), seated-sound, ltb-true, ltb-false, first-passes isFree (s .slots) free) depth 8
 
 -- ---- own and release
 
 module _ (s : State Tail) (g : Sound s) where
   own-at : (image : List ℕ) (i : ℕ) (x : Slot Tail) (name : List ℕ) → getD (s .slots) i free ≡ x → Leaves (ownAt image s i x name)
   own-at image i free name e = g
-  own-at image i (peer p) name e =
-      let put : Step Tail ℕ = stays (putSlot s i (peer (withNames p (p .names ++ (name ∷ []))))) 0 in
-      let full : Step Tail ℕ = cond (leb 4 (length (p .names))) (stays s 34) put in
-      let may = mayOwn image (record { 0 = p .uid }) (p .gids) name in
-      let mine : Step Tail ℕ = cond (owns (p .names) name) (stays s 0) (ownNew s i p name) in
-      choice Leaves (ownable name) (cond may mine (stays s 32)) (stays s 31)
-      (λ a. choice Leaves may mine (stays s 32)
-      (λ b. choice Leaves (owns (p .names) name) (stays s 0) (ownNew s i p name) (λ c. g)
-      (λ c. choice Leaves (ltb (firstBy (isOwner name) (s .slots)) (length (s .slots))) (stays s 33) full (λ d. g)
-      (λ d. choice Leaves (leb 4 (length (p .names))) (stays s 34) put (λ k. g)
-      (λ k. granted-sound s i p g e name a (first-none (isOwner name) (s .slots) d) (leb-false 4 (length (p .names)) k))))) (λ b. g)) (λ a. g)
+  own-at image i (peer p) name e = search (choice (Leaves {R = ℕ}), granted-sound, first-none, leb-false) depth 8
 
   pub own-sound : (image : List ℕ) (n : ℕ) (name : List ℕ) → Sound (own image s n name .state)
   unfolding own
@@ -117,10 +73,7 @@ module _ (s : State Tail) (g : Sound s) where
 
   release-at : (i : ℕ) (x : Slot Tail) (name : List ℕ) → getD (s .slots) i free ≡ x → Leaves (releaseAt s i x name)
   release-at i free name e = g
-  release-at i (peer p) name e =
-      let put : Step Tail ℕ = stays (putSlot s i (peer (withNames p (released name (p .names))))) 0 in
-      choice Leaves (ownable name) (cond (owns (p .names) name) put (stays s 35)) (stays s 31)
-      (λ a. choice Leaves (owns (p .names) name) put (stays s 35) (λ b. released-sound s i p g e name) (λ b. g)) (λ a. g)
+  release-at i (peer p) name e = search (choice (Leaves {R = ℕ}), released-sound)
 
   pub release-sound : (n : ℕ) (name : List ℕ) → Sound (release s n name .state)
   unfolding release
@@ -152,16 +105,13 @@ module _
   piece-at : (image : List ℕ) (i : ℕ) (x : Slot Tail) → getD (s .slots) i free ≡ x → Leaves (pieceAt tails image s i x bytes)
   piece-at image i free e = g
   piece-at image i (peer p) e =
+      let f = peer-fine s i p g e in
       let o = offer tails (p .stream) bytes in
-      let q = withStream p (settled tails (o .verdict) (o .stream)) in
-      choice Leaves (closed (p .stream)) (stays s (noPiece 40)) (offeredTo tails image s i p o) (λ a. g)
-      (λ a. let f = peer-fine s i p g e in
-      offered-sound image i q (o .taken) (o .verdict) (putSlot s i (peer q))
-      (stream-sound s i p g e (settled tails (o .verdict) (o .stream)) (offer-keeps (p .stream) bytes (f .tail) a)
-      (offer-octets (p .stream) bytes (f .bytes) small))
-      (put-there s i p q e)
-      (λ h x v. header-serial (o .stream .head) x (below-every 256 (o .stream .head) (omega arith) (taken-octets (p .stream) bytes (f .bytes) small))
-      (whole-read (p .stream) bytes h x v)))
+      choice Leaves (closed (p .stream)) _ _ (λ a. g)
+      (λ a. offered-sound image i _ _ (o .verdict) _
+      (stream-sound s i p g e _ (offer-keeps (p .stream) bytes (f .tail) a) (offer-octets (p .stream) bytes (f .bytes) small)) (put-there s i p _ e)
+      (λ h x v. header-serial _ x (below-every 256 (o .stream .head) (omega arith) (taken-octets (p .stream) bytes (f .bytes) small))
+      (offer-read (p .stream) bytes h x v)))
 
   pub piece-sound : (image : List ℕ) (n : ℕ) → Sound (piece tails image s n bytes .state)
   unfolding piece

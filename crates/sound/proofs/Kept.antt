@@ -1,6 +1,6 @@
 -- Good slots by place: each good by itself, a number and a name in one slot at most, and each callee in some slot.
 use mathlib.Core.Path.{_≡_, refl, subst}
-use mathlib.Core.Bool.{true, false, _&&_, false≢true}
+use mathlib.Core.Bool.{true, false, false≢true}
 use mathlib.Core.List.{List, [], _∷_}
 use Prim.Native.Nat.{ℕ, zero, suc, _≤_, _<_}
 use lib.ListN.{length, getD}
@@ -10,7 +10,7 @@ use Rattle.wire.proofs.Texts.{both-first, both-second, both-true}
 use Rattle.stream.specs.Tail.{Tail, goodTail}
 use Rattle.rules.specs.State.{Peer, Slot, free, peer, State, isPeer}
 use Rattle.rules.specs.Calls.{isOwner}
-use Rattle.memory.specs.Good.{nobody, goodPeer, goodSlot, goodSlots}
+use Rattle.memory.specs.Good.{nobody, goodSlot, goodSlots}
 use Rattle.memory.specs.Sound.{word32, narrow, octet, headOctets, Sound}
 use Rattle.memory.proofs.Peers.{peer-good, good-peer}
 use Rattle.sound.proofs.Slots.{nobody-at, nobody-of, somebody-at, somebody-of, every-of, Single, single-head, single-apart, single-rest}
@@ -58,67 +58,33 @@ record Beside (all : List (Slot Tail)) (last : ℕ) (x : Slot Tail) (later : Lis
   name : (y : List ℕ) → isOwner y x ≡ true → (j : ℕ) → isOwner y (getD later j free) ≡ false
   callee : (c s : ℕ) → isWaiting c s x ≡ true → (j : ℕ) × (isPeer c (getD all j free) ≡ true)
 
-module _ (all : List (Slot Tail)) (last : ℕ) (p : Peer Tail) (later : List (Slot Tail)) where
-  peer-beside : goodPeer all last p later ≡ true → narrow (peer p) ≡ true → headOctets (peer p) ≡ true → Beside all last (peer p) later
-  unfolding narrow headOctets
-  peer-beside e w o =
-      let g = peer-good all last p later e in
-      let w1 = both-first (word32 (p .uid) && every word32 (p .gids)) (narrowPending (p .pending)) w in
-      record {
-        alone =
-            record {
-              low = g .some;
-              high = g .within;
-              few-gids = g .gids;
-              few-pending = g .calls;
-              few-names = g .few;
-              waits = pending-ok all (p .pending) (g .pending);
-              owned = names-ok later (p .names) (g .names);
-              tail = g .tail;
-              user = both-first (word32 (p .uid)) (every word32 (p .gids)) w1;
-              groups = both-second (word32 (p .uid)) (every word32 (p .gids)) w1;
-              serials = both-second (word32 (p .uid) && every word32 (p .gids)) (narrowPending (p .pending)) w;
-              bytes = o;
-            };
-        number = λ n q. nobody-at (isPeer n) refl later (subst (λ (k : ℕ). nobody (isPeer k) later ≡ true) (eqb-true (p .number) n q) (g .alone));
-        name = λ y q. nobody-at (isOwner y) refl later (names-apart later (p .names) (g .names) y q);
-        callee = λ c s q. somebody-at (isPeer c) all (pending-known all (p .pending) (g .pending) c s q);
-      }
-
-  beside-good : Beside all last (peer p) later → goodPeer all last p later ≡ true
-  beside-good b =
-      good-peer all last p later
-      (record {
-        some = b .alone .low;
-        within = b .alone .high;
-        alone = nobody-of (isPeer (p .number)) later (b .number (p .number) (eq-eqb (p .number) (p .number) refl));
-        gids = b .alone .few-gids;
-        calls = b .alone .few-pending;
-        few = b .alone .few-names;
-        pending = pending-good all (p .pending) (b .alone .waits) (λ c s q. let r = b .callee c s q in somebody-of (isPeer c) refl all (r .0) (r .1));
-        names = names-good later (p .names) (b .alone .owned) (λ y q. nobody-of (isOwner y) later (b .name y q));
-        tail = b .alone .tail;
-      })
-
-  peer-narrow : Fine last p → narrow (peer p) ≡ true
-  unfolding narrow
-  peer-narrow f = rw (f .user, f .groups) (f .serials)
-
 slot-beside : (all : List (Slot Tail)) (last : ℕ) (x : Slot Tail) (later : List (Slot Tail)) → goodSlot all last x later ≡ true → narrow x ≡ true
     → headOctets x ≡ true
     → Beside all last x later
+unfolding narrow headOctets
 slot-beside all last free later e w o =
     record { alone = tt; number = λ n q. absurd (false≢true q); name = λ y q. absurd (false≢true q); callee = λ c s q. absurd (false≢true q) }
-slot-beside all last (peer p) later e w o = peer-beside all last p later e w o
+slot-beside all last (peer p) later e w o =
+    let g = peer-good all last p later e in
+    record {
+      alone = search (pending-ok all, names-ok later, both-first, both-second);
+      number = λ n q. nobody-at (isPeer n) refl later (subst (λ (k : ℕ). nobody (isPeer k) later ≡ true) (eqb-true (p .number) n q) (g .alone));
+      name = λ y q. nobody-at (isOwner y) refl later (names-apart later (p .names) (g .names) y q);
+      callee = λ c s q. somebody-at (isPeer c) all (pending-known all (p .pending) (g .pending) c s q);
+    }
 
 slot-good : (all : List (Slot Tail)) (last : ℕ) (x : Slot Tail) (later : List (Slot Tail)) → Beside all last x later → goodSlot all last x later ≡ true
 slot-good all last free later b = refl
-slot-good all last (peer p) later b = beside-good all last p later b
+slot-good all last (peer p) later b =
+    let number = nobody-of (isPeer (p .number)) later (b .number (p .number) (eq-eqb (p .number) (p .number) refl)) in
+    let pending = pending-good all (p .pending) (b .alone .waits) (λ c s q. let r = b .callee c s q in somebody-of (isPeer c) refl all (r .0) (r .1)) in
+    let names = names-good later (p .names) (b .alone .owned) (λ y q. nobody-of (isOwner y) later (b .name y q)) in
+    good-peer all last p later (search)
 
 slot-narrow : (last : ℕ) (x : Slot Tail) → Alone last x → narrow x ≡ true
 unfolding narrow
 slot-narrow last free a = refl
-slot-narrow last (peer p) a = peer-narrow [] last p [] a
+slot-narrow last (peer p) a = rw (a .user, a .groups) (a .serials)
 
 slot-octets : (last : ℕ) (x : Slot Tail) → Alone last x → headOctets x ≡ true
 unfolding headOctets
@@ -130,19 +96,11 @@ slot-octets last (peer p) a = a .bytes
 among-cons : (all : List (Slot Tail)) (last : ℕ) (x : Slot Tail) (l : List (Slot Tail)) → Beside all last x l → Among all last l → Among all last (x ∷ l)
 among-cons all last x l b a =
     record {
-      each = each;
+      each = elim [ zero ↦ b .alone | suc i ↦ a .each i ];
       numbers = λ n. single-head (isPeer n) x l (b .number n) (a .numbers n);
       names = λ y. single-head (isOwner y) x l (b .name y) (a .names y);
-      callees = callees;
+      callees = elim [ zero ↦ b .callee | suc i ↦ a .callees i ];
     }
-  where
-    each : (i : ℕ) → Alone last (getD (x ∷ l) i free)
-    each zero = b .alone
-    each (suc i) = a .each i
-
-    callees : (i c s : ℕ) → isWaiting c s (getD (x ∷ l) i free) ≡ true → (j : ℕ) × (isPeer c (getD all j free) ≡ true)
-    callees zero c s q = b .callee c s q
-    callees (suc i) c s q = a .callees i c s q
 
 among-of : (all : List (Slot Tail)) (last : ℕ) (l : List (Slot Tail)) → goodSlots all last l ≡ true → every narrow l ≡ true → every headOctets l ≡ true
     → Among all last l

@@ -1,29 +1,27 @@
 -- The head that a piece of bytes leaves is one of bytes, and a message that it makes whole is read from such a head.
-use mathlib.Core.Path.{_≡_, refl, sym, ap, _∙_}
-use mathlib.Core.Bool.{Bool, true, false, cond}
-use mathlib.Core.List.{List, [], _∷_, _++_}
-use Prim.Native.Nat.{ℕ, _+_}
+use mathlib.Core.Path.{_≡_, refl, sym, _∙_}
+use mathlib.Core.Bool.{true}
+use mathlib.Core.List.{List, [], _∷_}
+use Prim.Native.Nat.{ℕ}
 use lib.Dec.{ltb}
-use lib.ListN.{length, take}
+use lib.ListN.{length}
 use Rattle.wire.specs.Lists.{every}
 use Rattle.wire.proofs.Texts.{impossible, both-first, both-second}
 use Rattle.header.specs.Header.{readHeader}
 use Rattle.header.specs.declared.Header.{Header}
-use Rattle.header.specs.declared.Reading.{Reading}
-use Rattle.header.specs.declared.Reading.the-variants.{Short, Broken, Whole}
-use Rattle.stream.specs.Stream.{Verdict, more, broken, whole, Streams, Offer, offer, settled}
+use Rattle.header.specs.declared.Reading.the-variants.{Whole}
+use Rattle.stream.specs.Stream.{Verdict, more, broken, whole, Streams, offer, settled}
 use Rattle.stream.specs.Steps.{follows}
-use Rattle.stream.specs.Tail.{Tail, finished, push, judge, tails, headEnd}
+use Rattle.stream.specs.Tail.{Tail, push, judge, tails, headEnd}
 use Rattle.stream.proofs.Offers.{offer-step}
 use Rattle.memory.proofs.Octets.{every-snoc}
 use Rattle.memory.specs.Sound.{octet}
+use Rattle.rules.proofs.Tests.{choice}
+use Rattle.sound.proofs.Numbers.{whole-read}
 
 push-octets : (t : Tail) (b : ℕ) → every octet (t .head) ≡ true → octet b ≡ true → every octet (push t b .head) ≡ true
-push-octets t b e h = go (ltb (length (t .head)) (headEnd (t .head)))
-  where
-    go : (c : Bool) → every octet (cond c (t .head ++ (b ∷ [])) (t .head)) ≡ true
-    go true = every-snoc octet (t .head) b e h
-    go false = e
+push-octets t b e h =
+    choice (λ (l : List ℕ). every octet l ≡ true) (ltb (length (t .head)) (headEnd (t .head))) _ _ (λ c. every-snoc octet (t .head) b e h) (λ c. e)
 
 pub taken-octets : (t : Tail) (p : List ℕ) → every octet (t .head) ≡ true → every octet p ≡ true → every octet (offer tails t p .stream .head) ≡ true
 unfolding offer
@@ -47,34 +45,24 @@ offer-octets t p e h = go (offer tails t p .verdict) (taken-octets t p e h)
     go (broken n) a = a
     go (whole k x) a = refl
 
--- ---- a whole message
+-- ---- a verdict
 
-pub offer-judge : {S : Type 0} (O : Streams S) (s : S) (p h : List ℕ) (x : Header) → offer O s p .verdict ≡ whole h x
-    → O .judge (offer O s p .stream) ≡ whole h x
+-- but for `more`, it is what the stream left is judged
+pub offer-judged : {S : Type 0} (O : Streams S) (v : Verdict) → (v ≡ more → ⊥) → (s : S) (p : List ℕ) → offer O s p .verdict ≡ v
+    → O .judge (offer O s p .stream) ≡ v
 unfolding offer
-offer-judge O s [] h x e = impossible cc
-offer-judge {S} O s (b ∷ p) h x e =
-    rw (offer-step O s b p) (go (O .judge (O .push s b)) refl (ap (λ (o : Offer S). o .verdict) (sym (offer-step O s b p)) ∙ e)
-    (offer-judge O (O .push s b) p h x))
+offer-judged O v n s [] e = absurd (n (sym e))
+offer-judged O v n s (b ∷ p) e =
+    rw (offer-step O s b p) (go (O .judge (O .push s b)) refl (rw (offer-step O s b p) at e) (offer-judged O v n (O .push s b) p))
   where
-    go : (v : Verdict) → O .judge (O .push s b) ≡ v → follows v (O .push s b) (offer O (O .push s b) p) .verdict ≡ whole h x
-        → (offer O (O .push s b) p .verdict ≡ whole h x → O .judge (offer O (O .push s b) p .stream) ≡ whole h x)
-        → O .judge (follows v (O .push s b) (offer O (O .push s b) p) .stream) ≡ whole h x
+    go : (u : Verdict) → O .judge (O .push s b) ≡ u → follows u (O .push s b) (offer O (O .push s b) p) .verdict ≡ v
+        → (offer O (O .push s b) p .verdict ≡ v → O .judge (offer O (O .push s b) p .stream) ≡ v)
+        → O .judge (follows u (O .push s b) (offer O (O .push s b) p) .stream) ≡ v
     go more q a ih = ih a
-    go (broken n) q a ih = impossible cc
+    go (broken k) q a ih = q ∙ a
     go (whole k y) q a ih = q ∙ a
 
-judge-read : (t : Tail) (h : List ℕ) (x : Header) → judge t ≡ whole h x → readHeader (t .head) ≡ Whole x
-judge-read t h x e = go (readHeader (t .head)) e
-  where
-    last : (b : Bool) (y : Header) → cond b more (whole (take (y .head) (t .head)) y) ≡ whole h x → Whole y ≡ Whole x
-    last true y a = impossible cc
-    last false y a = cc
-
-    go : (r : Reading) → finished (t .taken) (t .head) r ≡ whole h x → r ≡ Whole x
-    go Short a = impossible cc
-    go (Broken n) a = impossible cc
-    go (Whole y) a = last (ltb (t .taken) (y .head + y .body)) y a
-
-pub whole-read : (t : Tail) (p h : List ℕ) (x : Header) → offer tails t p .verdict ≡ whole h x → readHeader (offer tails t p .stream .head) ≡ Whole x
-whole-read t p h x e = judge-read (offer tails t p .stream) h x (offer-judge tails t p h x e)
+pub offer-read : (t : Tail) (p h : List ℕ) (x : Header) → offer tails t p .verdict ≡ whole h x → readHeader (offer tails t p .stream .head) ≡ Whole x
+offer-read t p h x e =
+    let o = offer tails t p .stream in
+    whole-read (o .taken) (o .head) h x (offer-judged tails (whole h x) (λ q. impossible cc) t p e)

@@ -1,22 +1,21 @@
 -- What a slot put anew leaves of good slots: one law over what changed, and its cases.
-use mathlib.Core.Path.{_≡_, refl, sym, ap, _∙_, subst}
+use mathlib.Core.Path.{_≡_, refl, sym, _∙_, subst}
 use mathlib.Core.Logic.{_⊎_, inl, inr}
 use mathlib.Core.Bool.{Bool, true, false, false≢true}
 use mathlib.Core.List.{List, map}
 use Prim.Native.Nat.{ℕ, _+_, _≤_, _<_}
 use native.Mathlib.Omega.{arith}
-use lib.Dec.{eqb}
 use lib.ListN.{length, getD, set, length-set, List·getD-map}
 use lib.Seq.{getD-set-same}
 use borrow.Author.Tests.{eqb-true}
 use Rattle.wire.specs.Lists.{any}
 use Rattle.policy.specs.Names.{owns}
 use Rattle.stream.specs.Tail.{Tail}
-use Rattle.rules.specs.State.{Peer, Slot, free, peer, State, isFree, isPeer, putSlot}
+use Rattle.rules.specs.State.{Pending, Peer, Slot, free, peer, State, isFree, isPeer, putSlot, withPending}
 use Rattle.rules.specs.Pending.{sameCall, awaits, endedAll, removeCallsTo}
 use Rattle.rules.specs.Calls.{isOwner}
 use Rattle.memory.specs.Good.{nobody}
-use Rattle.memory.specs.Sound.{Sound}
+use Rattle.memory.specs.Sound.{word32, Sound}
 use Rattle.rules.proofs.Tests.{clash}
 use Rattle.sound.proofs.Slots.{nobody-at, somebody-at, put-cases, put-passes, Single, single-set}
 use Rattle.rules.proofs.First.{taken-below}
@@ -43,14 +42,10 @@ put-kept last l i x h k f =
       each = λ j. put-cases (Alone last) l i x h j (λ e. f .alone) (λ n. k .each j);
       numbers = λ n. single-set (isPeer n) l i x h (k .numbers n) (f .number n);
       names = λ y. single-set (isOwner y) l i x h (k .names y) (f .name y);
-      callees = λ j c s q. there c (go j c s (put-passes (isWaiting c s) l i x h j q));
+      callees =
+          λ j c s q. there c (elim (put-passes (isWaiting c s) l i x h j q) [ inl u ↦ f .callee c s (u .1) | inr u ↦ k .callees j c s (u .1) ]);
     }
   where
-    go : (j c s : ℕ) → ((j ≡ i) × (isWaiting c s x ≡ true)) ⊎ ((j ≡ i → ⊥) × (isWaiting c s (getD l j free) ≡ true))
-        → (m : ℕ) × (isPeer c (getD l m free) ≡ true)
-    go j c s (inl u) = f .callee c s (u .1)
-    go j c s (inr u) = k .callees j c s (u .1)
-
     there : (c : ℕ) → (m : ℕ) × (isPeer c (getD l m free) ≡ true) → (m : ℕ) × (isPeer c (getD (set l i x) m free) ≡ true)
     there c r = (
       r .0,
@@ -67,29 +62,15 @@ pub record Renewed (last : ℕ) (l : List (Slot Tail)) (p q : Peer Tail) : Type 
   pub waits : (c s : ℕ) → awaits c s (q .pending) ≡ true → (awaits c s (p .pending) ≡ true) ⊎ (any (isPeer c) l ≡ true)
 
 module _ (last : ℕ) (l : List (Slot Tail)) (i : ℕ) (p q : Peer Tail) (k : Kept last l) (e : getD l i free ≡ peer p) where
-  old-name : (y : List ℕ) → owns (p .names) y ≡ true → isOwner y (getD l i free) ≡ true
-  old-name y h = rw e h
-
-  old-wait : (c s : ℕ) → awaits c s (p .pending) ≡ true → isWaiting c s (getD l i free) ≡ true
-  old-wait c s h = rw e h
-
   pub renewed-fits : Renewed last l p q → Fits last l i (peer q)
   renewed-fits r =
       record {
         alone = r .fine;
-        number = λ n j a b. k .numbers n j i b (rw e (sym (ap (λ (m : ℕ). eqb m n) (r .number)) ∙ a));
-        name = λ y j a b. name y j b (r .names y a);
-        callee = λ c s a. callee c s (r .waits c s a);
-        stays = λ n a. ap (λ (m : ℕ). eqb m n) (r .number) ∙ (rw e at a);
+        number = λ n j a b. k .numbers n j i b (rw e (rw (r .number) at a));
+        name = λ y j a b. elim (r .names y a) [ inl u ↦ k .names y j i b (rw e u) | inr u ↦ absurd (clash b (nobody-at (isOwner y) refl l u j)) ];
+        callee = λ c s a. elim (r .waits c s a) [ inl u ↦ k .callees i c s (rw e u) | inr u ↦ somebody-at (isPeer c) l u ];
+        stays = λ n a. rw (r .number) (rw e at a);
       }
-    where
-      name : (y : List ℕ) (j : ℕ) → isOwner y (getD l j free) ≡ true → (owns (p .names) y ≡ true) ⊎ (nobody (isOwner y) l ≡ true) → j ≡ i
-      name y j b (inl u) = k .names y j i b (old-name y u)
-      name y j b (inr u) = absurd (clash b (nobody-at (isOwner y) refl l u j))
-
-      callee : (c s : ℕ) → (awaits c s (p .pending) ≡ true) ⊎ (any (isPeer c) l ≡ true) → (j : ℕ) × (isPeer c (getD l j free) ≡ true)
-      callee c s (inl u) = k .callees i c s (old-wait c s u)
-      callee c s (inr u) = somebody-at (isPeer c) l u
 
 -- the peer of a slot is good by itself
 pub peer-fine : (s : State Tail) (i : ℕ) (p : Peer Tail) → Sound s → getD (s .slots) i free ≡ peer p → Fine (s .last) p
@@ -109,21 +90,7 @@ put-there s i p q e = getD-set-same (s .slots) i (peer q) free (taken-below (s .
 
 later-fine : (last : ℕ) (x : Slot Tail) → Alone last x → Alone (last + 1) x
 later-fine last free a = tt
-later-fine last (peer p) a =
-    record {
-      low = a .low;
-      high = omega (arith, a .high);
-      few-gids = a .few-gids;
-      few-pending = a .few-pending;
-      few-names = a .few-names;
-      waits = a .waits;
-      owned = a .owned;
-      tail = a .tail;
-      user = a .user;
-      groups = a .groups;
-      serials = a .serials;
-      bytes = a .bytes;
-    }
+later-fine last (peer p) a = let high : p .number ≤ last + 1 = omega (arith, a .high) in search
 
 later-kept : (last : ℕ) (l : List (Slot Tail)) → Kept last l → Kept (last + 1) l
 later-kept last l k =
@@ -150,14 +117,11 @@ new-kept last l i q h f k w =
     put-kept (last + 1) l i (peer q) h (later-kept last l k)
     (record {
       alone = w .fine;
-      number = λ n j a b. absurd (above n j a b);
+      number = λ n j a b. absurd (omega (arith, number-below last n (getD l j free) (k .each j) b, eqb-true (q .number) n a, w .number));
       name = λ y j a b. absurd (clash a (w .nameless y));
       callee = λ c s a. absurd (clash a (w .waitless c s));
       stays = λ n a. absurd (free-nobody n (getD l i free) f a);
     })
-  where
-    above : (n j : ℕ) → eqb (q .number) n ≡ true → isPeer n (getD l j free) ≡ true → ⊥
-    above n j a b = omega (arith, number-below last n (getD l j free) (k .each j) b, eqb-true (q .number) n a, w .number)
 
 -- ---- a peer gone
 
@@ -165,28 +129,14 @@ calls-removed-fine : (last n : ℕ) (x : Slot Tail) → Alone last x → Alone l
 calls-removed-fine last n free a = tt
 calls-removed-fine last n (peer p) a =
     let f = ended-all-fewer n (p .pending) in
-    record {
-      low = a .low;
-      high = a .high;
-      few-gids = a .few-gids;
-      few-pending = omega (arith, fewer-length f, a .few-pending);
-      few-names = a .few-names;
-      waits = distinct-fewer hasSerial sameCall f (a .waits);
-      owned = a .owned;
-      tail = a .tail;
-      user = a .user;
-      groups = a .groups;
-      serials = fewer-every _ f (a .serials);
-      bytes = a .bytes;
-    }
+    let few : length (endedAll n (p .pending)) ≤ 16 = omega (arith, fewer-length f, a .few-pending) in
+    search (distinct-fewer hasSerial sameCall f, fewer-every (λ w. word32 (w .serial)) f)
 
-calls-removed-peer : (m n : ℕ) (x : Slot Tail) → isPeer m (removeCallsTo n x) ≡ isPeer m x
-calls-removed-peer m n free = refl
-calls-removed-peer m n (peer p) = refl
-
-calls-removed-owner : (y : List ℕ) (n : ℕ) (x : Slot Tail) → isOwner y (removeCallsTo n x) ≡ isOwner y x
-calls-removed-owner y n free = refl
-calls-removed-owner y n (peer p) = refl
+-- what says nothing of pending calls says the same
+removed-same : (t : Slot Tail → Bool) → ((p : Peer Tail) (ws : List Pending) → t (peer (withPending p ws)) ≡ t (peer p))
+    → (n : ℕ) (x : Slot Tail) → t (removeCallsTo n x) ≡ t x
+removed-same t e n free = refl
+removed-same t e n (peer p) = e p (endedAll n (p .pending))
 
 -- whoever waits still, waited, and for another
 calls-removed-waiting : (c s n : ℕ) (x : Slot Tail) → isWaiting c s (removeCallsTo n x) ≡ true → (isWaiting c s x ≡ true) × (c ≡ n → ⊥)
@@ -212,15 +162,11 @@ module _ (last : ℕ) (l : List (Slot Tail)) (i n : ℕ) (h : i < length l) (k :
       single-set t l i free h s (λ j z w. absurd (clash z f)) a c (sym (b (getD left a free)) ∙ (rw (left-at a) at p))
       (sym (b (getD left c free)) ∙ (rw (left-at c) at q))
 
-  other : (c s j : ℕ) → ((j ≡ i) × (false ≡ true)) ⊎ ((j ≡ i → ⊥) × (isWaiting c s (getD l j free) ≡ true)) → (m : ℕ) × (isPeer c (getD l m free) ≡ true)
-  other c s j (inl u) = absurd (false≢true (u .1))
-  other c s j (inr u) = k .callees j c s (u .1)
-
   -- its callee is another than the one gone, and so stands where it stood
   there : (c : ℕ) → (c ≡ n → ⊥) → (m : ℕ) × (isPeer c (getD l m free) ≡ true) → (m : ℕ) × (isPeer c (getD (map (removeCallsTo n) left) m free) ≡ true)
   there c d r = (
     r .0,
-    rw (left-at (r .0), calls-removed-peer c n (getD left (r .0) free))
+    rw (left-at (r .0), removed-same (isPeer c) (λ p ws. refl) n (getD left (r .0) free))
         (put-cases (λ y. isPeer c y ≡ true) l i free h (r .0)
         (λ z. absurd (d (one-number n c (getD l i free) e (subst (λ (m : ℕ). isPeer c (getD l m free) ≡ true) z (r .1))))) (λ z. r .1)),
   )
@@ -229,9 +175,9 @@ module _ (last : ℕ) (l : List (Slot Tail)) (i n : ℕ) (h : i < length l) (k :
   gone-kept =
       record {
         each = λ j. rw (left-at j) (calls-removed-fine last n (getD left j free) (put-cases (Alone last) l i free h j (λ z. tt) (λ z. k .each j)));
-        numbers = λ m. left-single (isPeer m) refl (calls-removed-peer m n) (k .numbers m);
-        names = λ y. left-single (isOwner y) refl (calls-removed-owner y n) (k .names y);
+        numbers = λ m. left-single (isPeer m) refl (removed-same (isPeer m) (λ p ws. refl) n) (k .numbers m);
+        names = λ y. left-single (isOwner y) refl (removed-same (isOwner y) (λ p ws. refl) n) (k .names y);
         callees =
-            λ j c s a. let w = calls-removed-waiting c s n (getD left j free) (rw (left-at j) at a) in there c (w .1)
-            (other c s j (put-passes (isWaiting c s) l i free h j (w .0)));
+            λ j c s a. let w = calls-removed-waiting c s n (getD left j free) (rw (left-at j) at a) in
+            there c (w .1) (elim (put-passes (isWaiting c s) l i free h j (w .0)) [ inl u ↦ absurd (false≢true (u .1)) | inr u ↦ k .callees j c s (u .1) ]);
       }

@@ -2,7 +2,7 @@
 -- reports nothing else. And where its turn comes, 51 is the answer exactly where memory is not good.
 use mathlib.Core.Path.{_≡_, refl, sym, ap, _∙_}
 use mathlib.Core.Logic.{_↔_}
-use mathlib.Core.Bool.{Bool, true, false, cond, false≢true}
+use mathlib.Core.Bool.{true, false}
 use mathlib.Core.List.{List}
 use Prim.Native.Nat.{ℕ, _≤_}
 use native.Mathlib.Omega.{arith}
@@ -13,21 +13,22 @@ use Rattle.wire.specs.Bytes.{Below}
 use Rattle.image.specs.Good.{imageAnswer}
 use Rattle.stream.specs.Stream.{broken}
 use Rattle.stream.specs.Tail.{Tail, tails}
-use Rattle.rules.specs.Calls.{Step, empty, noConnect, noPiece, noGone, connect, own, release, piece, disconnect}
+use Rattle.rules.specs.Calls.{Step, noConnect, noPiece, noGone}
 use Rattle.rules.specs.declared.Connected.{Connected}
 use Rattle.rules.specs.declared.Taken.{Taken}
 use Rattle.rules.specs.declared.Gone.{Gone}
+use Rattle.rules.proofs.Tests.{clash, choice, by-test}
 use Rattle.memory.specs.Layout.{memoryLength}
 use Rattle.memory.specs.Encoding.{memoryOf, stateOf}
 use Rattle.memory.specs.Good.{good}
-use Rattle.memory.specs.Calls.{Did, stored, unchanged, onMemory, onImage, startOn, connectOn, ownOn, releaseOn, pieceOn, disconnectOn}
+use Rattle.memory.specs.Calls.{MemoryStep, Did, stored, unchanged, onMemory, onImage, startOn, connectOn, ownOn, releaseOn, pieceOn, disconnectOn}
 use Rattle.memory.proofs.Good.{good-is}
 use Rattle.sound.proofs.Numbers.{broken-number}
 use Rattle.sound.proofs.Answers.{Modest, connect-modest, own-modest, release-modest, piece-modest, disconnect-modest}
 
 -- ---- any call
 
-module _ {R : Type 0} (say : R → ℕ) (refuse : ℕ → R) (says : (a : ℕ) → say (refuse a) ≡ a) (m : List ℕ) (z : Step Tail R)
+module _ {R : Type 0} {say : R → ℕ} {refuse : ℕ → R} (says : (a : ℕ) → say (refuse a) ≡ a) (m : List ℕ) {z : Step Tail R}
     (modest : Modest say refuse (stateOf m) z) where
   -- a refusal's own report
   alone : (a : ℕ) {r : R} {e : List ℕ} → Did (unchanged m (refuse a)) r e → Did (unchanged m (refuse (say r))) r e
@@ -43,26 +44,19 @@ module _ {R : Type 0} (say : R → ℕ) (refuse : ℕ → R) (says : (a : ℕ) �
       }
 
   memory-keeps : Below 256 m → {r : R} {e : List ℕ} → Did (onMemory refuse m z) r e → 30 ≤ say r → Did (unchanged m (refuse (say r))) r e
-  memory-keeps b {r} {e} d h = go (good m) refl d
-    where
-      go : (g : Bool) → good m ≡ g → Did (cond g (stored z) (unchanged m (refuse 51))) r e → Did (unchanged m (refuse (say r))) r e
-      go true g x = stored-keeps b g x h
-      go false g x = alone 51 x
+  memory-keeps b {r} {e} d h =
+      choice (λ (o : MemoryStep R). Did o r e → Did (unchanged m (refuse (say r))) r e) (good m) _ _ (λ g x. stored-keeps b g x h) (λ g. alone 51) d
 
   image-keeps : (image : List ℕ) → Below 256 m → {r : R} {e : List ℕ} → Did (onImage refuse image m z) r e → 30 ≤ say r
       → Did (unchanged m (refuse (say r))) r e
-  image-keeps image b {r} {e} d h = go (eqb (imageAnswer image) 0) d
-    where
-      go : (p : Bool) → Did (cond p (onMemory refuse m z) (unchanged m (refuse (imageAnswer image)))) r e → Did (unchanged m (refuse (say r))) r e
-      go true x = memory-keeps b x h
-      go false x = alone (imageAnswer image) x
+  image-keeps image b {r} {e} d h =
+      choice (λ (o : MemoryStep R). Did o r e → Did (unchanged m (refuse (say r))) r e) (eqb (imageAnswer image) 0) _ _ (λ g x. memory-keeps b x h)
+      (λ g. alone (imageAnswer image)) d
 
   memory-51 : {r : R} {e : List ℕ} → Did (onMemory refuse m z) r e → (say r ≡ 51) ↔ (good m ≡ false)
-  memory-51 {r} {e} d = go (good m) d
-    where
-      go : (g : Bool) → Did (cond g (stored z) (unchanged m (refuse 51))) r e → (say r ≡ 51) ↔ (g ≡ false)
-      go true x = (λ q. absurd (omega (arith, modest .most, q, ap say (x .result))), λ q. absurd (false≢true (sym q)))
-      go false x = (λ q. refl, λ q. ap say (x .result) ∙ says 51)
+  memory-51 d =
+      by-test (good m) (λ g. let x = rw g at d in (λ q. absurd (omega (arith, modest .most, q, ap say (x .result))), λ q. absurd (clash g q)))
+      (λ g. let x = rw g at d in (λ q. g, λ q. ap say (x .result) ∙ says 51))
 
   image-51 : (image : List ℕ) → imageAnswer image ≡ 0 → {r : R} {e : List ℕ} → Did (onImage refuse image m z) r e → (say r ≡ 51) ↔ (good m ≡ false)
   image-51 image q d = memory-51 (rw (eq-eqb (imageAnswer image) 0 q) at d)
@@ -74,41 +68,32 @@ tail-faults t a e = broken-number (t .taken) (t .head) a e
 
 pub refusal-keeps-start : (m : List ℕ) {r : ℕ} {e : List ℕ} → Did (startOn m) r e → 30 ≤ r → Did (unchanged m r) r e
 unfolding startOn
-refusal-keeps-start m {r} {e} d h = go (eqb (length m) memoryLength) d
-  where
-    go : (b : Bool) → Did (cond b (record { memory = memoryOf empty; result = 0 }) (unchanged m 51)) r e → Did (unchanged m r) r e
-    go true x = absurd (omega (arith, x .result, h))
-    go false x = record { result = refl; memory = x .memory }
+refusal-keeps-start m {r} {e} d h =
+    choice (λ (o : MemoryStep ℕ). Did o r e → Did (unchanged m r) r e) (eqb (length m) memoryLength) _ _
+    (λ b x. absurd (omega (arith, x .result, h))) (λ b x. record { result = refl; memory = x .memory }) d
 
 module _ (m : List ℕ) (octets : Below 256 m) where
   pub refusal-keeps-connect : (image : List ℕ) (uid : ℕ) (gids : List ℕ) {r : Connected} {e : List ℕ} → Did (connectOn image m uid gids) r e
       → 30 ≤ r .answer → Did (unchanged m (noConnect (r .answer))) r e
   unfolding connectOn
-  refusal-keeps-connect image uid gids =
-      image-keeps (λ (r : Connected). r .answer) noConnect (λ a. refl) m (connect tails image (stateOf m) uid gids)
-      (connect-modest tails (stateOf m) image uid gids) image octets
+  refusal-keeps-connect image uid gids = image-keeps (λ a. refl) m (connect-modest tails (stateOf m) image uid gids) image octets
 
   pub refusal-keeps-own : (image : List ℕ) (n : ℕ) (name : List ℕ) {r : ℕ} {e : List ℕ} → Did (ownOn image m n name) r e → 30 ≤ r → Did (unchanged m r) r e
   unfolding ownOn
-  refusal-keeps-own image n name =
-      image-keeps (λ (a : ℕ). a) (λ (a : ℕ). a) (λ a. refl) m (own image (stateOf m) n name) (own-modest (stateOf m) image n name) image octets
+  refusal-keeps-own image n name = image-keeps (λ a. refl) m (own-modest (stateOf m) image n name) image octets
 
   pub refusal-keeps-release : (n : ℕ) (name : List ℕ) {r : ℕ} {e : List ℕ} → Did (releaseOn m n name) r e → 30 ≤ r → Did (unchanged m r) r e
   unfolding releaseOn
-  refusal-keeps-release n name =
-      memory-keeps (λ (a : ℕ). a) (λ (a : ℕ). a) (λ a. refl) m (release (stateOf m) n name) (release-modest (stateOf m) n name) octets
+  refusal-keeps-release n name = memory-keeps (λ a. refl) m (release-modest (stateOf m) n name) octets
 
   pub refusal-keeps-piece : (image : List ℕ) (n : ℕ) (bytes : List ℕ) {r : Taken} {e : List ℕ} → Did (pieceOn image m n bytes) r e
       → 30 ≤ r .judgement .answer → Did (unchanged m (noPiece (r .judgement .answer))) r e
   unfolding pieceOn
-  refusal-keeps-piece image n bytes =
-      image-keeps (λ (r : Taken). r .judgement .answer) noPiece (λ a. refl) m (piece tails image (stateOf m) n bytes)
-      (piece-modest tails tail-faults (stateOf m) image n bytes) image octets
+  refusal-keeps-piece image n bytes = image-keeps (λ a. refl) m (piece-modest tails tail-faults (stateOf m) image n bytes) image octets
 
   pub refusal-keeps-disconnect : (n : ℕ) {r : Gone} {e : List ℕ} → Did (disconnectOn m n) r e → 30 ≤ r .answer → Did (unchanged m (noGone (r .answer))) r e
   unfolding disconnectOn
-  refusal-keeps-disconnect n =
-      memory-keeps (λ (r : Gone). r .answer) noGone (λ a. refl) m (disconnect tails (stateOf m) n) (disconnect-modest tails (stateOf m) n) octets
+  refusal-keeps-disconnect n = memory-keeps (λ a. refl) m (disconnect-modest tails (stateOf m) n) octets
 
 -- ---- 51 exactly where memory is not good, once the image has passed
 
@@ -116,29 +101,22 @@ module _ (m : List ℕ) where
   pub not-good-connect : (image : List ℕ) (uid : ℕ) (gids : List ℕ) → imageAnswer image ≡ 0 → {r : Connected} {e : List ℕ}
       → Did (connectOn image m uid gids) r e → (r .answer ≡ 51) ↔ (good m ≡ false)
   unfolding connectOn
-  not-good-connect image uid gids =
-      image-51 (λ (r : Connected). r .answer) noConnect (λ a. refl) m (connect tails image (stateOf m) uid gids)
-      (connect-modest tails (stateOf m) image uid gids) image
+  not-good-connect image uid gids = image-51 (λ a. refl) m (connect-modest tails (stateOf m) image uid gids) image
 
   pub not-good-own : (image : List ℕ) (n : ℕ) (name : List ℕ) → imageAnswer image ≡ 0 → {r : ℕ} {e : List ℕ}
       → Did (ownOn image m n name) r e → (r ≡ 51) ↔ (good m ≡ false)
   unfolding ownOn
-  not-good-own image n name =
-      image-51 (λ (a : ℕ). a) (λ (a : ℕ). a) (λ a. refl) m (own image (stateOf m) n name) (own-modest (stateOf m) image n name) image
+  not-good-own image n name = image-51 (λ a. refl) m (own-modest (stateOf m) image n name) image
 
   pub not-good-release : (n : ℕ) (name : List ℕ) {r : ℕ} {e : List ℕ} → Did (releaseOn m n name) r e → (r ≡ 51) ↔ (good m ≡ false)
   unfolding releaseOn
-  not-good-release n name =
-      memory-51 (λ (a : ℕ). a) (λ (a : ℕ). a) (λ a. refl) m (release (stateOf m) n name) (release-modest (stateOf m) n name)
+  not-good-release n name = memory-51 (λ a. refl) m (release-modest (stateOf m) n name)
 
   pub not-good-piece : (image : List ℕ) (n : ℕ) (bytes : List ℕ) → imageAnswer image ≡ 0 → {r : Taken} {e : List ℕ}
       → Did (pieceOn image m n bytes) r e → (r .judgement .answer ≡ 51) ↔ (good m ≡ false)
   unfolding pieceOn
-  not-good-piece image n bytes =
-      image-51 (λ (r : Taken). r .judgement .answer) noPiece (λ a. refl) m (piece tails image (stateOf m) n bytes)
-      (piece-modest tails tail-faults (stateOf m) image n bytes) image
+  not-good-piece image n bytes = image-51 (λ a. refl) m (piece-modest tails tail-faults (stateOf m) image n bytes) image
 
   pub not-good-disconnect : (n : ℕ) {r : Gone} {e : List ℕ} → Did (disconnectOn m n) r e → (r .answer ≡ 51) ↔ (good m ≡ false)
   unfolding disconnectOn
-  not-good-disconnect n =
-      memory-51 (λ (r : Gone). r .answer) noGone (λ a. refl) m (disconnect tails (stateOf m) n) (disconnect-modest tails (stateOf m) n)
+  not-good-disconnect n = memory-51 (λ a. refl) m (disconnect-modest tails (stateOf m) n)

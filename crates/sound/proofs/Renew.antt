@@ -31,51 +31,17 @@ module _ (s : State Tail) (i : ℕ) (p : Peer Tail) (g : Sound s) (e : getD (s .
   abbrev fine : Fine (s .last) p
   fine = peer-fine s i p g e
 
-  abbrev changed : List Pending → List (List ℕ) → Tail → Peer Tail
-  changed ws ns t = record { number = p .number; uid = p .uid; gids = p .gids; pending = ws; names = ns; stream = t }
-
-  -- pending calls whose callees are connected, names of which none is another's, and a good stream
-  renewed : (ws : List Pending) (ns : List (List ℕ)) (t : Tail) → length ws ≤ 16 → waits.okPending ws ≡ true → narrowPending ws ≡ true
-      → ((c r : ℕ) → awaits c r ws ≡ true → (awaits c r (p .pending) ≡ true) ⊎ (any (isPeer c) (s .slots) ≡ true)) → length ns ≤ 4 → names.okNames ns ≡ true
-      → ((y : List ℕ) → owns ns y ≡ true → (owns (p .names) y ≡ true) ⊎ (nobody (isOwner y) (s .slots) ≡ true)) → goodTail t ≡ true
-      → every octet (t .head) ≡ true
-      → Sound (putSlot s i (peer (changed ws ns t)))
-  renewed ws ns t lw ow nw hw ln on hn gt bt =
-      sound-renewed s i p (changed ws ns t) g e
-      (record {
-        number = refl;
-        fine =
-            record {
-              low = fine .low;
-              high = fine .high;
-              few-gids = fine .few-gids;
-              few-pending = lw;
-              few-names = ln;
-              waits = ow;
-              owned = on;
-              tail = gt;
-              user = fine .user;
-              groups = fine .groups;
-              serials = nw;
-              bytes = bt;
-            };
-        names = hn;
-        waits = hw;
-      })
-
   names-renewed : (ns : List (List ℕ)) → length ns ≤ 4 → names.okNames ns ≡ true
       → ((y : List ℕ) → owns ns y ≡ true → (owns (p .names) y ≡ true) ⊎ (nobody (isOwner y) (s .slots) ≡ true)) → Sound (putSlot s i (peer (withNames p ns)))
-  names-renewed ns l o h =
-      renewed (p .pending) ns (p .stream) (fine .few-pending) (fine .waits) (fine .serials) (λ c r q. inl q) l o h (fine .tail) (fine .bytes)
+  names-renewed ns l o h = let f = fine in sound-renewed s i p (withNames p ns) g e (search inl)
 
   pending-renewed : (ws : List Pending) → length ws ≤ 16 → waits.okPending ws ≡ true → narrowPending ws ≡ true
       → ((c r : ℕ) → awaits c r ws ≡ true → (awaits c r (p .pending) ≡ true) ⊎ (any (isPeer c) (s .slots) ≡ true))
       → Sound (putSlot s i (peer (withPending p ws)))
-  pending-renewed ws l o n h = renewed ws (p .names) (p .stream) l o n h (fine .few-names) (fine .owned) (λ y q. inl q) (fine .tail) (fine .bytes)
+  pending-renewed ws l o n h = let f = fine in sound-renewed s i p (withPending p ws) g e (search inl)
 
   pub stream-sound : (t : Tail) → goodTail t ≡ true → every octet (t .head) ≡ true → Sound (putSlot s i (peer (withStream p t)))
-  stream-sound t h b =
-      renewed (p .pending) (p .names) t (fine .few-pending) (fine .waits) (fine .serials) (λ c r q. inl q) (fine .few-names) (fine .owned) (λ y q. inl q) h b
+  stream-sound t h b = let f = fine in sound-renewed s i p (withStream p t) g e (search inl)
 
   pub granted-sound : (name : List ℕ) → ownable name ≡ true → nobody (isOwner name) (s .slots) ≡ true → length (p .names) < 4
       → Sound (putSlot s i (peer (withNames p (p .names ++ (name ∷ [])))))

@@ -1,7 +1,7 @@
 -- Lists of slots by place, where a place past the last is free: what a test that refuses free slots says of them, and what setting a slot changes.
 use mathlib.Core.Path.{_≡_, refl, sym, ap, _∙_}
 use mathlib.Core.Logic.{_⊎_, inl, inr}
-use mathlib.Core.Bool.{Bool, true, false, _&&_, false≢true}
+use mathlib.Core.Bool.{Bool, true, false, false≢true}
 use mathlib.Core.List.{List, [], _∷_}
 use Prim.Native.Nat.{ℕ, zero, suc, _<_}
 use native.Mathlib.Omega.{arith}
@@ -23,11 +23,8 @@ use Rattle.rules.proofs.First.{first-any}
 -- somebody does
 pub somebody-at : (t : Slot Tail → Bool) (l : List (Slot Tail)) → any t l ≡ true → (j : ℕ) × (t (getD l j free) ≡ true)
 somebody-at t [] e = absurd (false≢true e)
-somebody-at t (x ∷ l) e = go (either (t x) (any t l) e) (somebody-at t l)
-  where
-    go : (t x ≡ true) ⊎ (any t l ≡ true) → (any t l ≡ true → (j : ℕ) × (t (getD l j free) ≡ true)) → (j : ℕ) × (t (getD (x ∷ l) j free) ≡ true)
-    go (inl p) ih = (0, p)
-    go (inr p) ih = let r = ih p in (suc (r .0), r .1)
+somebody-at t (x ∷ l) e =
+    elim (either (t x) (any t l) e) [ inl p ↦ (0, p) | inr p ↦ let r = somebody-at t l p in (suc (r .0), r .1) ]
 
 -- where no free slot passes
 pub somebody-of : (t : Slot Tail → Bool) → t free ≡ false → (l : List (Slot Tail)) (j : ℕ) → t (getD l j free) ≡ true → any t l ≡ true
@@ -47,15 +44,6 @@ first-none t l e = rw (first-any t l, e)
 
 -- ---- every slot passes a test
 
-pub every-at : (t : Slot Tail → Bool) → t free ≡ true → (l : List (Slot Tail)) → every t l ≡ true → (j : ℕ) → t (getD l j free) ≡ true
-every-at t f [] e j = f
-every-at t f (x ∷ l) e j = go (t x) refl e j (every-at t f l)
-  where
-    go : (b : Bool) → t x ≡ b → b && every t l ≡ true → (j : ℕ) → (every t l ≡ true → (k : ℕ) → t (getD l k free) ≡ true) → t (getD (x ∷ l) j free) ≡ true
-    go true p h zero ih = p
-    go true p h (suc k) ih = ih h k
-    go false p h j ih = absurd (false≢true h)
-
 pub every-of : (t : Slot Tail → Bool) (l : List (Slot Tail)) → ((j : ℕ) → t (getD l j free) ≡ true) → every t l ≡ true
 every-of t [] h = refl
 every-of t (x ∷ l) h = rw (h 0) (every-of t l (λ j. h (suc j)))
@@ -65,11 +53,8 @@ every-of t (x ∷ l) h = rw (h 0) (every-of t l (λ j. h (suc j)))
 -- the slot that was set, or another
 pub put-cases : (P : Slot Tail → Type 0) (l : List (Slot Tail)) (i : ℕ) (x : Slot Tail) → i < length l
     → (j : ℕ) → (j ≡ i → P x) → ((j ≡ i → ⊥) → P (getD l j free)) → P (getD (set l i x) j free)
-put-cases P l i x h j a b = go (ℕ-discrete j i)
-  where
-    go : Dec (j ≡ i) → P (getD (set l i x) j free)
-    go (yes e) = rw (e, getD-set-same l i x free h) (a e)
-    go (no n) = rw (getD-set-other l i j x free n) (b n)
+put-cases P l i x h j a b =
+    elim (ℕ-discrete j i) [ yes e ↦ rw (e, getD-set-same l i x free h) (a e) | no n ↦ rw (getD-set-other l i j x free n) (b n) ]
 
 pub put-passes : (t : Slot Tail → Bool) (l : List (Slot Tail)) (i : ℕ) (x : Slot Tail) → i < length l
     → (j : ℕ) → t (getD (set l i x) j free) ≡ true → ((j ≡ i) × (t x ≡ true)) ⊎ ((j ≡ i → ⊥) × (t (getD l j free) ≡ true))
@@ -100,11 +85,7 @@ single-head t x l n s (suc i) zero p q = absurd (clash p (n q i))
 single-head t x l n s (suc i) (suc j) p q = ap suc (s i j p q)
 
 pub single-apart : (t : Slot Tail → Bool) (x : Slot Tail) (l : List (Slot Tail)) → Single t (x ∷ l) → t x ≡ true → (j : ℕ) → t (getD l j free) ≡ false
-single-apart t x l s p j = go (t (getD l j free)) refl
-  where
-    go : (b : Bool) → t (getD l j free) ≡ b → b ≡ false
-    go true e = absurd (omega (arith, s zero (suc j) p e))
-    go false e = refl
+single-apart t x l s p j = refute (t (getD l j free)) (λ e. let z = s zero (suc j) p e in omega arith)
 
 pub single-rest : (t : Slot Tail → Bool) (x : Slot Tail) (l : List (Slot Tail)) → Single t (x ∷ l) → Single t l
 single-rest t x l s i j p q = let e = s (suc i) (suc j) p q in omega arith
