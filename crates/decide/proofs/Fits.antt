@@ -1,6 +1,6 @@
 -- A rule against a peer, a name or a message: a law for each way through the tests.
 use mathlib.Core.Path.{_≡_, refl, sym, _∙_}
-use mathlib.Core.Bool.{Bool, true, false, cond, not, _&&_, _||_, false≢true}
+use mathlib.Core.Bool.{Bool, true, false, cond, not, _&&_, _||_, false≢true, Bool·not-not}
 use mathlib.Core.Option.{none, some}
 use mathlib.Core.List.{List}
 use Prim.Native.Nat.{ℕ, _+_, _-_, _*_}
@@ -40,15 +40,9 @@ one-of true b h = absurd (false≢true (sym h))
 one-of false b h = (refl, h)
 
 -- the code's test of the type, as the rule has it
-other-type : (a b : Bool) → not a && not b ≡ true → a || b ≡ false
-other-type true b h = sym h
-other-type false true h = sym h
-other-type false false h = refl
-
-this-type : (a b : Bool) → not a && not b ≡ false → a || b ≡ true
-this-type true b h = refl
-this-type false true h = refl
-this-type false false h = sym h
+either-type : (a b : Bool) → a || b ≡ not (not a && not b)
+either-type true b = refl
+either-type false b = sym (Bool·not-not b)
 
 -- ---- the rule at `at`
 
@@ -155,17 +149,17 @@ module _ (image : List ℕ) (at : ℕ) where
 
     pub rule-type : not any && not this ≡ true → false ≡ Fits
     unfolding transactionFits messageOf
-    rule-type t = rw (other-type any this t)
+    rule-type t = rw (either-type any this, t)
 
     module _ (t : not any && not this ≡ false) {subject : ℕ} (g : subject ≡ rule .subject) {s : Bool}
         (e : s ≡ subjectFits (rule .context) subject uid gids) where
       pub rule-other : not s ≡ true → false ≡ Fits
       unfolding transactionFits messageOf
-      rule-other u = rw (this-type any this t, ← (rw g at e), not-true s u)
+      rule-other u = rw (either-type any this, t, ← (rw g at e), not-true s u)
 
       pub rule-parts : not s ≡ false → {r : Bool} → r ≡ partsFit image rule (messageOf head m) → r ≡ Fits
       unfolding transactionFits messageOf
-      rule-parts u h = rw (this-type any this t, ← (rw g at e), not-false s u) h
+      rule-parts u h = rw (either-type any this, t, ← (rw g at e), not-false s u) h
 
 pub ruleset fits = (
   connect-any,

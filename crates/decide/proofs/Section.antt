@@ -65,14 +65,18 @@ wide Transaction = omega arith
 
 module _ {s : Section} {image : List ℕ} {fits : ℕ → Bool} {size base end context at : ℕ}
     (u : Search s image fits size base end context at) where
+  -- the search has come to another context or rule
+  gone : {context′ at′ : ℕ} (j : ℕ) → at′ ≡ rulePlace s image j
+      → Searching (contextIn s image) (λ k. fits (rulePlace s image k)) (ruleCount s image) context′ j → Search s image fits size base end context′ at′
+  gone j p a = record { good = u .good; sized = u .sized; start = u .start; i = j; stop = u .stop; place = p; above = a }
+
   -- a context has been gone through, or all of them
   module _ (z : at ≡ base) where
     first : u .i ≡ 0
     first = none-below (ruleSize s) (ruleOffset s image) at (u .i) (wide s) (u .place) (z ∙ u .start)
 
     pub search-down : (context ≡ 0 → ⊥) → Search s image fits size base end (context - 1) end
-    search-down h =
-        record { good = u .good; sized = u .sized; start = u .start; i = ruleCount s image; stop = u .stop; place = u .stop; above = down (u .above) first h }
+    search-down h = gone (ruleCount s image) (u .stop) (down (u .above) first h)
 
     pub search-over : context ≡ 0 → false ≡ decided s image fits
     unfolding decidesIn
@@ -95,16 +99,7 @@ module _ {s : Section} {image : List ℕ} {fits : ℕ → Bool} {size base end c
     -- that rule is none of this context that matches
     pub search-pass : (ruleFrom image (at - size) .context ≡ context → fits (at - size) ≡ true → ⊥)
         → Search s image fits size base end context (at - size)
-    search-pass d =
-        record {
-          good = u .good;
-          sized = u .sized;
-          start = u .start;
-          i = u .i - 1;
-          stop = u .stop;
-          place = sym here;
-          above = pass (u .above) more (rw here d);
-        }
+    search-pass d = gone (u .i - 1) (sym here) (pass (u .above) more (rw here d))
 
     pub search-other : (ruleFrom image (at - size) .context ≡ context → ⊥) → Search s image fits size base end context (at - size)
     search-other n = search-pass (λ e m. n e)

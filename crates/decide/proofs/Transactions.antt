@@ -1,6 +1,6 @@
 -- Send and receive: what is particular to their search, with the owned names inside.
 use mathlib.Core.Path.{_≡_, refl, sym, ap, _∙_}
-use mathlib.Core.Bool.{Bool, true, false, _&&_, false≢true, or-true}
+use mathlib.Core.Bool.{Bool, true, false, _&&_, and-assoc, false≢true, or-true}
 use mathlib.Core.List.{List}
 use Prim.Native.Nat.{ℕ, _+_, _-_, _*_, _/_, _^_, _≤_, _<_}
 use native.Mathlib.Omega.{arith}
@@ -92,12 +92,8 @@ module _ {image : List ℕ} {direction : ℕ} {uid : Uid} {gids names head : Lis
     -- the rule that ends at `at` is of another context or direction
     pub decide-other : Test ≡ false → Deciding image direction uid gids names head m base end context from
     unfolding transactionMatches
-    decide-other t = decide-pass (λ e f. go (eqb (rule .direction) direction) refl e f)
-      where
-        go : (b : Bool) → eqb (rule .direction) direction ≡ b → rule .context ≡ context
-            → transactionMatches image rule direction uid gids (namesIn names) (messageOf head m) ≡ true → ⊥
-        go true d e f = false≢true (sym t ∙ rw (eq-eqb (rule .context) context e, d))
-        go false d e f = false≢true (rw d at f)
+    decide-other t =
+        decide-pass (λ e f. false≢true (sym t ∙ rw (eq-eqb (rule .context) context e, both-first (eqb (rule .direction) direction) _ (rw and-assoc at f))))
 
     module _ (t : Test ≡ true) {r : Bool} (fits : r ≡ transactionFits image rule uid gids (messageOf head m)) where
       same-direction : eqb (rule .direction) direction ≡ true
@@ -118,10 +114,7 @@ module _ {image : List ℕ} {direction : ℕ} {uid : Uid} {gids names head : Lis
             → eqb (rule .verdict) 1 ≡ mayTransact image direction uid gids (namesIn names) (messageOf head m)
         unfolding mayTransact
         yes e =
-            search-found (u .rules) z
-            (eqb-true (rule .context) context
-            (both-first (eqb (rule .context) context) (eqb (rule .direction) direction) t))
-            (named e)
+            search-found (u .rules) z (eqb-true (rule .context) context (both-first (eqb (rule .context) context) (eqb (rule .direction) direction) t)) (named e)
 
         module _ {name : List ℕ} (is : name ≡ textOf image (rule .name)) where
           len : length name ≡ rule .name .len
@@ -139,10 +132,7 @@ module _ {image : List ℕ} {direction : ℕ} {uid : Uid} {gids names head : Lis
                 small = u .small;
                 among = among-begins;
                 owned = λ o. yes (rw (← is, o, or-true));
-                unowned =
-                    λ o.
-                    decide-pass
-                    (λ e f. false≢true (sym (named (rw (ne-eqb (rule .name .len) 0 (λ k. n (len ∙ k)), ← is, o))) ∙ f));
+                unowned = λ o. decide-pass (λ e f. false≢true (sym (named (rw (ne-eqb (rule .name .len) 0 (λ k. n (len ∙ k)), ← is, o))) ∙ f));
               }
 
 -- ---- the names

@@ -85,16 +85,12 @@ fixed-number s {n} e =
     (numbered (eqb (kindOf s) 0) 3 (sizesOf s) (omega arith) (omega arith)
     (numbered (eqb (serialOf s) 0) 4 five (omega arith) (omega arith)
     (numbered (ltb arrayLimit (arrayLength s)) 5 six (omega arith) (omega arith)
-    (numbered (ltb messageLimit (messageLength s)) 6 (Sizes (headLength s) (messageLength s)) (omega arith) (omega arith) never)))))
+    (numbered (ltb messageLimit (messageLength s)) 6 (Sizes (headLength s) (messageLength s)) (omega arith) (omega arith) (λ y. impossible cc))))))
     e
-  where
-    never : Sizes (headLength s) (messageLength s) ≡ Broken n → (1 ≤ n) × (n ≤ 6)
-    never y = impossible cc
 
 pub fixed-good : (s : List ℕ) {head message : ℕ} → fixedPart s ≡ Sizes head message → Good s head message
 unfolding fixedPart sizesOf
 fixed-good s {head} {message} e =
-    let last : Fixed = Sizes (headLength s) (messageLength s) in
     let six : Fixed = cond (ltb messageLimit (messageLength s)) (Broken 6) (Sizes (headLength s) (messageLength s)) in
     let five : Fixed = cond (ltb arrayLimit (arrayLength s)) (Broken 5) six in
     let e₁ = passes (not (isOrder (getD s 0 0))) 1 _ e in
@@ -102,13 +98,11 @@ fixed-good s {head} {message} e =
     let e₃ = passes (eqb (kindOf s) 0) 3 (sizesOf s) (e₂ .1) in
     let e₄ = passes (eqb (serialOf s) 0) 4 five (e₃ .1) in
     let e₅ = passes (ltb arrayLimit (arrayLength s)) 5 six (e₄ .1) in
-    let e₆ = passes (ltb messageLimit (messageLength s)) 6 last (e₅ .1) in
-    let u : Sizes (headLength s) (messageLength s) ≡ Sizes head message = e₆ .1 in
-    let x : head ≡ headLength s = cc in
-    let y : message ≡ messageLength s = cc in
+    let e₆ = passes (ltb messageLimit (messageLength s)) 6 (Sizes (headLength s) (messageLength s)) (e₅ .1) in
+    let y : message ≡ messageLength s = cc (e₆ .1) in
     record {
       serial = e₄ .0;
-      head-is = x;
+      head-is = cc (e₆ .1);
       message-is = y;
       array = ltb-false arrayLimit (arrayLength s) (e₅ .0);
       message-small = rw y (ltb-false messageLimit (messageLength s) (e₆ .0));

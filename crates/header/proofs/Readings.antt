@@ -18,11 +18,11 @@ use Rattle.header.specs.declared.Fixed.the-variants as fixed
 use Rattle.header.specs.declared.Reading.{Reading}
 use Rattle.header.specs.declared.Reading.the-variants.{Short, Broken, Whole}
 use Rattle.header.specs.Fixed.{fixedLength, arrayLimit, headLimit, orderOf, kindOf, bodyLength, serialOf, arrayLength, headLength}
-use Rattle.header.specs.Fixed.{messageLength, fixedPart, fixedAnswer}
+use Rattle.header.specs.Fixed.{messageLength, fixedPart}
 use Rattle.header.specs.Fields.{Fields, placeOf, fieldsIn, fieldsOf}
 use Rattle.header.specs.Values.{goodValues}
 use Rattle.header.specs.Required.{hasRequired}
-use Rattle.header.specs.Header.{headerOf, judgedHead, orSeven, readHead, readHeader, readingAnswer}
+use Rattle.header.specs.Header.{headerOf, judgedHead, orSeven, readHead, readHeader}
 use Rattle.header.specs.Contracts.{SizedHead, ValuesFit}
 use Rattle.header.proofs.Front.{word-in-front, head-front, head-low, fixed-front, fixed-append, Good, fixed-good}
 use Rattle.header.proofs.Walk.{array-fits}
@@ -59,14 +59,6 @@ head-of s {head} {message} e h =
       sized = rw (length-take-le head s h, n) (g .head-is);
       small = rw (length-take-le head s h, g .head-is) (omega arith);
     }
-
--- a fault of the fixed part is the answer of the whole head
-pub fixed-answers : (s : List ℕ) → fixedLength ≤ length s → 0 < fixedAnswer (fixedPart s) → readingAnswer (readHeader s) ≡ fixedAnswer (fixedPart s)
-fixed-answers s k l = go (fixedPart s) refl l
-  where
-    go : (f : Fixed) → fixedPart s ≡ f → 0 < fixedAnswer f → readingAnswer (readHeader s) ≡ fixedAnswer f
-    go (fixed.Broken n) e m = ap readingAnswer (read-broken s k e)
-    go (fixed.Sizes head message) e m = absurd (omega arith)
 
 -- ---- a head that has come whole is decided: 7, 8, 9 or none
 
@@ -188,18 +180,16 @@ module _ (s : List ℕ) (d : Header) (u : readHeader s ≡ Whole d) (k : fixedLe
       let fs : Fields = f .0 in
       let q : d ≡ headerOf (take head s) fs = f .2 in
       let t : ValuesFit (take head s) fs = fields-fit (take head s) fs w (f .1) in
-      let i : head ≡ headLength s = g .head-is in
-      let j : message ≡ messageLength s = g .message-is in
       let n : length (take head s) ≡ head = length-take-le head s l in
-      let m : fixedLength ≤ head = subst (λ (x : ℕ). fixedLength ≤ x) (sym i) (head-low s) in
+      let m : fixedLength ≤ head = omega (arith, g .head-is, head-low s) in
       let o : d .head ≡ headLength s = ap (λ (x : Header). x .head) q ∙ head-front head s m in
-      let p : d .head ≡ head = o ∙ sym i in
+      let p : d .head ≡ head = o ∙ sym (g .head-is) in
       record {
-        sizes = e ∙ rw (i, j);
+        sizes = e ∙ rw (g .head-is, g .message-is);
         head-is = o;
         head-low = omega arith;
         head-inside = omega arith;
-        head-small = let y : length (take head s) ≤ headLimit = w .small in omega arith;
+        head-small = omega (arith, w .small);
         serial-is = ap (λ (x : Header). x .serial) q ∙ word-in-front head s m 8 (omega arith);
         body-is = ap (λ (x : Header). x .body) q ∙ word-in-front head s m 4 (omega arith);
         path-fits = in-place fs (d .path) 1 (ap (λ (x : Header). x .path) q) t p;
@@ -212,19 +202,13 @@ pub whole-fits : (s : List ℕ) (d : Header) → readHeader s ≡ Whole d → Fi
 whole-fits s d u = go (decLe fixedLength (length s))
   where
     sizes : fixedLength ≤ length s → (r : Fixed) → fixedPart s ≡ r → Fitting s d
-    sizes k (fixed.Broken n) e =
-        let x : readHeader s ≡ Broken n = read-broken s k e in
-        impossible cc
+    sizes k (fixed.Broken n) e = impossible (cc (read-broken s k e))
     sizes k (fixed.Sizes head message) e = whole (decLe head (length s))
       where
         whole : Dec (head ≤ length s) → Fitting s d
         whole (yes l) = fitting s d u k e l
-        whole (no l) =
-            let x : readHeader s ≡ Short = read-short s k e (omega arith) in
-            impossible cc
+        whole (no l) = impossible (cc (read-short s k e (omega arith)))
 
     go : Dec (fixedLength ≤ length s) → Fitting s d
     go (yes k) = sizes k (fixedPart s) refl
-    go (no k) =
-        let x : readHeader s ≡ Short = read-few s (omega arith) in
-        impossible cc
+    go (no k) = impossible (cc (read-few s (omega arith)))

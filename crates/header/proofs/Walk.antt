@@ -1,6 +1,6 @@
 -- The walk over the array: where an element stands, what a step leaves, and that what was found lies in the head.
 use mathlib.Core.Path.{_≡_, refl, sym, subst, _∙_}
-use mathlib.Core.Bool.{Bool, true, false, cond, not, _&&_}
+use mathlib.Core.Bool.{Bool, true, false, cond, _&&_, false≢true}
 use mathlib.Core.List.{List, [], _∷_}
 use mathlib.Core.Option.{none, some}
 use Prim.Native.Nat.{ℕ, zero, suc, _+_, _-_, _≤_, _<_}
@@ -9,13 +9,12 @@ use native.Mathlib.Omega.{arith}
 use lib.Dec.{leb, ltb, eqb}
 use lib.ListN.{length, take, drop, getD, set, length-set, getD-replicate, List·getD-eq-default}
 use lib.Seq.{getD-set-same, getD-set-other}
-use borrow.Author.Tests.{eq-eqb, ne-eqb, eqb-true, eqb-false, ltb-true, leb-true, not-true}
+use borrow.Author.Tests.{eq-eqb, ne-eqb, eqb-true, eqb-false, ltb-true, leb-true}
 use Rattle.wire.specs.Bytes.{byte, allZero}
 use Rattle.wire.specs.Lists.{every}
 use Rattle.wire.specs.Words.{wordAt, roundUp8}
 use Rattle.wire.specs.declared.Order.{Order}
 use Rattle.wire.proofs.Texts.{impossible, both-first, both-second}
-use Rattle.wire.proofs.Below.{row-each}
 use Rattle.header.specs.declared.Element.{Element}
 use Rattle.header.specs.declared.Element.the-variants.{At, Bad}
 use Rattle.header.specs.Codes.{codeLimit, Field, fieldTable, letterIn, letterOf}
@@ -89,18 +88,11 @@ value-valued o h end code letter at {c} {a} {l} {s} e = go (eqb letter (byte "g"
 -- a code with a letter is one of the table
 framed-code : (h : List ℕ) (at : ℕ) → framed h at ≡ true → getD h at 0 < codeLimit
 unfolding framed
-framed-code h at t = go (letterOf (getD h at 0)) refl t
+framed-code h at t = go (decLe codeLimit (getD h at 0))
   where
-    go : (l : ℕ) → l ≡ letterOf (getD h at 0) → not (eqb l 0) && eqb (getD h (at + 1) 0) 1 && eqb (getD h (at + 2) 0) l && eqb (getD h (at + 3) 0) 0 ≡ true
-        → getD h at 0 < codeLimit
-    go l e u = known (decLe codeLimit (getD h at 0))
-      where
-        known : Dec (codeLimit ≤ getD h at 0) → getD h at 0 < codeLimit
-        known (no k) = omega arith
-        known (yes k) =
-            let f : not (eqb l 0) ≡ true =
-            row-each true (not (eqb l 0) ∷ eqb (getD h (at + 1) 0) 1 ∷ eqb (getD h (at + 2) 0) l ∷ eqb (getD h (at + 3) 0) 0 ∷ []) u 0 in
-            absurd (eqb-false l 0 (not-true (eqb l 0) f) (e ∙ sym (no-letter (getD h at 0) k)))
+    go : Dec (codeLimit ≤ getD h at 0) → getD h at 0 < codeLimit
+    go (no k) = omega arith
+    go (yes k) = absurd (false≢true (rw (← no-letter (getD h at 0) k) at t))
 
 pub record Stands (end from code at len stop : ℕ) : Type 0 where
   pub known : code < codeLimit
@@ -155,15 +147,13 @@ fits-none h = record { sized = refl; inside = λ code. go code (decLe codeLimit 
 
 fits-more : {h : List ℕ} {fs : Fields} (c a l : ℕ) → ValuesFit h fs → c < codeLimit → a + l ≤ length h → ValuesFit h (set fs c (record { at = a; len = l }))
 fits-more {h} {fs} c a l f k m =
-    let z : length fs ≡ codeLimit = f .sized in
-    record { sized = length-set fs c (record { at = a; len = l }) ∙ z; inside = λ code. go code (eqb code c) refl }
+    record { sized = simp length-set (f .sized); inside = λ code. go code (eqb code c) refl }
   where
     go : (code : ℕ) (b : Bool) → eqb code c ≡ b
         → placeOf (set fs c (record { at = a; len = l })) code .at + placeOf (set fs c (record { at = a; len = l })) code .len ≤ length h
     go code true e =
-        let z : length fs ≡ codeLimit = f .sized in
         let i : code ≡ c = eqb-true code c e in
-        rw (i, getD-set-same fs c (record { at = a; len = l }) absent (omega arith)) m
+        rw (i, getD-set-same fs c (record { at = a; len = l }) absent (omega (arith, f .sized))) m
     go code false e = rw (getD-set-other fs c code (record { at = a; len = l }) absent (eqb-false code c e)) (f .inside code)
 
 -- the same of what one more step finds, where it holds of the rest

@@ -41,10 +41,7 @@ module _ (image : List ℕ) (s : Span) where
     or-any-inside form h = go (eqb (s .len) 0) refl h
       where
         go : (b : Bool) → eqb (s .len) 0 ≡ b → cond b (eqb (s .offset) 0) (goodString form image s) ≡ true → Inside image s
-        go true e k =
-            let z = eqb-true (s .len) 0 e in
-            let o = eqb-true (s .offset) 0 k in
-            omega arith
+        go true e k = omega (arith, eqb-true)
         go false e k = string-inside form k
 
     -- what the test of an own rule with a matcher m says
@@ -71,8 +68,8 @@ connect-context {image} g i l =
     (below-at (goodRule Connect image) (ruleCount Connect image) (each-part image (g .is) 1) i l)
     in
     ⊎-elim
-    (λ (e : eqb (r .context) 0 ≡ true). omega (arith, eqb-true (r .context) 0 e))
-    (λ (e : eqb (r .context) 3 ≡ true). omega (arith, eqb-true (r .context) 3 e))
+    (λ (e : eqb (r .context) 0 ≡ true). omega (arith, eqb-true))
+    (λ (e : eqb (r .context) 3 ≡ true). omega (arith, eqb-true))
     (either (eqb (r .context) 0) (eqb (r .context) 3) (k 0))
 
 subject-context : (r : PolicyRule) → goodSubject r ≡ true → r .context ≤ 3

@@ -80,15 +80,14 @@ unfolding startsWith
 starts-not b [] e = refl
 starts-not b (x ∷ s) e = ne-eqb x b e
 
-starts-none : (b : ℕ) (s : List ℕ) → length s ≡ 0 → startsWith b s ≡ false
-unfolding startsWith
-starts-none b [] e = refl
-starts-none b (x ∷ s) e = absurd (omega arith)
+empty : (s : List ℕ) → length s ≡ 0 → s ≡ []
+empty [] e = refl
+empty (x ∷ s) e = absurd (omega arith)
 
 module _ (s : List ℕ) where
   pub unique-none : length s ≡ 0 → false ≡ validName Unique s
-  unfolding validName unique
-  unique-none e = rw (starts-none (byte ":") s e, and-false)
+  unfolding validName unique startsWith
+  unique-none e = rw (empty s e)
 
   pub unique-not : (getD s 0 0 ≡ byte ":" → ⊥) → false ≡ validName Unique s
   unfolding validName unique
@@ -100,8 +99,8 @@ module _ (s : List ℕ) where
   unique-is n e h f = rw (le-leb (length s) nameLimit h, starts (byte ":") s n e, ← rest-at 1 s) f
 
   pub path-none : length s ≡ 0 → false ≡ validName Path s
-  unfolding validName
-  path-none e = rw (starts-none (byte "/") s e)
+  unfolding validName startsWith
+  path-none e = rw (empty s e)
 
   pub path-not : (getD s 0 0 ≡ byte "/" → ⊥) → false ≡ validName Path s
   unfolding validName
@@ -125,12 +124,8 @@ coloned (x ∷ s) e = let f : x ≡ byte ":" = eqb-true x (byte ":") e in rw (f,
 
 module _ (s : List ℕ) where
   pub bus-none : length s ≡ 0 → false ≡ validName BusName s
-  unfolding validName unique wellKnown
-  bus-none e = rw (starts-none (byte ":") s e, and-false) (go s e)
-    where
-      go : (s : List ℕ) → length s ≡ 0 → false ≡ dotted wellKnownShape s
-      go [] e = refl
-      go (x ∷ s) e = absurd (omega arith)
+  unfolding validName unique wellKnown startsWith
+  bus-none e = rw (empty s e)
 
   pub bus-unique : (length s ≡ 0 → ⊥) → getD s 0 0 ≡ byte ":" → {r : Bool} → r ≡ validName Unique s → r ≡ validName BusName s
   unfolding validName

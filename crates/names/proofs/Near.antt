@@ -23,7 +23,7 @@ unfoldable pub steps : Shape → ℕ → List ℕ → Bool
 steps shape p [] = not (eqb p (shape .separator))
 steps shape p (b ∷ s) = near shape p b && steps shape b s
 
--- q: the byte before is a separator. What is left of the present element and of the cut (shape .separator) s .1ays what `steps` says
+-- q: the byte before is a separator. What is left of the present element and of the rest says what `steps` says
 at-end : (q many : Bool) (shape : Shape) → not q ≡ present q shape [] && true && (many || true)
 at-end true many shape = refl
 at-end false true shape = refl

@@ -25,15 +25,9 @@ left shape n fresh s =
     cond (present fresh shape (cut (shape .separator) s .0) && every (element shape) (cut (shape .separator) s .1)) (n + length (cut (shape .separator) s .1)) 0
 
 -- the code's test of a digit in front, as the element's rule has it
-starts : (lead d : Bool) → not lead && d ≡ false → lead || not d ≡ true
-starts true d h = refl
-starts false true h = sym h
-starts false false h = refl
-
-stops : (lead d : Bool) → not lead && d ≡ true → lead || not d ≡ false
-stops true d h = sym h
-stops false true h = refl
-stops false false h = sym h
+may-start : (lead d : Bool) → lead || not d ≡ not (not lead && d)
+may-start true d = refl
+may-start false d = refl
 
 -- a test that 0 does not pass, made of the count
 pub passed : (shape : Shape) (p : ℕ → Bool) (s : List ℕ) → p 0 ≡ false
@@ -49,7 +43,7 @@ passed shape p s none = go (elements shape s)
 module _ (shape : Shape) (n b : ℕ) (s : List ℕ) (other : b ≡ (shape .separator) → ⊥) where
   word-step : (fresh : Bool) → word (shape .dash) b ≡ true → fresh && not (shape .lead) && digit b ≡ false → left shape n fresh (b ∷ s) ≡ left shape n false s
   unfolding left
-  word-step true w d = simp (ne-eqb b (shape .separator) other, w, starts (shape .lead) (digit b) d)
+  word-step true w d = simp (ne-eqb b (shape .separator) other, w, may-start (shape .lead) (digit b), d)
   word-step false w d = simp (ne-eqb b (shape .separator) other, w)
 
   bad-step : (fresh : Bool) → word (shape .dash) b ≡ false → left shape n fresh (b ∷ s) ≡ 0
@@ -59,7 +53,7 @@ module _ (shape : Shape) (n b : ℕ) (s : List ℕ) (other : b ≡ (shape .separ
 
   digit-step : (fresh : Bool) → fresh && not (shape .lead) && digit b ≡ true → left shape n fresh (b ∷ s) ≡ 0
   unfolding left
-  digit-step true d = simp (ne-eqb b (shape .separator) other, stops (shape .lead) (digit b) d)
+  digit-step true d = simp (ne-eqb b (shape .separator) other, may-start (shape .lead) (digit b), d)
   digit-step false d = absurd (false≢true d)
 
 -- a scan of s that has come to i: what is to be counted is `left` of the bytes from i on

@@ -1,8 +1,8 @@
 -- The walk's loop: what is to be found is what the rest gives.
-use mathlib.Core.Path.{_≡_, refl, sym, _∙_}
+use mathlib.Core.Path.{_≡_, refl, sym, ap, _∙_}
 use mathlib.Core.List.{List}
 use mathlib.Core.Option.{Option, none, some}
-use Prim.Native.Nat.{ℕ, zero, suc, _+_, _-_, _*_, _<_}
+use Prim.Native.Nat.{ℕ, suc, _+_, _-_, _*_, _<_}
 use native.Mathlib.Omega.{arith}
 use lib.ListN.{length, set, length-set}
 use mir.Syntax.{w64}
@@ -28,13 +28,13 @@ pub walking-begins : {o : Order} {h : List ℕ} {end : ℕ} → Inside h end fix
 walking-begins {o} {h} {end} i = record { fuel = end - fixedLength + 1; enough = omega arith; inside = i; sized = refl; left = refl }
 
 module _ {o : Order} {h : List ℕ} {end : ℕ} {fs : Fields} {from : ℕ} (w : Walking o h end fs from) where
+  -- there is fuel for a step
+  step-left : fieldsIn o h end ≡ walk (suc (w .fuel - 1)) o h end from fs
+  step-left = let e : w .fuel ≡ suc (w .fuel - 1) = omega (arith, w .enough) in w .left ∙ ap (λ (n : ℕ). walk n o h end from fs) e
+
   -- whatever the fuel, a step of the walk says what the whole finds
   by-step : {x : Option Fields} → ((fuel : ℕ) → walk (suc fuel) o h end from fs ≡ x) → x ≡ fieldsIn o h end
-  by-step {x} step = go (w .fuel) (w .enough) (w .left)
-    where
-      go : (fuel : ℕ) → end - from < fuel → fieldsIn o h end ≡ walk fuel o h end from fs → x ≡ fieldsIn o h end
-      go zero l k = absurd (omega arith)
-      go (suc fuel) l k = sym (k ∙ step fuel)
+  by-step step = sym (step-left ∙ step (w .fuel - 1))
 
   pub walking-ends : from ≡ end → some fs ≡ fieldsIn o h end
   walking-ends e = by-step (λ fuel. walk-end fuel o h end from fs e)
@@ -60,20 +60,13 @@ module _ {o : Order} {h : List ℕ} {end : ℕ} {fs : Fields} {from : ℕ} (w : 
       walking-again z = by-step (λ fuel. walk-again fuel o h end from fs n (sym p ∙ q) z)
 
       pub walking-more : placeOf fs c .at ≡ 0 → Walking o h end (set fs c (record { at = a; len = l })) s
-      walking-more z = go (w .fuel) (w .enough) (w .left)
-        where
-          go : (fuel : ℕ) → end - from < fuel → fieldsIn o h end ≡ walk fuel o h end from fs
-              → Walking o h end (set fs c (record { at = a; len = l })) s
-          go zero m k = absurd (omega arith)
-          go (suc fuel) m k =
-              let i : Inside h end from = w .inside in
-              let t : Stands end from c a l s = stands in
-              record {
-                fuel = fuel;
-                enough = omega arith;
-                inside = record { above = omega arith; before = t .ends; padded = i .padded; small = i .small };
-                sized = length-set fs c (record { at = a; len = l }) ∙ w .sized;
-                left = k ∙ walk-more fuel o h end from fs n (sym p ∙ q) z;
-              }
+      walking-more z =
+          record {
+            fuel = w .fuel - 1;
+            enough = omega (arith, stands, w .enough);
+            inside = omega (arith, stands, w .inside);
+            sized = simp length-set (w .sized);
+            left = step-left ∙ walk-more (w .fuel - 1) o h end from fs n (sym p ∙ q) z;
+          }
 
 pub ruleset walking = (walking-begins, walking-ends, walking-bad, code-inside, code-scaled, walking-falls, walking-again, walking-more, needs)

@@ -82,13 +82,7 @@ module _ (h : List ℕ) (o : Order) (a : ℕ) (w : SizedHead h) (p : o ≡ order
   array-inside = rw (w .sized, array-is) (omega arith)
 
   pub walk-inside : Inside h (fixedLength + a) fixedLength
-  walk-inside =
-      record {
-        above = omega arith;
-        before = omega arith;
-        padded = rw (w .sized, array-is) (omega arith);
-        small = w .small;
-      }
+  walk-inside = record { above = omega arith; before = omega arith; padded = rw (w .sized, array-is) (omega arith); small = w .small }
 
   module _ {z : Bool} (e : z ≡ allZero (take (length h - (fixedLength + a)) (drop (fixedLength + a) h))) where
     pub unpadded : not z ≡ true → Broken 7 ≡ readHead h

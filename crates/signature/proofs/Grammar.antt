@@ -14,7 +14,7 @@ use borrow.Author.Tests.{ne-eqb}
 use Rattle.wire.specs.Bytes.{byte}
 use Rattle.wire.proofs.From.{next, past, skip}
 use Rattle.signature.specs.Signature.{basic, headOf, closedBy, one, row}
-use Rattle.signature.specs.Reader.{leftOf, rowOf, StepFits, RunFits, HeadAt, OneAt, RowAt}
+use Rattle.signature.specs.Reader.{leftOf, rowOf, HeadFits, StepFits, RunFits, HeadAt, OneAt, RowAt}
 use Rattle.signature.specs.declared.FirstCode.{FirstCode}
 use Rattle.signature.specs.declared.FirstCode.the-variants as head
 use Rattle.signature.specs.declared.TypeEnd.{TypeEnd}
@@ -31,17 +31,8 @@ further s at from h step.Bad f = tt
 
 module _ {s : List ℕ} {at arrays parens : ℕ} where
   module _ {x : FirstCode} (h : HeadAt s at arrays parens x) where
-    pub plain-in : x ≡ head.Plain → at < length s
-    plain-in e = subst (HeadAt s at arrays parens) e h .fits
-
-    pub array-in : x ≡ head.Array → (at < length s) × (arrays < 32)
-    array-in e = subst (HeadAt s at arrays parens) e h .fits
-
-    pub dict-in : {key : Bool} → x ≡ head.Dict key → (at < length s) × (arrays < 32)
-    dict-in e = subst (HeadAt s at arrays parens) e h .fits
-
-    pub paren-in : x ≡ head.Paren → (at < length s) × (parens < 32)
-    paren-in e = subst (HeadAt s at arrays parens) e h .fits
+    pub head-in : {y : FirstCode} → x ≡ y → HeadFits s at arrays parens y
+    head-in e = subst (HeadAt s at arrays parens) e h .fits
 
   pub type-in : {x : TypeEnd} → OneAt s at arrays parens x → {k : ℕ} → x ≡ step.Rest k → (at < k) × (k ≤ length s)
   type-in o e = subst (OneAt s at arrays parens) e o .fits
@@ -55,30 +46,22 @@ module _ {s : List ℕ} {at arrays parens : ℕ} where
 module _ {s : List ℕ} {at arrays parens : ℕ} where
   one-is : {r : TypeEnd} → at < length s → StepFits s at r
       → ((fuel : ℕ) → 2 * (length s - at) ≤ suc fuel → leftOf s r ≡ one (suc fuel) arrays parens (drop at s)) → OneAt s at arrays parens r
-  one-is {r} h f step = record { is = go; fits = f }
-    where
-      go : (fuel : ℕ) → 2 * (length s - at) ≤ fuel → leftOf s r ≡ one fuel arrays parens (drop at s)
-      go zero l = absurd (omega arith)
-      go (suc fuel) l = step fuel l
+  one-is h f step = record { is = λ fuel l. let e : fuel ≡ suc (fuel - 1) = omega arith in rw e (step (fuel - 1) (omega arith)); fits = f }
 
   row-is : {r : RowEnd} → RunFits s at r
       → ((fuel : ℕ) → 2 * (length s - at) ≤ fuel → rowOf s r ≡ row (suc fuel) arrays parens (drop at s)) → RowAt s at arrays parens r
-  row-is {r} f step = record { is = go; fits = f }
-    where
-      go : (fuel : ℕ) → 2 * (length s - at) + 1 ≤ fuel → rowOf s r ≡ row fuel arrays parens (drop at s)
-      go zero l = absurd (omega arith)
-      go (suc fuel) l = step fuel (omega arith)
+  row-is f step = record { is = λ fuel l. let e : fuel ≡ suc (fuel - 1) = omega arith in rw e (step (fuel - 1) (omega arith)); fits = f }
 
 module _ {s : List ℕ} {at arrays parens : ℕ} {x : FirstCode} (h : HeadAt s at arrays parens x) where
   pub plain : x ≡ head.Plain → OneAt s at arrays parens (step.Rest (at + 1))
   unfolding one
-  plain e = one-is (plain-in h e) (omega (arith, plain-in h e)) (λ fuel l. rw (one, ← h .is, e, skip s at 1 (at + 1) refl))
+  plain e = one-is (head-in h e) (omega (arith, head-in h e)) (λ fuel l. rw (one, ← h .is, e, skip s at 1 (at + 1) refl))
 
   pub array : x ≡ head.Array → {r : TypeEnd} → OneAt s (at + 1) (arrays + 1) parens r → OneAt s at arrays parens r
   unfolding one
   array e {r} o =
-      one-is (array-in h e .0) (further s at (at + 1) (omega arith) r (o .fits))
-      (λ fuel l. rw (one, ← h .is, e, skip s at 1 (at + 1) refl) (o .is fuel (omega (arith, array-in h e))))
+      one-is (head-in h e .0) (further s at (at + 1) (omega arith) r (o .fits))
+      (λ fuel l. rw (one, ← h .is, e, skip s at 1 (at + 1) refl) (o .is fuel (omega (arith, head-in h e))))
 
   pub other : x ≡ head.None → OneAt s at arrays parens step.Bad
   unfolding one
@@ -93,24 +76,24 @@ module _ {s : List ℕ} {at arrays parens : ℕ} {x : FirstCode} (h : HeadAt s a
         → StepFits s end r → OneAt s at arrays parens r
     unfolding one
     dict {n} {end} q {r} d f =
-        one-is (dict-in h e .0) (further s at end (omega (arith, row-in w q)) r f)
-        (λ fuel l. rw (one, ← h .is, e, skip s at 2 (at + 2) refl, ← w .is fuel (omega (arith, dict-in h e)), q) d)
+        one-is (head-in h e .0) (further s at end (omega (arith, row-in w q)) r f)
+        (λ fuel l. rw (one, ← h .is, e, skip s at 2 (at + 2) refl, ← w .is fuel (omega (arith, head-in h e)), q) d)
 
     pub dict-bad : m ≡ run.Bad → OneAt s at arrays parens step.Bad
     unfolding one
-    dict-bad q = one-is (dict-in h e .0) tt (λ fuel l. rw (one, ← h .is, e, skip s at 2 (at + 2) refl, ← w .is fuel (omega (arith, dict-in h e)), q))
+    dict-bad q = one-is (head-in h e .0) tt (λ fuel l. rw (one, ← h .is, e, skip s at 2 (at + 2) refl, ← w .is fuel (omega (arith, head-in h e)), q))
 
   module _ (e : x ≡ head.Paren) {m : RowEnd} (w : RowAt s (at + 1) arrays (parens + 1) m) where
     pub paren : {n end : ℕ} → m ≡ run.Types n end → {r : TypeEnd} → leftOf s r ≡ closedBy (byte ")") (leb 1 n) (drop end s)
         → StepFits s end r → OneAt s at arrays parens r
     unfolding one
     paren {n} {end} q {r} d f =
-        one-is (paren-in h e .0) (further s at end (omega (arith, row-in w q)) r f)
-        (λ fuel l. rw (one, ← h .is, e, skip s at 1 (at + 1) refl, ← w .is fuel (omega (arith, paren-in h e)), q) d)
+        one-is (head-in h e .0) (further s at end (omega (arith, row-in w q)) r f)
+        (λ fuel l. rw (one, ← h .is, e, skip s at 1 (at + 1) refl, ← w .is fuel (omega (arith, head-in h e)), q) d)
 
     pub paren-bad : m ≡ run.Bad → OneAt s at arrays parens step.Bad
     unfolding one
-    paren-bad q = one-is (paren-in h e .0) tt (λ fuel l. rw (one, ← h .is, e, skip s at 1 (at + 1) refl, ← w .is fuel (omega (arith, paren-in h e)), q))
+    paren-bad q = one-is (head-in h e .0) tt (λ fuel l. rw (one, ← h .is, e, skip s at 1 (at + 1) refl, ← w .is fuel (omega (arith, head-in h e)), q))
 
 -- ---- a row
 

@@ -12,22 +12,22 @@ use Rattle.wire.proofs.Texts.{impossible}
 use Rattle.header.specs.declared.Fixed.{Fixed}
 use Rattle.header.specs.declared.Fixed.the-variants as fixed
 use Rattle.header.specs.declared.Reading.the-variants as reading
-use Rattle.header.specs.Fixed.{fixedLength, headLimit, messageLimit, headLength, fixedPart}
+use Rattle.header.specs.Fixed.{fixedLength, messageLimit, headLength, fixedPart}
 use Rattle.header.specs.Header.{readHeader}
 use Rattle.header.proofs.Front.{head-low}
 use Rattle.header.proofs.Readings.{read-few, read-broken}
 use Rattle.stream.specs.declared.Stream.{Stream}
 use Rattle.stream.specs.declared.Event.the-variants.{More, Broken}
 use Rattle.stream.specs.declared.Advance.{Advance}
-use Rattle.stream.specs.Stream.{more, broken, offer}
+use Rattle.stream.specs.Stream.{offer}
 use Rattle.stream.specs.Tail.{tails}
 use Rattle.stream.specs.Contracts.{tailIn, Open, Advanced}
 use Rattle.stream.specs.Steps.{Resumed, resumed, Room, Stored, Started, Begun, InHead}
 use Rattle.stream.proofs.Heads.{Sized, sized, whole-head}
 use Rattle.stream.proofs.Good.{Running, in-head, in-body, more-runs, kept, end-is}
 use Rattle.stream.proofs.Phases.{stored-fixed}
-use Rattle.stream.proofs.Regions.{started-length, fits, length-after, padded-after}
-use Rattle.stream.proofs.Gives.{gives, same-offer, open-resumes, plus, moved, used-up, broken-at, in-body-of}
+use Rattle.stream.proofs.Regions.{started-length, fits, started-after}
+use Rattle.stream.proofs.Gives.{same-offer, open-resumes, plus, moved, more-stored, broken-at, in-body-of}
 
 -- ---- `advance`: up to 16 bytes
 
@@ -65,28 +65,16 @@ module _ {region : List ℕ} {s : Stream} (o : Open region s) where
     many : (s .stored + k ≤ fixedLength) × (0 + k ≤ length piece)
     many = fits region (s .stored) fixedLength piece 0 k after room w
 
-    moved-fixed : offer tails (tailIn region s) piece ≡ resumed (tailIn after (plus s k)) piece k
+    moved-fixed : offer tails (tailIn region s) piece ≡ resumed (tailIn after (plus s k)) piece (0 + k)
     moved-fixed =
         open-resumes (tailIn region s) piece (o .running)
         ∙ moved s room w (stored-fixed k (s .taken) (take (s .stored) region) piece (omega (arith, many)) (rw head-is (many .0)))
-        ∙ ap (resumed (tailIn after (plus s k)) piece) (zero-add k)
 
     pub more-fixed : s .stored + k < fixedLength
         → Advanced region s piece (record { stream = record { taken = s .taken + k; stored = s .stored + k }; taken = k; event = More }) after
     more-fixed h =
-        let q : length after ≡ headLimit = length-after region (s .stored) fixedLength piece 0 k after room w in
-        record {
-          gives =
-              gives (length piece) after (plus s k) k More
-              (moved-fixed
-              ∙ used-up after (plus s k) piece k (omega (arith, w .many))
-              (read-few (take (s .stored + k) after) (rw (length-take (s .stored + k) after) (omega arith))))
-              (padded-after region (s .stored) fixedLength piece 0 k after room w (o .padded))
-              q
-              (omega arith)
-              (omega (arith, many))
-              (omega (arith, all-kept l));
-        }
+        let q = read-few (take (s .stored + k) after) (rw (length-take (s .stored + k) after) (omega arith)) in
+        record { gives = rw (zero-add k) at (more-stored s room w moved-fixed h q (o .padded) (omega (arith, all-kept l))) }
 
     pub begun-fixed : fixedLength ≤ s .stored + k → Begun after (record { taken = s .taken + k; stored = s .stored + k }) piece k
     begun-fixed h =
@@ -94,21 +82,14 @@ module _ {region : List ℕ} {s : Stream} (o : Open region s) where
         let b : s .taken + k ≡ fixedLength = omega (arith, all-kept l) in
         let c : fixedLength ≤ headLength (take (s .stored + k) after) = head-low (take (s .stored + k) after) in
         record {
-          started =
-              record {
-                sized = length-after region (s .stored) fixedLength piece 0 k after room w;
-                padded = padded-after region (s .stored) fixedLength piece 0 k after room w (o .padded);
-                above = h;
-                stored = omega arith;
-                within = omega (arith, many);
-              };
+          started = rw (zero-add k) at (started-after region (s .stored) fixedLength piece 0 k after room w (s .taken + k) (o .padded) h);
           kept = omega arith;
           running = λ i. absurd (omega arith);
         }
 
     pub from-fixed : {r : Advance} {last : List ℕ} → Resumed after (record { taken = s .taken + k; stored = s .stored + k }) piece k r last
         → Advanced region s piece r last
-    from-fixed g = record { gives = same-offer moved-fixed (g .gives) }
+    from-fixed g = record { gives = same-offer moved-fixed (rw (zero-add k) (g .gives)) }
 
 -- fewer than 16 bytes, however the code asks for them
 pub ruleset few = (more-fixed, lt-of-le-of-lt, needs)
@@ -132,11 +113,8 @@ module _ {region : List ℕ} {s : Stream} {piece : List ℕ} {used : ℕ} (b : B
         r : readHeader (take (s .stored) region) ≡ reading.Broken a
         r = read-broken (take (s .stored) region) (omega (arith, started-length begun, begun .above)) (is-fixed ∙ q)
 
-        never : broken a ≡ more → ⊥
-        never q = impossible cc
-
         go : Dec (headLength (take (s .stored) region) < s .taken) → s .taken ≤ messageLimit
-        go (yes d) = absurd (never (rw r at (b .running d)))
+        go (yes d) = let z = rw r at (b .running d) in impossible cc
         go (no d) = omega (arith, b .kept, begun .stored)
 
     pub sizes-fixed : {end message : ℕ} → f ≡ fixed.Sizes end message → InHead region s piece used end message

@@ -27,7 +27,7 @@ use Rattle.stream.specs.Steps.{Resumed, bumpBy, continued, resumed, Star
 use Rattle.stream.proofs.Heads.{whole-head, not-short}
 use Rattle.stream.proofs.Good.{kept}
 use Rattle.stream.proofs.Phases.{bump-none, continued-more, counted, ended, continued-broken, continued-short}
-use Rattle.stream.proofs.Regions.{started-length, fits, head-after}
+use Rattle.stream.proofs.Regions.{started-length, fits, head-after, length-after, padded-after}
 
 -- ---- what an offer comes to
 
@@ -71,6 +71,15 @@ open-resumes t piece e = sym (continued-more t piece e) ∙ bump-none (continued
 abbrev pub plus : Stream → ℕ → Stream
 plus s k = record { taken = s .taken + k; stored = s .stored + k }
 
+-- the piece is used up in the head
+pub used-up : (region : List ℕ) (s : Stream) (piece : List ℕ) (used : ℕ) → length piece ≤ used → readHeader (take (s .stored) region) ≡ reading.Short
+    → resumed (tailIn region s) piece used ≡ record { verdict = more; taken = used; stream = tailIn region s }
+used-up region s piece used l e =
+    let z : used + 0 ≡ used = add-zero used in
+    ap (λ (q : List ℕ). bumpBy used (continued (tailIn region s) q)) (drop-of-length-le piece l)
+    ∙ ap (bumpBy used) (continued-short (s .taken) (take (s .stored) region) e)
+    ∙ (λ i. record { verdict = more; taken = z i; stream = tailIn region s })
+
 module _ (s : Stream) {region piece after : List ℕ} {limit used k : ℕ} (r : Room region (s .stored) limit piece used)
     (w : Stored region (s .stored) limit piece used k after) where
   -- the stream goes on behind them, where they are as many pushes
@@ -84,14 +93,14 @@ module _ (s : Stream) {region piece after : List ℕ} {limit used k : ℕ} (r : 
       (sym (head-after region (s .stored) limit piece used k after r w))
       (drop-drop k used piece)
 
--- the piece is used up in the head
-pub used-up : (region : List ℕ) (s : Stream) (piece : List ℕ) (used : ℕ) → length piece ≤ used → readHeader (take (s .stored) region) ≡ reading.Short
-    → resumed (tailIn region s) piece used ≡ record { verdict = more; taken = used; stream = tailIn region s }
-used-up region s piece used l e =
-    let z : used + 0 ≡ used = add-zero used in
-    ap (λ (q : List ℕ). bumpBy used (continued (tailIn region s) q)) (drop-of-length-le piece l)
-    ∙ ap (bumpBy used) (continued-short (s .taken) (take (s .stored) region) e)
-    ∙ (λ i. record { verdict = more; taken = z i; stream = tailIn region s })
+  -- the piece ends among them
+  pub more-stored : {o : Offer Tail} → o ≡ resumed (tailIn after (plus s k)) piece (used + k) → s .stored + k < limit
+      → readHeader (take (s .stored + k) after) ≡ reading.Short → region ≡ pad headLimit (take (s .stored) region) → s .taken + k ≤ messageLimit
+      → Gives o (length piece) (record { stream = plus s k; taken = used + k; event = More }) after
+  more-stored e h q p f =
+      gives (length piece) after (plus s k) (used + k) More (e ∙ used-up after (plus s k) piece (used + k) (omega (arith, w .many)) q)
+      (padded-after region (s .stored) limit piece used k after r w p) (length-after region (s .stored) limit piece used k after r w)
+      (omega (arith, r .inside)) (fits region (s .stored) limit piece used k after r w .1) f
 
 -- ---- a piece's end in the body, and a broken head
 
@@ -156,15 +165,9 @@ in-body-of n h head message l f k o = go (readHeader h) refl
   where
     last : (x : Header) → readHeader h ≡ reading.Whole x → Dec (n < x .head + x .body) → (x : Header) × (readHeader h ≡ reading.Whole x) × (n < message)
     last x e (yes d) = (x, e, rw (← lengths h x head message e f .1) d)
-    last x e (no d) = absurd (never (rw (e, le-ltb n (x .head + x .body) (omega arith)) at o))
-      where
-        never : whole (take (x .head) h) x ≡ more → ⊥
-        never q = impossible cc
+    last x e (no d) = let z = rw (e, le-ltb n (x .head + x .body) (omega arith)) at o in impossible cc
 
     go : (r : Reading) → readHeader h ≡ r → (x : Header) × (readHeader h ≡ reading.Whole x) × (n < message)
     go reading.Short e = absurd (not-short h l f k e)
-    go (reading.Broken a) e = absurd (never (rw e at o))
-      where
-        never : broken a ≡ more → ⊥
-        never q = impossible cc
+    go (reading.Broken a) e = let z = rw e at o in impossible cc
     go (reading.Whole x) e = last x e (decLt n (x .head + x .body))

@@ -1,16 +1,15 @@
 -- `Stream::advance` behind the fixed part, way by way: the rest of the head, the head's end, and the body.
-use mathlib.Core.Path.{_≡_, refl, sym, ap, _∙_, subst}
+use mathlib.Core.Path.{_≡_, refl, sym, ap, _∙_}
 use mathlib.Core.List.{List}
 use Prim.Native.Nat.{ℕ, _+_, _-_, _≤_, _<_}
 use native.Mathlib.Omega.{arith}
 use native.Mathlib.Nat.{sub-zero}
 use lib.ListN.{length, take, drop, length-drop}
-use lib.Seq.{length-take-le}
 use Rattle.header.specs.declared.Header.{Header}
 use Rattle.header.specs.declared.Fixed.the-variants as fixed
 use Rattle.header.specs.declared.Reading.{Reading}
 use Rattle.header.specs.declared.Reading.the-variants as reading
-use Rattle.header.specs.Fixed.{headLimit, fixedPart}
+use Rattle.header.specs.Fixed.{fixedPart}
 use Rattle.header.specs.Header.{readHeader}
 use Rattle.header.proofs.Front.{fixed-append}
 use Rattle.header.proofs.Readings.{read-short}
@@ -23,8 +22,8 @@ use Rattle.stream.specs.Steps.{Resumed, resumed, Room, Stored, Started, 
 use Rattle.stream.proofs.Heads.{Sized, sized, not-short}
 use Rattle.stream.proofs.Good.{kept}
 use Rattle.stream.proofs.Phases.{stored-head}
-use Rattle.stream.proofs.Regions.{started-length, fits, head-after, length-after, padded-after}
-use Rattle.stream.proofs.Gives.{gives, same-offer, plus, moved, used-up, broken-at, lengths, body-more, body-whole, in-body-of}
+use Rattle.stream.proofs.Regions.{started-length, fits, head-after, kept-after, started-after}
+use Rattle.stream.proofs.Gives.{same-offer, plus, moved, more-stored, broken-at, lengths, body-more, body-whole, in-body-of}
 
 -- ---- `after_head`
 
@@ -60,13 +59,8 @@ module _ {region : List ℕ} {s : Stream} {piece : List ℕ} {used end message :
         → Resumed region s piece used (record { stream = record { taken = message; stored = end }; taken = used + (message - s .taken); event = Whole x })
         region
     whole-end h =
-        subst (λ (n : ℕ). Resumed region s piece used
-        (record { stream = record { taken = message; stored = n }; taken = used + (message - s .taken); event = Whole x }) region)
-        (a .kept)
-        (subst (λ (m : ℕ). Resumed region s piece used
-        (record { stream = record { taken = m; stored = s .stored }; taken = used + (m - s .taken); event = Whole x }) region)
-        (is-lengths .1)
-        (body-whole (here .started) x (is-read ∙ f) (a .kept ∙ sym (is-lengths .0)) (rw (is-lengths .1) (here .below)) (rw (is-lengths .1) h)))
+        rw (← a .kept, ← is-lengths .1)
+        (body-whole (here .started) x (is-read ∙ f) (a .kept ∙ sym (is-lengths .0)) (rw (is-lengths .1) (here .below)) (rw (is-lengths .1) h))
 
 -- ---- `in_head` and `in_body`
 
@@ -105,19 +99,9 @@ module _ {region : List ℕ} {s : Stream} {piece : List ℕ} {used end message :
     pub more-head : s .stored + k < end
         → Resumed region s piece used (record { stream = record { taken = s .taken + k; stored = s .stored + k }; taken = used + k; event = More }) after
     more-head h =
-        let q : length after ≡ headLimit = length-after region (s .stored) end piece used k after room-head w in
-        let m : length (take (s .stored + k) after) ≡ s .stored + k = length-take-le (s .stored + k) after (omega (arith, i .measured .small)) in
-        record {
-          gives = gives (length piece) after (plus s k) (used + k) More
-              (moved-head
-              ∙ used-up after (plus s k) piece (used + k) (omega (arith, w .many))
-              (read-short (take (s .stored + k) after) (omega (arith, lent .above)) after-sizes (omega arith)))
-              (padded-after region (s .stored) end piece used k after room-head w (lent .padded))
-              q
-              (omega (arith, i .measured .small))
-              (omega (arith, many-head))
-              (omega (arith, i .measured .few, i .kept, in-sized .inside));
-        }
+        let m = kept-after region (s .stored) end piece used k after room-head w in
+        let q = read-short (take (s .stored + k) after) (omega (arith, lent .above)) after-sizes (omega arith) in
+        record { gives = more-stored s room-head w moved-head h q (lent .padded) (omega (arith, i .measured .few, i .kept, in-sized .inside)) }
 
     pub end-head : end ≤ s .stored + k → AtEnd after (record { taken = s .taken + k; stored = s .stored + k }) piece (used + k) end message
     end-head h =
@@ -125,13 +109,7 @@ module _ {region : List ℕ} {s : Stream} {piece : List ℕ} {used end message :
           measured =
               record {
                 started =
-                    record {
-                      sized = length-after region (s .stored) end piece used k after room-head w;
-                      padded = padded-after region (s .stored) end piece used k after room-head w (lent .padded);
-                      above = omega (arith, lent .above);
-                      stored = omega (arith, many-head, i .measured .small);
-                      within = omega (arith, many-head);
-                    };
+                    started-after region (s .stored) end piece used k after room-head w (s .taken + k) (lent .padded) (omega (arith, lent .above));
                 sizes = after-sizes;
                 small = i .measured .small;
                 below = omega (arith, i .kept, many-head, in-sized .inside);

@@ -4,13 +4,13 @@ use mathlib.Core.List.{List, _++_, append-assoc}
 use Prim.Native.Nat.{ℕ, _+_, _-_, _≤_, min}
 use native.Mathlib.Omega.{arith}
 use lib.ListN.{length, take, drop, replicate, length-append, length-take, length-drop}
-use lib.Seq.{take-at, drop-at, drop-drop, length-take-le}
+use lib.Seq.{take-at, length-take-le}
 use Rattle.wire.specs.Bytes.{pad}
 use Rattle.wire.proofs.Words.{cut-at, put-at}
-use Rattle.wire.proofs.Parts.{drop-zeros, pad-fits}
+use Rattle.wire.proofs.Parts.{drop-past, drop-zeros, pad-fits}
 use Rattle.stream.specs.declared.Stream.{Stream}
 use Rattle.stream.specs.Steps.{Started, Room, Stored}
-use Rattle.header.specs.Fixed.{headLimit}
+use Rattle.header.specs.Fixed.{fixedLength, headLimit}
 
 pub started-length : {region : List ℕ} {s : Stream} {piece : List ℕ} {used : ℕ} → Started region s piece used → length (take (s .stored) region) ≡ s .stored
 started-length {region} {s} b = length-take-le (s .stored) region (omega (arith, b .stored, b .sized))
@@ -28,43 +28,45 @@ module _ (region : List ℕ) (stored limit : ℕ) (piece : List ℕ) (used k : �
   bytes-length : length (take k (drop used piece)) ≡ k
   bytes-length = length-take-le k (drop used piece) (rw (length-drop used piece) (omega (arith, fits)))
 
-  pub head-after : take (stored + k) after ≡ take stored region ++ take k (drop used piece)
-  head-after =
-      ap (take (stored + k)) (s .bytes ∙ sym (append-assoc (take stored region) (take k (drop used piece)) (drop (stored + k) region)))
-      ∙ take-at (take stored region ++ take k (drop used piece)) (drop (stored + k) region) (stored + k)
-      (length-append (take stored region) (take k (drop used piece)) ∙ ap₂ _+_ head-length bytes-length)
+  -- the head with the bytes behind it, and what stands behind both
+  abbrev joined : List ℕ
+  joined = take stored region ++ take k (drop used piece)
+
+  joined-length : length joined ≡ stored + k
+  joined-length = length-append (take stored region) (take k (drop used piece)) ∙ ap₂ _+_ head-length bytes-length
+
+  after-is : after ≡ joined ++ drop (stored + k) region
+  after-is = s .bytes ∙ sym (append-assoc (take stored region) (take k (drop used piece)) (drop (stored + k) region))
+
+  pub head-after : take (stored + k) after ≡ joined
+  head-after = ap (take (stored + k)) after-is ∙ take-at joined (drop (stored + k) region) (stored + k) joined-length
 
   pub length-after : length after ≡ headLimit
   length-after =
-      rw (
-        s .bytes,
-        length-append (take stored region) (take k (drop used piece) ++ drop (stored + k) region),
-        length-append (take k (drop used piece)) (drop (stored + k) region),
-        head-length,
-        bytes-length,
-        length-drop (stored + k) region,
-      )
-      (omega (arith, fits, r .inside, r .sized))
+      ap length after-is
+      ∙ length-append joined (drop (stored + k) region)
+      ∙ rw (joined-length, length-drop (stored + k) region) (omega (arith, fits, r .inside, r .sized))
 
   pub padded-after : region ≡ pad headLimit (take stored region) → after ≡ pad headLimit (take (stored + k) after)
   padded-after p =
-      let f = fits in
-      let i : limit ≤ headLimit = r .inside in
-      let l : length (take stored region ++ take k (drop used piece)) ≡ stored + k = length-append (take stored region) (take k (drop used piece))
-      ∙ ap₂ _+_ head-length bytes-length in
-      let e : headLimit - length (take stored region) - k ≡ headLimit - (stored + k) = omega (arith, head-length) in
-      let z : drop (stored + k) region ≡ replicate (headLimit - (stored + k)) 0 =
-      sym (drop-drop k stored region)
-      ∙ ap (λ (x : List ℕ). drop k (drop stored x)) (p ∙ pad-fits headLimit (take stored region) (omega (arith, head-length)))
-      ∙ ap (drop k) (drop-at (take stored region) (replicate (headLimit - length (take stored region)) 0) stored head-length)
-      ∙ drop-zeros k (headLimit - length (take stored region))
+      let n = headLimit - length (take stored region) in
+      let e : n - k ≡ headLimit - length joined = omega (arith, head-length, joined-length) in
+      let z : drop (stored + k) region ≡ replicate (headLimit - length joined) 0
+      = ap (drop (stored + k)) (p ∙ pad-fits headLimit (take stored region) (omega (arith, head-length, fits, r .inside)))
+      ∙ drop-past (take stored region) (replicate n 0) stored k head-length
+      ∙ drop-zeros k n
       ∙ ap (λ (n : ℕ). replicate {A = ℕ} n 0) e in
-      s .bytes
-      ∙ sym (append-assoc (take stored region) (take k (drop used piece)) (drop (stored + k) region))
-      ∙ ap (λ (x : List ℕ). (take stored region ++ take k (drop used piece)) ++ x) z
-      ∙ ap (λ (n : ℕ). (take stored region ++ take k (drop used piece)) ++ replicate (headLimit - n) 0) (sym l)
-      ∙ sym (pad-fits headLimit (take stored region ++ take k (drop used piece)) (omega arith))
+      after-is
+      ∙ ap (λ (x : List ℕ). joined ++ x) z
+      ∙ sym (pad-fits headLimit joined (omega (arith, joined-length, fits, r .inside)))
       ∙ ap (pad headLimit) (sym head-after)
+
+  pub kept-after : length (take (stored + k) after) ≡ stored + k
+  kept-after = ap length head-after ∙ joined-length
+
+  pub started-after : (taken : ℕ) → region ≡ pad headLimit (take stored region) → fixedLength ≤ stored + k
+      → Started after (record { taken = taken; stored = stored + k }) piece (used + k)
+  started-after taken p h = record { sized = length-after; padded = padded-after p; above = h; stored = omega (arith, fits, r .inside); within = fits .1 }
 
 -- ---- what the code of `store` shows
 
@@ -72,15 +74,7 @@ module _ (region : List ℕ) (stored limit : ℕ) (piece : List ℕ) (used : ℕ
     (e : k ≡ min (limit - stored) (length piece - used)) where
   pub same-lengths : length (take (stored + k - stored) (drop stored region)) ≡ length (take (used + k - used) (drop used piece))
   same-lengths =
-      rw (
-        cut-at stored k region,
-        cut-at used k piece,
-        length-take k (drop stored region),
-        length-take k (drop used piece),
-        length-drop stored region,
-        length-drop used piece,
-      )
-      (omega (arith, r .up, r .inside, r .within, r .sized))
+      rw (cut-at stored k region, cut-at used k piece) (simp (length-take, length-drop) (omega (arith, r .up, r .inside, r .within, r .sized)))
 
   pub stores : (ys : List ℕ) → ys ≡ take (used + k - used) (drop used piece)
       → Stored region stored limit piece used k (take stored region ++ (ys ++ drop (stored + k - stored) (drop stored region)))

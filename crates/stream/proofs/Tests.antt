@@ -1,15 +1,15 @@
 -- `is_good` and `is_closed`, way by way.
 use mathlib.Core.Path.{_≡_, refl, sym, ap, _∙_}
-use mathlib.Core.Bool.{Bool, true, false, cond, _&&_}
+use mathlib.Core.Bool.{Bool, true, false, cond, _&&_, and-true, and-comm}
 use mathlib.Core.List.{List}
-use Prim.Native.Nat.{ℕ, _+_, _-_, _≤_, _<_, min}
+use Prim.Native.Nat.{ℕ, _-_, _≤_, _<_, min}
 use native.Mathlib.Omega.{arith}
 use native.Mathlib.Nat.{sub-zero}
 use lib.Dec.{ltb, eqb}
 use lib.ListN.{length, take, drop}
 use lib.Seq.{length-take-le}
 use borrow.Author.Tests.{lt-ltb, eq-eqb, ne-eqb, le-leb, lt-leb, eqb-true}
-use Rattle.wire.proofs.Texts.{both-first, both-second, both-true, agree}
+use Rattle.wire.proofs.Texts.{impossible, agree}
 use Rattle.header.specs.declared.Header.{Header}
 use Rattle.header.specs.declared.Fixed.{Fixed}
 use Rattle.header.specs.declared.Fixed.the-variants as fixed
@@ -32,6 +32,11 @@ use Rattle.stream.proofs.Gives.{lengths}
 abbrev kept : List ℕ → Stream → List ℕ
 kept region s = take (s .stored) region
 
+-- a second test that matters only where the first holds
+and-same : (a b c : Bool) → (a ≡ true → b ≡ c) → a && b ≡ a && c
+and-same true b c h = h refl
+and-same false b c h = refl
+
 module _ (region : List ℕ) (s : Stream) (i : s .stored ≤ length region) where
   is-length : length (kept region s) ≡ s .stored
   is-length = length-take-le (s .stored) region i
@@ -49,14 +54,8 @@ module _ (region : List ℕ) (s : Stream) (i : s .stored ≤ length region) wher
   unread : (end : ℕ) → headEnd (kept region s) ≡ end → readHeader (kept region s) ≡ Short → s .stored < end
       → eqb (s .taken) (s .stored) ≡ goodTail (tailIn region s)
   unread end e q l =
-      agree (eqb (s .taken) (s .stored)) (eqb (s .stored) (min (s .taken) end) && true)
-      (λ p.
-      let t = eqb-true (s .taken) (s .stored) p in
-      both-true (eqb (s .stored) (min (s .taken) end)) true (eq-eqb (s .stored) (min (s .taken) end) (omega arith)) refl)
-      (λ p.
-      let t = eqb-true (s .stored) (min (s .taken) end) (both-first (eqb (s .stored) (min (s .taken) end)) true p) in
-      eq-eqb (s .taken) (s .stored) (omega arith))
-      ∙ sym (good-is end true e (rw q))
+      agree (eqb (s .taken) (s .stored)) (eqb (s .stored) (min (s .taken) end)) (omega (arith, eqb-true, eq-eqb)) (omega (arith, eqb-true, eq-eqb))
+      ∙ sym (good-is end true e (rw q) ∙ and-true (eqb (s .stored) (min (s .taken) end)))
 
   pub good-few : s .stored < fixedLength → eqb (s .taken) (s .stored) ≡ goodTail (tailIn region s)
   good-few l = unread fixedLength (rw (is-length, lt-ltb (s .stored) fixedLength l)) (read-few (kept region s) (rw is-length l)) l
@@ -77,16 +76,9 @@ module _ (region : List ℕ) (s : Stream) (i : s .stored ≤ length region) wher
           let h : fixedLength ≤ headLength (kept region s) = head-low (kept region s) in
           let r : readHeader (kept region s) ≡ Broken n = read-broken (kept region s) is-above (is-fixed ∙ q) in
           let l = headLength (kept region s) in
-          agree (eqb (s .taken) fixedLength && eqb (s .stored) fixedLength) (eqb (s .stored) (min (s .taken) l) && eqb (s .taken) fixedLength)
-          (λ p.
-          let t = eqb-true (s .taken) fixedLength (both-first (eqb (s .taken) fixedLength) (eqb (s .stored) fixedLength) p) in
-          let u = eqb-true (s .stored) fixedLength (both-second (eqb (s .taken) fixedLength) (eqb (s .stored) fixedLength) p) in
-          both-true (eqb (s .stored) (min (s .taken) l)) (eqb (s .taken) fixedLength) (eq-eqb (s .stored) (min (s .taken) l) (omega arith))
-          (eq-eqb (s .taken) fixedLength t))
-          (λ p.
-          let t = eqb-true (s .stored) (min (s .taken) l) (both-first (eqb (s .stored) (min (s .taken) l)) (eqb (s .taken) fixedLength) p) in
-          let u = eqb-true (s .taken) fixedLength (both-second (eqb (s .stored) (min (s .taken) l)) (eqb (s .taken) fixedLength) p) in
-          both-true (eqb (s .taken) fixedLength) (eqb (s .stored) fixedLength) (eq-eqb (s .taken) fixedLength u) (eq-eqb (s .stored) fixedLength (omega arith)))
+          and-same (eqb (s .taken) fixedLength) (eqb (s .stored) fixedLength) (eqb (s .stored) (min (s .taken) l))
+          (λ p. agree (eqb (s .stored) fixedLength) (eqb (s .stored) (min (s .taken) l)) (omega (arith, eqb-true, eq-eqb)) (omega (arith, eqb-true, eq-eqb)))
+          ∙ and-comm (eqb (s .taken) fixedLength) (eqb (s .stored) (min (s .taken) l))
           ∙ sym (good-is l (eqb (s .taken) fixedLength) (end-is (kept region s) is-above) (rw (r, le-leb n 6 (fixed-number (kept region s) (is-fixed ∙ q) .1))))
 
       module _ {end message : ℕ} (q : f ≡ fixed.Sizes end message) where
@@ -153,15 +145,19 @@ module _ {region : List ℕ} {s : Stream} (g : GoodTail region s) where
   closed-length : length (kept region s) ≡ s .stored
   closed-length = is-length region s (g .inside)
 
+  -- a stream is open unless its head is broken by its last byte
+  open-unless : ((a : ℕ) → readHeader (kept region s) ≡ Broken a → s .taken ≡ s .stored → ⊥) → false ≡ closed (tailIn region s)
+  open-unless h = go (good-kept (tailIn region s) (g .good))
+    where
+      go : Kept (tailIn region s) → false ≡ closed (tailIn region s)
+      go (runs r) = sym (ap isBroken (running-more (tailIn region s) r))
+      go (stops (stopped a e n k)) = absurd (h a e (n ∙ closed-length))
+
   pub closed-few : s .stored < fixedLength → false ≡ closed (tailIn region s)
   closed-few l = sym (rw (read-few (kept region s) (rw closed-length l)))
 
   pub closed-body : s .stored < s .taken → false ≡ closed (tailIn region s)
-  closed-body l = go (good-kept (tailIn region s) (g .good))
-    where
-      go : Kept (tailIn region s) → false ≡ closed (tailIn region s)
-      go (runs r) = sym (ap isBroken (running-more (tailIn region s) r))
-      go (stops (stopped a e n k)) = absurd (omega (arith, closed-length))
+  closed-body l = open-unless (λ a e n. omega arith)
 
   module _ {r : Reading} (e : r ≡ readHeader (take (s .stored - 0) (drop 0 region))) where
     closed-read : readHeader (kept region s) ≡ r
@@ -174,8 +170,4 @@ module _ {region : List ℕ} {s : Stream} (g : GoodTail region s) where
     closed-broken q = sym (rw (closed-read ∙ q))
 
     pub closed-whole : {x : Header} → r ≡ Whole x → false ≡ closed (tailIn region s)
-    closed-whole {x} q = sym (rw (closed-read ∙ q) (either (ltb (s .taken) (x .head + x .body))))
-      where
-        either : (b : Bool) → isBroken (cond b more (whole (take (x .head) (kept region s)) x)) ≡ false
-        either true = refl
-        either false = refl
+    closed-whole q = open-unless (λ a f n. impossible (cc closed-read))

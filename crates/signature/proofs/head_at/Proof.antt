@@ -21,6 +21,9 @@ none-left : {s : List ℕ} {at arrays parens : ℕ} → length s ≤ at → Head
 unfolding headOf
 none-left {s} {at} h = record { is = rw (past s at h); fits = tt }
 
+few : (b : Bool) (n : ℕ) → b && ltb n 32 ≡ true → n < 32
+few b n t = ltb-true n 32 (both-second b (ltb n 32) t)
+
 module _ {s : List ℕ} {at arrays parens : ℕ} (h : at < length s) {k : Bool} (e : k ≡ basic (getD s at 0)) where
   plain : k || eqb (getD s at 0) (byte "v") ≡ true → HeadAt s at arrays parens Plain
   unfolding headOf
@@ -29,7 +32,7 @@ module _ {s : List ℕ} {at arrays parens : ℕ} (h : at < length s) {k : Bool} 
   module _ (t : k || eqb (getD s at 0) (byte "v") ≡ false) where
     paren : eqb (getD s at 0) (byte "(") && ltb parens 32 ≡ true → HeadAt s at arrays parens Paren
     unfolding headOf
-    paren p = record { is = rw (next s at h, ← e, t, p); fits = (h, ltb-true parens 32 (both-second (eqb (getD s at 0) (byte "(")) (ltb parens 32) p)) }
+    paren p = record { is = rw (next s at h, ← e, t, p); fits = (h, few (eqb (getD s at 0) (byte "(")) parens p) }
 
     module _ (p : eqb (getD s at 0) (byte "(") && ltb parens 32 ≡ false) where
       other : eqb (getD s at 0) (byte "a") && ltb arrays 32 ≡ false → HeadAt s at arrays parens None
@@ -39,18 +42,14 @@ module _ {s : List ℕ} {at arrays parens : ℕ} (h : at < length s) {k : Bool} 
       module _ (a : eqb (getD s at 0) (byte "a") && ltb arrays 32 ≡ true) {q : ℕ} (f : q ≡ front (drop (at + 1) s)) where
         array : (q ≡ byte "{" → ⊥) → HeadAt s at arrays parens Array
         unfolding headOf
-        array n =
-            record {
-              is = rw (next s at h, ← e, t, p, a, ← f, ne-eqb q (byte "{") n);
-              fits = (h, ltb-true arrays 32 (both-second (eqb (getD s at 0) (byte "a")) (ltb arrays 32) a));
-            }
+        array n = record { is = rw (next s at h, ← e, t, p, a, ← f, ne-eqb q (byte "{") n); fits = (h, few (eqb (getD s at 0) (byte "a")) arrays a) }
 
         dict : q ≡ byte "{" → {r : ℕ} → r ≡ front (drop (at + 2) s) → {key : Bool} → key ≡ basic r → (v : Bool) → key ≡ v → HeadAt s at arrays parens (Dict v)
         unfolding headOf
         dict n {r} g {key} b v w =
             record {
               is = rw (next s at h, ← e, t, p, a, ← f, eq-eqb q (byte "{") n, skip s (at + 1) 1 (at + 2) (omega arith), ← w, b, g);
-              fits = (h, ltb-true arrays 32 (both-second (eqb (getD s at 0) (byte "a")) (ltb arrays 32) a));
+              fits = (h, few (eqb (getD s at 0) (byte "a")) arrays a);
             }
 
 ruleset heads = (none-left, plain, paren, other, array, dict, needs)

@@ -1,13 +1,14 @@
 -- `signature::is_valid` meets its contract: a row that ends at the slice's end is a signature.
-use mathlib.Core.Path.{_≡_, refl, sym, _∙_}
-use mathlib.Core.Bool.{Bool, true, false}
+use mathlib.Core.Path.{_≡_}
+use mathlib.Core.Bool.{false}
 use mathlib.Core.List.{List}
 use Prim.Native.Nat.{ℕ, _+_, _-_, _*_, _≤_, _<_}
 use native.Mathlib.Omega.{arith}
 use lib.Dec.{leb, eqb}
 use lib.ListN.{length, length-drop}
 use borrow.Author.Needs.{needs}
-use borrow.Author.Tests.{le-leb, lt-leb, leb-true, leb-false, eq-eqb, ne-eqb}
+use borrow.Author.Tests.{le-leb, lt-leb, leb-true, eqb-true, eq-eqb}
+use Rattle.wire.proofs.Texts.{agree}
 use Rattle.signature.specs.Signature.{validSignature}
 use Rattle.signature.specs.Reader.{RowAt}
 use Rattle.signature.specs.declared.RowEnd.{RowEnd}
@@ -17,11 +18,7 @@ use Rattle.signature.proofs.is_valid.Tie as tie
 
 -- nothing is left of n after m where n is at most m
 none-left : (n m : ℕ) → leb n m ≡ eqb (n - m) 0
-none-left n m = go (leb n m) refl
-  where
-    go : (b : Bool) → leb n m ≡ b → leb n m ≡ eqb (n - m) 0
-    go true e = e ∙ sym (eq-eqb (n - m) 0 (omega (arith, leb-true n m e)))
-    go false e = e ∙ sym (ne-eqb (n - m) 0 (λ z. omega (arith, leb-false n m e)))
+none-left n m = agree (leb n m) (eqb (n - m) 0) (omega (arith, leb-true, eq-eqb)) (omega (arith, eqb-true, le-leb))
 
 module _ {s : List ℕ} {m : RowEnd} (w : RowAt s 0 0 0 m) (h : length s ≤ 255) where
   whole : {n end : ℕ} → m ≡ run.Types n end → leb (length s) end ≡ validSignature s
