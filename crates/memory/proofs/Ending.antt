@@ -1,4 +1,4 @@
--- A table of pending calls from which those of one callee are taken out, call by call.
+-- A table of pending calls from which those of one callee are taken out, call by call; and the bytes of a slot after a callee has gone.
 use mathlib.Core.List.{List, [], _++_, map, append-nil, _∷_}
 use mathlib.Core.Path.{_≡_, refl, sym, ap, ap₂, _∙_}
 use Prim.Native.Nat.{ℕ, zero, suc, _+_, _-_, _*_, _≤_, min, _<_}
@@ -14,11 +14,15 @@ use Rattle.tables.specs.Cut.{Cell, without}
 use Rattle.tables.proofs.Words.{word-part, word-fits, bytes-take, bytes-drop}
 use Rattle.tables.proofs.Table.{table-length, table-many, table-count, table-again, table-at}
 use Rattle.tables.proofs.Change.{without-length, map-without, removed, table-remove}
-use Rattle.rules.specs.State.{Pending}
-use Rattle.rules.specs.Pending.{endedAll}
-use Rattle.memory.specs.Layout.{callWidth, callRoom, pendingLength, serialOffset}
-use Rattle.memory.specs.Encoding.{pendingBytes, pendingOf}
+use Rattle.stream.specs.Tail.{Tail}
+use Rattle.rules.specs.State.{Pending, Slot, peer}
+use Rattle.rules.specs.Pending.{endedAll, removeCallsTo}
+use Rattle.memory.specs.Layout.{pendingAt, callWidth, callRoom, pendingLength, namesAt, serialOffset}
+use Rattle.memory.specs.Encoding.{pendingBytes, pendingOf, slotBytes, peerOf, slotOf}
+use Rattle.memory.specs.Places.{changed}
 use Rattle.memory.proofs.Frame.{pending-length}
+use Rattle.memory.proofs.Reading.{part-free, part-peer}
+use Rattle.memory.proofs.Fields.{put-pending}
 use Rattle.memory.proofs.Again.{pending-back}
 use Rattle.memory.proofs.Removal.{Leaving, leaving-begins, leaving-out, leaving-stays, leaving-ends}
 
@@ -134,3 +138,22 @@ ending-ends {c} {ws₀} {n = n} {j = j} g h =
     g .is ∙ ap (tableBytes callWidth callRoom pendingBytes) (leaving-ends c ws₀ (g .calls) j (g .left) (omega arith))
 
 pub ruleset ending = (ending-begins, ending-cell, ending-out, ending-stays, ending-ends, needs)
+
+-- ---- the bytes of a slot after a callee has gone
+
+-- b is a slot's bytes, and is plain
+pub calls-removed-free : (c : ℕ) (b : List ℕ) → slotBytes (slotOf b) ≡ b → wordAt Little b 0 ≡ 0 → b ≡ changed (removeCallsTo c) b
+calls-removed-free c b p e =
+    let q = part-free b e in
+    sym p ∙ ap slotBytes q ∙ sym (ap (λ (x : Slot Tail). slotBytes (removeCallsTo c x)) q)
+
+pub calls-removed-peer : (c : ℕ) (b : List ℕ) → slotBytes (slotOf b) ≡ b → (wordAt Little b 0 ≡ 0 → ⊥)
+    → take pendingAt b ++ (tableBytes callWidth callRoom pendingBytes (endedAll c (peerOf b .pending)) ++ drop namesAt b) ≡ changed (removeCallsTo c) b
+calls-removed-peer c b p e =
+    let x = peerOf b in
+    let q = part-peer b e in
+    let s : slotBytes (peer x) ≡ b = ap slotBytes (sym q) ∙ p in
+    sym
+    (ap (λ (y : Slot Tail). slotBytes (removeCallsTo c y)) q
+    ∙ put-pending x (endedAll c (x .pending))
+    ∙ ap (λ (z : List ℕ). take pendingAt z ++ (tableBytes callWidth callRoom pendingBytes (endedAll c (x .pending)) ++ drop namesAt z)) s)

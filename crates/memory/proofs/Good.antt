@@ -1,5 +1,5 @@
 -- Good memory: it is the bytes of the state that is read off it, and that state is sound.
-use mathlib.Core.Bool.{Bool, true, false, cond, _&&_}
+use mathlib.Core.Bool.{Bool, true, false, cond}
 use mathlib.Core.List.{List, [], _∷_, _++_, map}
 use mathlib.Core.Path.{_≡_, refl, sym, ap, ap₂, _∙_}
 use Prim.Native.Nat.{ℕ, zero, suc, _+_, _*_, min, _<_}
@@ -8,10 +8,10 @@ use lib.Dec.{eqb}
 use lib.ListN.{length, take, drop, set, length-drop, take-append-drop}
 use borrow.Author.Tests.{eqb-true, lt-ltb}
 use Rattle.wire.specs.Lists.{every}
-use Rattle.wire.specs.Bytes.{Below, same}
+use Rattle.wire.specs.Bytes.{Below}
 use Rattle.wire.specs.Words.{wordAt, wordBytes}
 use Rattle.wire.specs.declared.Order.the-variants.{Little}
-use Rattle.wire.proofs.Texts.{both-first, both-second, both-true, same-eq}
+use Rattle.wire.proofs.Texts.{both, both-true, same-eq}
 use Rattle.tables.specs.Tables.{cells, parts, tableOf}
 use Rattle.tables.proofs.Words.{bytes-take, bytes-drop, word-fits, word-cut}
 use Rattle.stream.specs.Tail.{Tail}
@@ -29,24 +29,15 @@ use Rattle.memory.proofs.Reading.{sixteen}
 
 pub good-sized : (m : List ℕ) → good m ≡ true → length m ≡ memoryLength
 unfolding good
-good-sized m e =
-    let g = goodSlots (stateOf m .slots) (stateOf m .last) (stateOf m .slots) && plainSlots (parts slotLength 16 (drop slotsAt m)) in
-    eqb-true (length m) memoryLength (both-first (eqb (length m) memoryLength) g e)
-
-good-rest : (m : List ℕ) → good m ≡ true
-    → goodSlots (stateOf m .slots) (stateOf m .last) (stateOf m .slots) && plainSlots (parts slotLength 16 (drop slotsAt m)) ≡ true
-unfolding good
-good-rest m e =
-    let g = goodSlots (stateOf m .slots) (stateOf m .last) (stateOf m .slots) && plainSlots (parts slotLength 16 (drop slotsAt m)) in
-    both-second (eqb (length m) memoryLength) g e
+good-sized m e = eqb-true (length m) memoryLength (search both)
 
 pub good-slots : (m : List ℕ) → good m ≡ true → goodSlots (stateOf m .slots) (stateOf m .last) (stateOf m .slots) ≡ true
-good-slots m e =
-    both-first (goodSlots (stateOf m .slots) (stateOf m .last) (stateOf m .slots)) (plainSlots (parts slotLength 16 (drop slotsAt m))) (good-rest m e)
+unfolding good
+good-slots m e = search both
 
 pub good-plain : (m : List ℕ) → good m ≡ true → plainSlots (parts slotLength 16 (drop slotsAt m)) ≡ true
-good-plain m e =
-    both-second (goodSlots (stateOf m .slots) (stateOf m .last) (stateOf m .slots)) (plainSlots (parts slotLength 16 (drop slotsAt m))) (good-rest m e)
+unfolding good
+good-plain m e = search both
 
 pub held-of : (m : List ℕ) → good m ≡ true → Held m
 held-of m e = record { sized = good-sized m e; held = e }
@@ -60,9 +51,7 @@ plain-slots zero [] l e = refl
 plain-slots zero (x ∷ d) l e = absurd (omega arith)
 plain-slots (suc n) d l e =
     let b = take slotLength d in
-    let r = parts slotLength n (drop slotLength d) in
-    ap₂ _++_ (same-eq (slotBytes (slotOf b)) b (both-first (same (slotBytes (slotOf b)) b) (plainSlots r) e))
-    (plain-slots n (drop slotLength d) (length-drop slotLength d ∙ omega arith) (both-second (same (slotBytes (slotOf b)) b) (plainSlots r) e))
+    ap₂ _++_ (same-eq (slotBytes (slotOf b)) b (search both)) (plain-slots n (drop slotLength d) (length-drop slotLength d ∙ omega arith) (search both))
     ∙ take-append-drop slotLength d
 
 pub good-is : (m : List ℕ) → Below 256 m → good m ≡ true → memoryOf (stateOf m) ≡ m

@@ -5,10 +5,9 @@ use mathlib.Core.Path.{_≡_, sym, ap, _∙_}
 use Prim.Native.Nat.{ℕ, zero, suc, _+_, _≤_, _<_, min}
 use native.Mathlib.Omega.{arith}
 use lib.ListN.{length, getD, take, drop, length-take}
-use Rattle.wire.specs.Bytes.{same}
 use Rattle.wire.specs.Words.{wordAt}
 use Rattle.wire.specs.declared.Order.the-variants.{Little}
-use Rattle.wire.proofs.Texts.{both-first, both-second, same-eq}
+use Rattle.wire.proofs.Texts.{both, same-eq}
 use Rattle.tables.specs.Tables.{parts}
 use Rattle.tables.proofs.Words.{word-part}
 use Rattle.tables.proofs.Cells.{parts-length}
@@ -26,8 +25,8 @@ use Rattle.memory.proofs.Good.{good-plain}
 plain-at : (l : List (List ℕ)) (i : ℕ) → plainSlots l ≡ true → i < length l → slotBytes (slotOf (getD l i [])) ≡ getD l i []
 unfolding plainSlots
 plain-at [] i e h = absurd (omega arith)
-plain-at (b ∷ l) zero e h = same-eq (slotBytes (slotOf b)) b (both-first (same (slotBytes (slotOf b)) b) (plainSlots l) e)
-plain-at (b ∷ l) (suc i) e h = plain-at l i (both-second (same (slotBytes (slotOf b)) b) (plainSlots l) e) (omega arith)
+plain-at (b ∷ l) zero e h = same-eq (slotBytes (slotOf b)) b (search both)
+plain-at (b ∷ l) (suc i) e h = plain-at l i (search both) (omega arith)
 
 pub held-part : (m : List ℕ) (i : ℕ) → Held m → i < 16 → take slotLength (drop (slotStart i) m) ≡ slotBytes (getD (stateOf m .slots) i free)
 held-part m i g h =
@@ -50,8 +49,6 @@ pub record Counted (m : List ℕ) (a : ℕ) : Type 0 where
   pub calls : length (peerFrom m a .pending) ≡ wordAt Little m (a + pendingAt)
   pub names : length (peerFrom m a .names) ≡ wordAt Little m (a + namesAt)
   pub head : length (peerFrom m a .stream .head) ≡ wordAt Little m (a + headAt)
-  pub fewGids : wordAt Little m (a + gidsAt) ≤ gidRoom
-  pub fewCalls : wordAt Little m (a + pendingAt) ≤ callRoom
   pub fewNames : wordAt Little m (a + namesAt) ≤ nameRoom
   pub small : wordAt Little m (a + headAt) ≤ headRoom
 
@@ -74,8 +71,6 @@ held-counted m i g h e =
       calls = sym ec;
       names = sym en;
       head = sym eh;
-      fewGids = omega arith;
-      fewCalls = omega arith;
       fewNames = omega arith;
       small = omega arith;
     }

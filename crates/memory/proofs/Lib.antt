@@ -18,4 +18,3 @@ pub mod Names
 pub mod Newcomer
 pub mod Puts
 pub mod Ending
-pub mod CallsRemoved

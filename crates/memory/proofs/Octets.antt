@@ -2,7 +2,7 @@
 use mathlib.Core.Path.{_≡_, refl}
 use mathlib.Core.Bool.{Bool, true, false, cond, _&&_}
 use mathlib.Core.List.{List, [], _∷_, _++_}
-use Prim.Native.Nat.{ℕ, zero, suc, _+_, min, _<_}
+use Prim.Native.Nat.{ℕ, zero, suc, min, _<_}
 use lib.Dec.{ltb, eqb}
 use lib.ListN.{take, drop}
 use borrow.Author.Tests.{lt-ltb, ltb-true}
@@ -11,11 +11,12 @@ use Rattle.wire.specs.Lists.{every, distinct}
 use Rattle.wire.specs.Words.{wordAt}
 use Rattle.wire.specs.declared.Order.the-variants.{Little}
 use Rattle.wire.proofs.Texts.{both-first, both-second, both-true}
+use Rattle.tables.proofs.Words.{bytes-take, bytes-drop}
 use Rattle.rules.specs.State.{free, peer}
 use Rattle.rules.proofs.Any.{first-good, rest-distinct}
 use Rattle.memory.specs.Layout.{headAt, headRoom, firstByte}
 use Rattle.memory.specs.Encoding.{slotTail, peerOf, slotOf}
-use Rattle.memory.specs.Sound.{octet, headOctets}
+use Rattle.memory.specs.Sound.{headOctets}
 
 -- ---- every thing of a list
 
@@ -24,16 +25,6 @@ module _ {A : Type 0} (t : A → Bool) where
   every-snoc [] x e h = rw h
   every-snoc (y ∷ l) x e h =
       both-true (t y) (every t (l ++ (x ∷ []))) (both-first (t y) (every t l) e) (every-snoc l x (both-second (t y) (every t l) e) h)
-
-  pub every-take : (k : ℕ) (l : List A) → every t l ≡ true → every t (take k l) ≡ true
-  every-take zero l e = refl
-  every-take (suc k) [] e = refl
-  every-take (suc k) (x ∷ l) e = both-true (t x) (every t (take k l)) (both-first (t x) (every t l) e) (every-take k l (both-second (t x) (every t l) e))
-
-  pub every-drop : (k : ℕ) (l : List A) → every t l ≡ true → every t (drop k l) ≡ true
-  every-drop zero l e = e
-  every-drop (suc k) [] e = refl
-  every-drop (suc k) (x ∷ l) e = every-drop k l (both-second (t x) (every t l) e)
 
   pub every-both : (u : A → Bool) (l : List A) → every t l ≡ true → every u l ≡ true → every (λ x. t x && u x) l ≡ true
   every-both u [] e f = refl
@@ -64,4 +55,6 @@ slot-octets b h = go (eqb (wordAt Little b 0) 0)
   where
     go : (z : Bool) → headOctets (cond z free (peer (peerOf b))) ≡ true
     go true = refl
-    go false = every-take octet (min (wordAt Little b headAt) headRoom) (drop firstByte b) (every-drop octet firstByte b (every-below 256 b h))
+    go false =
+        let n = min (wordAt Little b headAt) headRoom in
+        every-below 256 (take n (drop firstByte b)) (bytes-take n (drop firstByte b) (bytes-drop firstByte b h))

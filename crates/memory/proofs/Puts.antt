@@ -9,12 +9,12 @@ use lib.Seq.{drop-drop, take-take}
 use Rattle.wire.specs.Bytes.{Below}
 use Rattle.wire.specs.Words.{wordBytes}
 use Rattle.tables.specs.Tables.{tableBytes}
-use Rattle.wire.proofs.Parts.{drop-take}
+use Rattle.wire.proofs.Parts.{drop-taken}
 use Rattle.tables.proofs.Written.{append-written}
 use Rattle.policy.specs.Names.{cellOf, nameWidth}
 use Rattle.stream.specs.Tail.{Tail}
 use Rattle.rules.specs.State.{Pending, Peer, peer, putSlot, withNames, withPending, withStream}
-use Rattle.memory.specs.Layout.{slotLength, slotStart, pendingAt, firstCallee, callWidth, callRoom, pendingLength, namesAt, firstName}
+use Rattle.memory.specs.Layout.{memoryLength, slotLength, slotStart, pendingAt, firstCallee, callWidth, callRoom, pendingLength, namesAt, firstName}
 use Rattle.memory.specs.Layout.{nameRoom, namesLength, takenAt, streamLength}
 use Rattle.memory.specs.Encoding.{pendingBytes, streamBytes, slotBytes, memoryOf, stateOf}
 use Rattle.memory.specs.Sound.{Held}
@@ -28,12 +28,7 @@ use Rattle.memory.proofs.Held.{held-peer}
 -- a part of a part
 pub part-of : (m : List ℕ) (a b c : ℕ) → b + c ≤ slotLength → take c (drop b (take slotLength (drop a m))) ≡ take c (drop (a + b) m)
 part-of m a b c h =
-    let x = slotLength - b in
-    let e : slotLength ≡ b + x = omega arith in
-    ap (λ (n : ℕ). take c (drop b (take n (drop a m)))) e
-    ∙ ap (take c) (drop-take b x (drop a m))
-    ∙ take-take c x (drop b (drop a m)) (omega arith)
-    ∙ ap (take c) (drop-drop b a m)
+    rw (drop-taken b slotLength (drop a m), take-take c (slotLength - b) (drop b (drop a m)) (omega arith), drop-drop b a m)
 
 module _ (m : List ℕ) (bytes : Below 256 m) (g : Held m) (i : ℕ) (h : i < 16) (some : numberAt m i ≡ 0 → ⊥) where
   -- ---- the tables of slot i
@@ -79,21 +74,15 @@ module _ (m : List ℕ) (bytes : Below 256 m) (g : Held m) (i : ℕ) (h : i < 16
 
   -- ---- the writes that make them; n is the count that the code read, c where the cell stands
 
-  room : (k : ℕ) → k ≤ slotLength → slotStart i + k ≤ length m
-  room k l = omega (arith, g .sized)
-
   pub name-appended : (name m₁ m₂ : List ℕ) (n c : ℕ) → n ≡ length (peerFrom m (slotStart i) .names) → n < nameRoom
       → c ≡ slotStart i + firstName + nameWidth * n
       → m₁ ≡ take c m ++ (cellOf name ++ drop (c + nameWidth) m)
       → m₂ ≡ take (slotStart i + namesAt) m₁ ++ (wordBytes (n + 1) ++ drop (slotStart i + namesAt + 4) m₁)
       → m₂ ≡ memoryOf (putSlot (stateOf m) i (peer (withNames (peerFrom m (slotStart i)) (peerFrom m (slotStart i) .names ++ (name ∷ [])))))
   name-appended name m₁ m₂ n c e l ec e₁ e₂ =
-      let a = slotStart i in
-      let ns = peerFrom m a .names in
-      let f : c ≡ a + namesAt + (4 + nameWidth * n) = omega arith in
-      append-written nameWidth nameRoom cellOf cell-length ns name m m₁ m₂ (a + namesAt) c n (omega (arith, room takenAt (omega arith))) names-stand
-      e l f e₁ e₂
-      ∙ sym (names-put (ns ++ (name ∷ [])))
+      let s : length m ≡ memoryLength = g .sized in
+      append-written nameWidth nameRoom cellOf cell-length _ name m m₁ m₂ (slotStart i + namesAt) c n (omega arith) names-stand e l (omega arith) e₁ e₂
+      ∙ sym (names-put (peerFrom m (slotStart i) .names ++ (name ∷ [])))
 
   pub call-appended : (w : Pending) (m₁ m₂ : List ℕ) (n c : ℕ) → n ≡ length (peerFrom m (slotStart i) .pending) → n < callRoom
       → c ≡ slotStart i + firstCallee + callWidth * n
@@ -101,9 +90,6 @@ module _ (m : List ℕ) (bytes : Below 256 m) (g : Held m) (i : ℕ) (h : i < 16
       → m₂ ≡ take (slotStart i + pendingAt) m₁ ++ (wordBytes (n + 1) ++ drop (slotStart i + pendingAt + 4) m₁)
       → m₂ ≡ memoryOf (putSlot (stateOf m) i (peer (withPending (peerFrom m (slotStart i)) (peerFrom m (slotStart i) .pending ++ (w ∷ [])))))
   call-appended w m₁ m₂ n c e l ec e₁ e₂ =
-      let a = slotStart i in
-      let ws = peerFrom m a .pending in
-      let f : c ≡ a + pendingAt + (4 + callWidth * n) = omega arith in
-      append-written callWidth callRoom pendingBytes pending-length ws w m m₁ m₂ (a + pendingAt) c n (omega (arith, room namesAt (omega arith))) pending-stands
-      e l f e₁ e₂
-      ∙ sym (pending-put (ws ++ (w ∷ [])))
+      let s : length m ≡ memoryLength = g .sized in
+      append-written callWidth callRoom pendingBytes pending-length _ w m m₁ m₂ (slotStart i + pendingAt) c n (omega arith) pending-stands e l (omega arith) e₁ e₂
+      ∙ sym (pending-put (peerFrom m (slotStart i) .pending ++ (w ∷ [])))

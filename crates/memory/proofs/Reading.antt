@@ -87,17 +87,7 @@ part-peer b e = rw (ne-eqb (wordAt Little b 0) 0 e)
 
 pub peer-from : (m : List ℕ) (a : ℕ) → peerOf (drop a m) ≡ peerFrom m a
 unfolding peerOf slotTail
-peer-from m a =
-    rw (
-      word-front m a,
-      word-drop Little m a uidAt,
-      word-drop Little m a takenAt,
-      word-drop Little m a headAt,
-      drop-drop gidsAt a m,
-      drop-drop pendingAt a m,
-      drop-drop namesAt a m,
-      drop-drop firstByte a m,
-    )
+peer-from m a = simp (word-drop, drop-drop, add-zero)
 
 -- the number that stands in the bytes of slot i
 pub part-number : (m : List ℕ) (i : ℕ) → wordAt Little (take slotLength (drop (slotStart i) m)) 0 ≡ numberAt m i

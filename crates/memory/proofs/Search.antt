@@ -1,6 +1,6 @@
 -- The first slot that passes a test, as a loop finds it: what is left to look at says the answer.
-use mathlib.Core.Bool.{Bool, true, false, cond}
-use mathlib.Core.List.{List, [], _∷_}
+use mathlib.Core.Bool.{Bool, true, false}
+use mathlib.Core.List.{List}
 use mathlib.Core.Path.{_≡_, refl, sym, _∙_}
 use Prim.Native.Nat.{ℕ, suc, _+_, _≤_, _<_}
 use native.Mathlib.Omega.{arith}
@@ -28,15 +28,6 @@ module _ {A : Type 0} (t : A → Bool) where
   pub first-none : (l : List A) (i : ℕ) → length l ≤ i → firstBy t (drop i l) ≡ 0
   unfolding firstBy
   first-none l i e = rw (drop-of-length-le l e)
-
-  pub first-le : (l : List A) → firstBy t l ≤ length l
-  unfolding firstBy
-  first-le [] = omega arith
-  first-le (x ∷ l) = go (t x) (first-le l)
-    where
-      go : (b : Bool) → firstBy t l ≤ length l → cond b 0 (suc (firstBy t l)) ≤ suc (length l)
-      go true h = omega arith
-      go false h = omega arith
 
 -- ---- of the slots of memory: t is what is asked, from slot `from` on, and slot i is looked at
 

@@ -106,16 +106,6 @@ pub slot-back : (p : Peer Tail) → 1 ≤ p .number → Fits p → slotOf (slotB
 unfolding slotOf
 slot-back p h f = rw (number-back p (f .number), ne-eqb (p .number) 0 (omega arith), peer-back p f)
 
-zeros-word : (n : ℕ) → 4 ≤ n → wordAt Little (replicate n 0) 0 ≡ 0
-unfolding wordAt
-zeros-word n h =
-    rw (
-      getD-replicate {A = ℕ} n 0 0 0 (omega arith),
-      getD-replicate {A = ℕ} n 1 0 0 (omega arith),
-      getD-replicate {A = ℕ} n 2 0 0 (omega arith),
-      getD-replicate {A = ℕ} n 3 0 0 (omega arith),
-    )
-
 pub free-back : slotOf (slotBytes free) ≡ free
-unfolding slotOf
-free-back = rw (free-bytes, zeros-word slotLength (omega arith))
+unfolding slotOf slotBytes wordAt
+free-back = refl

@@ -1,5 +1,5 @@
 -- A sound state is read back from its bytes, and these are good memory: memory is good exactly where it is the bytes of a sound state.
-use mathlib.Core.Bool.{true, _&&_}
+use mathlib.Core.Bool.{true}
 use mathlib.Core.Logic.{_↔_}
 use mathlib.Core.List.{List, [], _∷_, map, append-nil}
 use mathlib.Core.Path.{_≡_, refl, ap₂}
@@ -11,7 +11,7 @@ use Rattle.wire.specs.Bytes.{Below}
 use Rattle.wire.specs.Lists.{every}
 use Rattle.wire.specs.Words.{wordAt}
 use Rattle.wire.specs.declared.Order.the-variants.{Little}
-use Rattle.wire.proofs.Texts.{both-first, both-second, same-refl}
+use Rattle.wire.proofs.Texts.{both, same-refl}
 use Rattle.wire.proofs.Words.{word-again}
 use Rattle.tables.specs.Tables.{cells, parts}
 use Rattle.tables.proofs.Cells.{cells-parts}
@@ -21,9 +21,9 @@ use Rattle.rules.specs.State.{Peer, Slot, free, peer, State}
 use Rattle.memory.specs.Layout.{memoryLength, slotLength, slotsAt}
 use Rattle.memory.specs.Encoding.{slotBytes, memoryOf, slotOf, stateOf}
 use Rattle.memory.specs.Good.{goodSlot, goodSlots, plainSlots, good}
-use Rattle.memory.specs.Sound.{word32, narrow, Sound}
+use Rattle.memory.specs.Sound.{narrow, Sound}
 use Rattle.memory.proofs.Frame.{slot-length, memory-length, memory-slots}
-use Rattle.memory.proofs.Peers.{GoodPeer, peer-good, slots-first, slots-later}
+use Rattle.memory.proofs.Peers.{GoodPeer, peer-good}
 use Rattle.memory.proofs.Again.{words-back, names-back, pendings-back}
 use Rattle.memory.proofs.Slots.{Fits, slot-back, free-back}
 use Rattle.memory.proofs.Good.{good-is, good-sound}
@@ -41,19 +41,15 @@ module _ (all : List (Slot Tail)) (last : ℕ) (g : goodSlots all last all ≡ t
   peer-fits : (p : Peer Tail) (later : List (Slot Tail)) → GoodPeer all last p later → narrow (peer p) ≡ true → Fits p
   unfolding narrow
   peer-fits p later q n =
-      let a = word32 (p .uid) in
-      let b = every word32 (p .gids) in
-      let c = every (λ w. word32 (w .serial)) (p .pending) in
-      let ab : a && b ≡ true = both-first (a && b) c n in
       let within : p .number ≤ last = q .within in
       let taken : p .stream .taken < 134217728 = tail-fits (p .stream) (q .tail) .0 in
       record {
         number = omega arith;
-        uid = ltb-true (p .uid) 4294967296 (both-first a b ab);
+        uid = ltb-true (p .uid) 4294967296 (search both);
         gids = q .gids;
-        gidsBack = words-back (p .gids) (both-second a b ab);
+        gidsBack = words-back (p .gids) (search both);
         calls = q .calls;
-        callsBack = pendings-back all last (p .pending) g l (q .pending) (both-second (a && b) c n);
+        callsBack = pendings-back all last (p .pending) g l (q .pending) (search both);
         names = q .few;
         namesBack = names-back (p .names) later (q .names);
         taken = omega arith;
@@ -67,20 +63,15 @@ module _ (all : List (Slot Tail)) (last : ℕ) (g : goodSlots all last all ≡ t
       slot-back p (q .some) (peer-fits p later q n)
 
   slots-again : (slots : List (Slot Tail)) → goodSlots all last slots ≡ true → every narrow slots ≡ true → map slotOf (map slotBytes slots) ≡ slots
+  unfolding goodSlots
   slots-again [] e n = refl
-  slots-again (x ∷ later) e n =
-      ap₂ _∷_ (slot-again x later (slots-first all last x later e) (both-first (narrow x) (every narrow later) n))
-      (slots-again later (slots-later all last x later e) (both-second (narrow x) (every narrow later) n))
+  slots-again (x ∷ later) e n = ap₂ _∷_ (slot-again x later (search both) (search both)) (slots-again later (search both) (search both))
 
   plain-slots : (slots : List (Slot Tail)) → goodSlots all last slots ≡ true → every narrow slots ≡ true → plainSlots (map slotBytes slots) ≡ true
-  unfolding plainSlots
+  unfolding goodSlots plainSlots
   plain-slots [] e n = refl
   plain-slots (x ∷ later) e n =
-      rw (
-        slot-again x later (slots-first all last x later e) (both-first (narrow x) (every narrow later) n),
-        same-refl (slotBytes x),
-      )
-      (plain-slots later (slots-later all last x later e) (both-second (narrow x) (every narrow later) n))
+      rw (slot-again x later (search both) (search both), same-refl (slotBytes x)) (plain-slots later (search both) (search both))
 
 -- a sound state is read off its bytes
 pub state-again : (s : State Tail) → Sound s → stateOf (memoryOf s) ≡ s

@@ -12,6 +12,7 @@ use Rattle.wire.proofs.Words.{word-length}
 use Rattle.tables.specs.Tables.{cells, parts}
 use Rattle.tables.proofs.Words.{word-take, word-cut}
 use Rattle.tables.proofs.Cells.{parts-put, map-set}
+use Rattle.tables.proofs.Written.{put-sized}
 use Rattle.tables.proofs.Sweep.{sweep, swept, sweep-begins, sweep-step, sweep-ends}
 use Rattle.stream.specs.Tail.{Tail}
 use Rattle.rules.specs.State.{Slot, free, State, putSlot}
@@ -36,11 +37,7 @@ put-split m y i =
     (append-assoc (take slotsAt m) (take (slotLength * i) (drop slotsAt m)) (y ++ drop (slotsAt + (slotLength * i + slotLength)) m))
 
 pub put-length : (m y : List ℕ) (i : ℕ) → i < 16 → length m ≡ memoryLength → length y ≡ slotLength → length (putAt m i y) ≡ memoryLength
-put-length m y i h l k =
-    let a : length (take (slotStart i) m) ≡ slotStart i = length-take-le (slotStart i) m (omega arith) in
-    let b : length (drop (slotStart i + slotLength) m) ≡ memoryLength - (slotStart i + slotLength) = length-drop (slotStart i + slotLength) m ∙ omega arith in
-    let c = length-append y (drop (slotStart i + slotLength) m) in
-    length-append (take (slotStart i) m) (y ++ drop (slotStart i + slotLength) m) ∙ omega arith
+put-length m y i h l k = put-sized m y (slotStart i) slotLength (omega arith) k ∙ l
 
 pub put-last-same : (m y : List ℕ) (i : ℕ) → slotsAt ≤ length m → wordAt Little (putAt m i y) 0 ≡ wordAt Little m 0
 put-last-same m y i h =

@@ -4,13 +4,13 @@ use mathlib.Core.List.{List, _++_}
 use Prim.Native.Nat.{ℕ, _+_, _-_, _*_, _≤_, _<_}
 use native.Mathlib.Omega.{arith}
 use lib.ListN.{length, take, drop, length-drop}
-use lib.Seq.{drop-at, drop-drop, take-take, length-take-le}
+use lib.Seq.{drop-at, drop-drop, length-take-le}
 use borrow.Author.Needs.{needs}
 use Rattle.wire.specs.Words.{wordAt}
 use Rattle.wire.specs.declared.Order.the-variants.{Little}
 use Rattle.wire.proofs.Words.{Octets, octets-below, cut-at, put-at}
 use Rattle.tables.specs.Tables.{tableBytes, tableOf}
-use Rattle.wire.proofs.Parts.{drop-take, drop-past, part-nested, cut-two}
+use Rattle.wire.proofs.Parts.{drop-past, part-nested, cut-two}
 use Rattle.tables.proofs.Table.{table-take}
 use Rattle.rules.specs.State.{Pending, peer}
 use Rattle.rules.specs.Pending.{endedAll, removeCallsTo}
@@ -19,8 +19,9 @@ use Rattle.memory.specs.Encoding.{pendingBytes, pendingOf, slotBytes, peerOf, s
 use Rattle.memory.specs.Places.{numberAt, changed}
 use Rattle.memory.proofs.Reading.{sixteen, slot-at, part-peer, part-number}
 use Rattle.memory.proofs.Fields.{table-part, pending-in}
+use Rattle.memory.proofs.Puts.{part-of}
 use Rattle.memory.proofs.Frame.{slot-length, memory-at}
-use Rattle.memory.proofs.CallsRemoved.{calls-removed-free, calls-removed-peer, pending-of}
+use Rattle.memory.proofs.Ending.{calls-removed-free, calls-removed-peer}
 use Rattle.memory.proofs.Sweep.{Sweeping, sweeping-begins, sweeping-again, sweeping-ends}
 use Rattle.peers.specs.Steps.{PlainSlot, Encoded, endedAt, endedFor}
 
@@ -45,11 +46,7 @@ module _ (m : List ℕ) (i : ℕ) (p : PlainSlot m i) (n : ℕ) (e : n ≡ numbe
       ≡ take pendingLength (drop pendingAt part)
   unfolding part
   cut-table =
-      let d = drop (slotStart i) m in
-      cut-at (slotStart i + pendingAt) pendingLength m
-      ∙ ap (take pendingLength) (sym (drop-drop pendingAt (slotStart i) m))
-      ∙ sym (ap (take pendingLength) (drop-take pendingAt (slotLength - pendingAt) d)
-      ∙ take-take pendingLength (slotLength - pendingAt) (drop pendingAt d) (omega arith))
+      cut-at (slotStart i + pendingAt) pendingLength m ∙ sym (part-of m (slotStart i) pendingAt pendingLength (omega arith))
 
   pub slot-length-is : length (take (slotStart i + pendingAt + pendingLength - (slotStart i + pendingAt)) (drop (slotStart i + pendingAt) m)) ≡ pendingLength
   slot-length-is =
@@ -60,7 +57,8 @@ module _ (m : List ℕ) (i : ℕ) (p : PlainSlot m i) (n : ℕ) (e : n ≡ numbe
 
   -- what it says is what the slot says
   pending-is : tableOf callWidth callRoom pendingOf (take pendingLength (drop pendingAt part)) ≡ peerOf part .pending
-  pending-is = table-take callWidth callRoom pendingOf (drop pendingAt part) pendingLength (omega arith) ∙ sym (pending-of part)
+  unfolding peerOf
+  pending-is = table-take callWidth callRoom pendingOf (drop pendingAt part) pendingLength (omega arith)
 
   module _ (z : n ≡ 0 → ⊥) where
     taken : wordAt Little part 0 ≡ 0 → ⊥

@@ -6,7 +6,7 @@ use native.Mathlib.Omega.{arith}
 use lib.ListN.{length, getD, take, drop, set, replicate, length-append, length-drop, take-append-drop, replicate-append-replicate}
 use lib.Seq.{take-at, drop-at, drop-drop, take-take, take-add, take-nil, drop-nil, length-take-le}
 use Rattle.tables.specs.Tables.{cells, parts}
-use Rattle.wire.proofs.Parts.{take-past, drop-past, drop-take}
+use Rattle.wire.proofs.Parts.{take-past, drop-past, drop-taken}
 
 -- ---- parts
 
@@ -31,9 +31,7 @@ module _ (w : ℕ) where
   parts-take (suc n) j m h =
       let e : w * suc n ≡ w + w * n = omega arith in
       let l : w + w * n ≤ j = rw e at h in
-      let q : j ≡ w + (j - w) = omega arith in
-      ap₂ _∷_ (take-take w j m (omega arith))
-      (ap (parts w n) (ap (λ (k : ℕ). drop w (take k m)) q ∙ drop-take w (j - w) m) ∙ parts-take n (j - w) (drop w m) (omega arith))
+      ap₂ _∷_ (take-take w j m (omega arith)) (rw (drop-taken w j m) (parts-take n (j - w) (drop w m) (omega arith)))
 
   -- part i put: the others stay
   pub parts-put : (n : ℕ) (m y : List ℕ) (i : ℕ) → i < n → length y ≡ w → w * n ≤ length m
@@ -130,19 +128,6 @@ module _ {A : Type 0} (w : ℕ) (enc : A → List ℕ) (sized : (x : A) → leng
         drop-at (enc x) (cells enc l ++ r) w (sized x),
       )
       (ap (λ (t : List (List ℕ)). enc x ∷ t) (cells-parts l r))
-
-  -- bytes each part of which is the bytes of the thing read off it are those of the things read off them
-  pub cells-of : (dec : List ℕ → A) (n : ℕ) (m : List ℕ) → length m ≡ w * n
-      → ((i : ℕ) → i < n → enc (dec (take w (drop (w * i) m))) ≡ take w (drop (w * i) m)) → cells enc (map dec (parts w n m)) ≡ m
-  unfolding cells parts
-  cells-of dec zero [] l f = refl
-  cells-of dec zero (x ∷ m) l f = absurd (omega arith)
-  cells-of dec (suc n) m l f =
-      let e : w * 0 ≡ 0 = omega arith in
-      ap₂ _++_ (rw e at (f 0 (omega arith)))
-      (cells-of dec n (drop w m) (length-drop w m ∙ omega arith)
-      (λ i h. let q : w * suc i ≡ w + w * i = omega arith in rw (drop-drop (w * i) w m, ← q) (f (suc i) (omega arith))))
-      ∙ take-append-drop w m
 
   pub cells-take : (i : ℕ) (l : List A) → cells enc (take i l) ≡ take (w * i) (cells enc l)
   unfolding cells

@@ -1,5 +1,5 @@
 -- Where bytes are those of the table that is read off them: the count is in bounds, each cell is plain, and what follows is zero.
-use mathlib.Core.Bool.{Bool, true, false, _&&_}
+use mathlib.Core.Bool.{Bool, true, false, _&&_, and-assoc}
 use mathlib.Core.List.{List, [], _∷_, _++_, map}
 use mathlib.Core.Path.{_≡_, refl, sym, ap, ap₂, _∙_}
 use Prim.Native.Nat.{ℕ, zero, suc, _+_, _-_, _*_, _≤_, min, _<_}
@@ -37,17 +37,12 @@ unfolding same
 same-prefix [] a b = refl
 same-prefix (x ∷ p) a b = rw (eq-eqb x x refl) (same-prefix p a b)
 
-and-assoc : (a b c : Bool) → a && (b && c) ≡ a && b && c
-and-assoc true b c = refl
-and-assoc false b c = refl
-
 split : (p q d : List ℕ) → same (p ++ q) d ≡ same p (take (length p) d) && same q (drop (length p) d)
 unfolding same
 split [] q d = refl
 split (x ∷ p) q [] = refl
 split (x ∷ p) q (y ∷ d) =
-    ap (λ (b : Bool). eqb x y && b) (split p q d)
-    ∙ and-assoc (eqb x y) (same p (take (length p) d)) (same q (drop (length p) d))
+    rw (split p q d) (sym (and-assoc (eqb x y) (same p (take (length p) d)) (same q (drop (length p) d))))
 
 pub same-split : (p q d : List ℕ) (n : ℕ) → length p ≡ n → same (p ++ q) d ≡ same p (take n d) && same q (drop n d)
 same-split p q d n e = rw (← e) (split p q d)

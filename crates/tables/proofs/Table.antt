@@ -13,7 +13,7 @@ use Rattle.wire.specs.declared.Order.the-variants.{Little}
 use Rattle.wire.proofs.Texts.{pad-length}
 use Rattle.wire.proofs.Words.{word-length, word-again}
 use Rattle.tables.specs.Tables.{cells, parts, tableBytes, tableOf}
-use Rattle.wire.proofs.Parts.{pad-fits, drop-take}
+use Rattle.wire.proofs.Parts.{pad-fits, drop-taken}
 use Rattle.tables.proofs.Words.{word-take}
 use Rattle.tables.proofs.Cells.{parts-length, parts-at, parts-take, cells-length, cells-parts}
 
@@ -78,23 +78,18 @@ pub table-at : {A : Type 0} (w k : ℕ) (dec : List ℕ → A) (b : List ℕ) (i
     → getD (tableOf w k dec b) i (dec []) ≡ dec (take w (drop (4 + w * i) b))
 unfolding tableOf
 table-at w k dec b i h =
-    let l : length (map dec (parts w (min (wordAt Little b 0) k) (drop 4 b))) ≡ min (wordAt Little b 0) k
-    = length-map (parts w (min (wordAt Little b 0) k) (drop 4 b)) dec ∙ parts-length w (min (wordAt Little b 0) k) (drop 4 b) in
-    List·getD-map dec (parts w (min (wordAt Little b 0) k) (drop 4 b)) i []
-    ∙ ap dec (parts-at w (min (wordAt Little b 0) k) (drop 4 b) i (rw l at h) ∙ ap (take w) (drop-drop (w * i) 4 b))
+    let n = min (wordAt Little b 0) k in
+    List·getD-map dec (parts w n (drop 4 b)) i []
+    ∙ ap dec (parts-at w n (drop 4 b) i (rw (table-many w k dec b) at h) ∙ ap (take w) (drop-drop (w * i) 4 b))
 
 -- a table is read no further than it reaches
 pub table-take : {A : Type 0} (w k : ℕ) (dec : List ℕ → A) (b : List ℕ) (j : ℕ) → 4 + w * k ≤ j
     → tableOf w k dec (take j b) ≡ tableOf w k dec b
 unfolding tableOf
 table-take w k dec b j h =
-    let e : j ≡ 4 + (j - 4) = omega arith in
     let n = min (wordAt Little b 0) k in
     let l : w * n ≤ w * k = mul-le-mul-left w (min-le-right (wordAt Little b 0) k) in
-    rw (word-take b j 0 (omega arith))
-    (ap (map dec)
-    (ap (parts w n) (ap (λ (i : ℕ). drop 4 (take i b)) e ∙ drop-take 4 (j - 4) b)
-    ∙ parts-take w n (j - 4) (drop 4 b) (omega arith)))
+    rw (word-take b j 0 (omega arith), drop-taken 4 j b) (ap (map dec) (parts-take w n (j - 4) (drop 4 b) (omega arith)))
 
 -- ---- what bytes say, from thing i on
 

@@ -5,13 +5,13 @@ use Prim.Native.Nat.{ℕ, suc, _+_, _-_, _*_, _≤_, _<_}
 use native.Mathlib.Omega.{arith}
 use native.Mathlib.Nat.{mul-le-mul-left}
 use lib.ListN.{length, take, drop, replicate, length-append, length-drop}
-use lib.Seq.{take-at, drop-at, drop-drop, take-add, take-append-le, drop-append-le, length-take-le}
+use lib.Seq.{take-at, drop-at, drop-drop, take-take, take-append-le, length-take-le}
 use Rattle.wire.specs.Bytes.{pad}
 use Rattle.wire.specs.Words.{wordBytes}
-use Rattle.wire.proofs.Words.{word-length, cut-at, put-at}
+use Rattle.wire.proofs.Words.{cut-at, put-at}
 use Rattle.tables.specs.Tables.{cells, tableBytes}
 use Rattle.tables.specs.Cut.{Cell, without}
-use Rattle.wire.proofs.Parts.{drop-past, part-past, cut-two}
+use Rattle.wire.proofs.Parts.{drop-past, drop-take, part-past, part-nested}
 use Rattle.tables.proofs.Cells.{cells-length}
 use Rattle.tables.proofs.Table.{table-length, table-body, table-spread}
 use Rattle.tables.proofs.Change.{removed, table-append, table-remove}
@@ -26,72 +26,27 @@ put-sized m y a c h e =
     length-append (take a m) (y ++ drop (a + c) m)
     ∙ omega (arith, length-append y (drop (a + c) m), length-take-le a m (omega arith), length-drop (a + c) m)
 
--- the b in m, that begins at t and has l bytes: `pre` before it and `post` after it
-pub record Inside (m b pre post : List ℕ) (t l : ℕ) : Type 0 where
-  pub start : length pre ≡ t
-  pub long : length b ≡ l
-  pub is : m ≡ pre ++ (b ++ post)
-
-pub inside-of : (m b : List ℕ) (t l : ℕ) → t + l ≤ length m → take l (drop t m) ≡ b → Inside m b (take t m) (drop (t + l) m) t l
-inside-of m b t l h e =
-    record {
-      start = length-take-le t m (omega arith);
-      long = ap length (sym e) ∙ length-take-le l (drop t m) (omega (arith, length-drop t m));
-      is = rw (← e) (cut-two m t l);
-    }
-
--- bytes put inside b leave the rest of m
-pub inside-put : (m b pre post y : List ℕ) (t l a c : ℕ) → Inside m b pre post t l → a + c ≤ l → length y ≡ c
-    → Inside (put m (t + a) c y) (put b a c y) pre post t l
-inside-put m b pre post y t l a c g h e =
-    let lb : length b ≡ l = g .long in
-    let p = take a b in
-    let r = drop (a + c) b in
-    let q : put (b ++ post) a c y ≡ put b a c y ++ post
-    = rw (take-append-le a b post (omega arith), drop-append-le (a + c) b post (omega arith))
-    (sym (append-assoc p (y ++ r) post ∙ ap (λ (z : List ℕ). p ++ z) (append-assoc y r post))) in
-    record {
-      start = g .start;
-      long = put-sized b y a c (omega arith) e ∙ lb;
-      is = rw (g .is) (part-past pre (b ++ post) y t a c (g .start) ∙ ap (λ (z : List ℕ). pre ++ z) q);
-    }
-
--- bytes put past the count
-put-past-count : (b y : List ℕ) (a c : ℕ) → 4 ≤ length b → drop 4 (put b (4 + a) c y) ≡ put (drop 4 b) a c y
-put-past-count b y a c h =
-    let l : length (take 4 b) ≡ 4 = length-take-le 4 b h in
-    let e : 4 + a + c ≡ 4 + (a + c) = omega arith in
-    rw (e, take-add 4 a b, append-assoc (take 4 b) (take a (drop 4 b)) (y ++ drop (4 + (a + c)) b), drop-at (take 4 b) _ 4 l, drop-drop (a + c) 4 b)
-
 module _ {A : Type 0} (w k : ℕ) (enc : A → List ℕ) (sized : (x : A) → length (enc x) ≡ w) where
   -- ---- a thing put at the end
-
-  table-appended : (xs : List A) (x : A) (b : List ℕ) (n : ℕ) → b ≡ tableBytes w k enc xs → n ≡ length xs → n < k
-      → put (put b (4 + w * n) w (enc x)) 0 4 (wordBytes (n + 1)) ≡ tableBytes w k enc (xs ++ (x ∷ []))
-  table-appended xs x b n e en h =
-      let l : length b ≡ 4 + w * k = ap length e ∙ table-length w k enc xs in
-      ap (λ (z : List ℕ). wordBytes (n + 1) ++ z) (put-past-count b (enc x) (w * n) w (omega arith))
-      ∙ sym (table-append w k enc sized xs x b n e en h)
 
   pub append-written : (xs : List A) (x : A) (m m₁ m₂ : List ℕ) (t p n : ℕ) → t + (4 + w * k) ≤ length m
       → take (4 + w * k) (drop t m) ≡ tableBytes w k enc xs → n ≡ length xs → n < k → p ≡ t + (4 + w * n)
       → m₁ ≡ take p m ++ (enc x ++ drop (p + w) m) → m₂ ≡ take t m₁ ++ (wordBytes (n + 1) ++ drop (t + 4) m₁)
       → m₂ ≡ take t m ++ (tableBytes w k enc (xs ++ (x ∷ [])) ++ drop (t + (4 + w * k)) m)
   append-written xs x m m₁ m₂ t p n h e en l ep e₁ e₂ =
-      let b = tableBytes w k enc xs in
-      let pre = take t m in
-      let post = drop (t + (4 + w * k)) m in
       let o : w * suc n ≤ w * k = mul-le-mul-left w l in
-      let q : m₁ ≡ put m (t + (4 + w * n)) w (enc x) = rw ep at e₁ in
-      let g = inside-of m b t (4 + w * k) h e in
-      let g₁ = inside-put m b pre post (enc x) t (4 + w * k) (4 + w * n) w g (omega arith) (sized x) in
-      let b₁ = put b (4 + w * n) w (enc x) in
-      let g₂ = inside-put (put m (t + (4 + w * n)) w (enc x)) b₁ pre post (wordBytes (n + 1)) t (4 + w * k) 0 4 g₁ (omega arith) (word-length (n + 1)) in
-      let z : t + 0 ≡ t = omega arith in
-      e₂
-      ∙ ap (λ (s : List ℕ). put s t 4 (wordBytes (n + 1))) q
-      ∙ (rw z at (g₂ .is))
-      ∙ ap (λ (s : List ℕ). pre ++ (s ++ post)) (table-appended xs x b n refl en l)
+      let d = take (w * k) (drop (t + 4) m) in
+      let y = take (w * n) d ++ (enc x ++ drop (w * n + w) d) in
+      let post = drop (t + 4 + w * k) m in
+      let f : p ≡ t + 4 + w * n = omega arith in
+      let g : t + (4 + w * k) ≡ t + 4 + w * k = omega arith in
+      let ed : drop 4 (tableBytes w k enc xs) ≡ d = ap (drop 4) (sym e) ∙ drop-take 4 (w * k) (drop t m) ∙ ap (take (w * k)) (drop-drop 4 t m) in
+      let q : m₁ ≡ take (t + 4) m ++ (y ++ post) = e₁ ∙ rw f (sym (part-nested m (enc x) (t + 4) (w * n) w (w * k) (omega arith))) in
+      let s : length (take (t + 4) m) ≡ t + 4 = length-take-le (t + 4) m (omega arith) in
+      let before : take t m₁ ≡ take t m = ap (take t) q ∙ take-append-le t (take (t + 4) m) (y ++ post) (omega arith) ∙ take-take t (t + 4) m (omega arith) in
+      let behind : drop (t + 4) m₁ ≡ y ++ post = ap (drop (t + 4)) q ∙ drop-at (take (t + 4) m) (y ++ post) (t + 4) s in
+      let table : tableBytes w k enc (xs ++ (x ∷ [])) ≡ wordBytes (n + 1) ++ y = rw ed at (table-append w k enc sized xs x (tableBytes w k enc xs) n refl en l) in
+      e₂ ∙ rw (before, behind, table, g) (ap (λ (z : List ℕ). take t m ++ z) (sym (append-assoc (wordBytes (n + 1)) y post)))
 
   -- ---- a thing taken out, by `remove` on the part of m that is the table
 

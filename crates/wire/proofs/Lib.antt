@@ -1,3 +1,4 @@
+pub mod Needs
 pub mod From
 pub mod Texts
 pub mod Below

@@ -3,7 +3,7 @@ use mathlib.Core.List.{List, [], _∷_, _++_, append-assoc}
 use mathlib.Core.Path.{_≡_, refl, sym, ap, ap₂, _∙_}
 use Prim.Native.Nat.{ℕ, zero, suc, _+_, _-_, _≤_}
 use native.Mathlib.Omega.{arith}
-use native.Mathlib.Nat.{zero-add, suc-add, sub-zero, zero-sub}
+use native.Mathlib.Nat.{sub-zero, zero-sub, add-sub-cancel-left}
 use lib.ListN.{length, take, drop, replicate, take-append-drop}
 use lib.Seq.{take-at, drop-at, take-append-add, drop-append-add, take-take, drop-drop, take-add, take-nil}
 use Rattle.wire.specs.Bytes.{pad}
@@ -14,10 +14,15 @@ take-past p q k n e = rw (← e) (take-append-add p q n)
 pub drop-past : (p q : List ℕ) (k n : ℕ) → length p ≡ k → drop (k + n) (p ++ q) ≡ drop n q
 drop-past p q k n e = rw (← e) (drop-append-add p q n)
 
+-- a part without its first n
+pub drop-taken : (n k : ℕ) (l : List ℕ) → drop n (take k l) ≡ take (k - n) (drop n l)
+drop-taken zero k l = rw (sub-zero k)
+drop-taken (suc n) k [] = rw (take-nil k) (sym (take-nil (k - suc n)))
+drop-taken (suc n) zero (x ∷ l) = rw (zero-sub (suc n))
+drop-taken (suc n) (suc k) (x ∷ l) = let e : suc k - suc n ≡ k - n = omega arith in rw e (drop-taken n k l)
+
 pub drop-take : (n k : ℕ) (l : List ℕ) → drop n (take (n + k) l) ≡ take k (drop n l)
-drop-take zero k l = rw (zero-add k)
-drop-take (suc n) k [] = rw (suc-add n k) (sym (take-nil k))
-drop-take (suc n) k (x ∷ l) = rw (suc-add n k) (drop-take n k l)
+drop-take n k l = rw (drop-taken n (n + k) l, add-sub-cancel-left n k)
 
 -- ---- a part between two others
 

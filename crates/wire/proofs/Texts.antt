@@ -3,7 +3,7 @@ use mathlib.Core.Path.{_≡_, refl, sym, ap, ap₂}
 use mathlib.Core.Logic.{_⊎_, inl, inr}
 use mathlib.Core.Bool.{Bool, true, false, _&&_, _||_, and-assoc, false≢true}
 use mathlib.Core.List.{List, [], _∷_, _++_}
-use Prim.Native.Nat.{ℕ, zero, suc}
+use Prim.Native.Nat.{ℕ}
 use native.Mathlib.Omega.{arith}
 use lib.Dec.{eqb}
 use lib.ListN.{length, replicate, length-append, length-take, length-replicate}
@@ -25,6 +25,8 @@ both-first false b h = h
 pub both-second : (a b : Bool) → a && b ≡ true → b ≡ true
 both-second true b h = h
 both-second false b h = absurd (false≢true h)
+
+pub ruleset both = (both-first, both-second)
 
 pub both-true : (a b : Bool) → a ≡ true → b ≡ true → a && b ≡ true
 both-true a b p q = rw (p, q)
@@ -80,11 +82,6 @@ pub zero-append : (xs ys : List ℕ) → allZero (xs ++ ys) ≡ allZero xs && al
 unfolding allZero
 zero-append [] ys = refl
 zero-append (x ∷ xs) ys = rw (zero-append xs ys, and-assoc (eqb x 0) (allZero xs) (allZero ys))
-
-pub zeros-zero : (n : ℕ) → allZero (replicate n 0) ≡ true
-unfolding allZero
-zeros-zero zero = refl
-zeros-zero (suc n) = zeros-zero n
 
 pub zero-zeros : (xs : List ℕ) → allZero xs ≡ true → xs ≡ replicate (length xs) 0
 unfolding allZero

@@ -1,6 +1,7 @@
 -- `slots::gids_at` meets its contract.
 use Prim.Native.Nat.{_-_}
 use Rattle.slots.proofs.Groups.{Gathering, gathering}
+use Rattle.wire.proofs.Needs.{all7}
 use Rattle.slots.proofs.gids_at.Statement.{statement}
 use Rattle.slots.proofs.gids_at.Tie as tie
 
@@ -12,20 +13,5 @@ abbrev μ-loop : tie.MeasureT-loop
 
 pub gids-at-spec : {M : Type 1} → statement M
 gids-at-spec =
-    tie.close
-    (tie.spec
-    Inv-loop
-    μ-loop
-    (λ c κs. search gathering)
-    (λ c. search gathering)
-    (λ c κs. search gathering)
-    (λ c. search gathering)
-    (λ c. search gathering)
-    (λ c. search gathering)
-    (λ c κs. search gathering)
-    (λ c. search gathering)
-    (λ c. search gathering)
-    (λ c. search gathering)
-    (λ c. search gathering)
-    (λ c. search gathering)
-    (λ c. search gathering))
+    tie.close (all7 (tie.spec Inv-loop μ-loop (λ c κs. search gathering) (λ c. search gathering) (λ c κs. search gathering) (λ c. search gathering))
+    (search gathering) (λ c. search gathering) (λ c. search gathering))

@@ -2,6 +2,7 @@
 use Prim.Native.Nat.{_-_}
 use lib.ListN.{length}
 use Rattle.tables.proofs.Row.{Putting, putting}
+use Rattle.wire.proofs.Needs.{all7}
 use Rattle.tables.proofs.put_words.Statement.{statement}
 use Rattle.tables.proofs.put_words.Tie as tie
 
@@ -13,18 +14,4 @@ abbrev μ-loop : tie.MeasureT-loop
 
 pub put-words-spec : {M : Type 1} → statement M
 put-words-spec =
-    tie.close
-    (tie.spec
-    Inv-loop
-    μ-loop
-    (λ c. search putting)
-    (λ c. search putting)
-    (λ c. search putting)
-    (λ c. search putting)
-    (λ c. search putting)
-    (λ c κs. search putting)
-    (λ c. search putting)
-    (λ c. search putting)
-    (λ c. search putting)
-    (λ c. search putting)
-    (λ c. search putting))
+    tie.close (all7 (tie.spec Inv-loop μ-loop (λ c. search putting)) (search putting) (λ c. search putting) (λ c. search putting) (λ c. search putting))

@@ -1,6 +1,7 @@
 -- `tables::shift` meets its contract.
 use Prim.Native.Nat.{_-_}
 use Rattle.tables.proofs.Cutting.{Shifting, shifting}
+use Rattle.wire.proofs.Needs.{all7}
 use Rattle.tables.proofs.shift.Statement.{statement}
 use Rattle.tables.proofs.shift.Tie as tie
 
@@ -12,20 +13,5 @@ abbrev μ-loop : tie.MeasureT-loop
 
 pub shift-spec : {M : Type 1} → statement M
 shift-spec =
-    tie.close
-    (tie.spec
-    Inv-loop
-    μ-loop
-    (λ c. search shifting)
-    (λ c. search shifting)
-    (λ c. search shifting)
-    (λ c. search shifting)
-    (λ c. search shifting)
-    (λ c. search shifting)
-    (λ c. search shifting)
-    (λ c. search shifting)
-    (λ c. search shifting)
-    (λ c. search shifting)
-    (λ c. search shifting)
-    (λ c. search shifting)
-    (λ c. search shifting))
+    tie.close (all7 (tie.spec Inv-loop μ-loop (λ c. search shifting) (λ c. search shifting) (λ c. search shifting)) (search shifting) (λ c. search shifting)
+    (λ c. search shifting) (λ c. search shifting))

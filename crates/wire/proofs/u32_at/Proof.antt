@@ -7,6 +7,7 @@ use Rattle.wire.specs.Words.{joined, wordAt}
 use Rattle.wire.specs.declared.Order.{Order}
 use Rattle.wire.specs.declared.Order.the-variants.{Little, Big}
 use borrow.Author.Needs.{needs}
+use Rattle.wire.proofs.Needs.{all2, all8}
 use Rattle.wire.proofs.u32_at.Statement.{statement}
 use Rattle.wire.proofs.u32_at.Tie as tie
 
@@ -22,26 +23,4 @@ module _ (s : List ℕ) (at r : ℕ) (o : Order) where
   big b e = rw b e
 
 pub u32-at-spec : {M : Type 1} → statement M
-u32-at-spec =
-    tie.close
-    (tie.spec
-    (λ c. search needs)
-    (λ c. search needs)
-    (λ c. search needs)
-    (λ c. search needs)
-    (λ c. search needs)
-    (λ c. search needs)
-    (λ c. search needs)
-    (λ c. search needs)
-    (λ c κs. search needs)
-    (λ c. search needs)
-    (λ c. search needs)
-    (λ c. search needs)
-    (λ c. search needs)
-    (λ c. search needs)
-    (λ c. search needs)
-    (λ c. search needs)
-    (λ c. search needs)
-    (λ c κs. search needs)
-    (λ c. search (little, needs))
-    (λ c. search (big, needs)))
+u32-at-spec = tie.close (all2 (all8 (all8 tie.spec (search needs)) (search needs)) (search needs) (λ c. search (little, needs)) (λ c. search (big, needs)))
