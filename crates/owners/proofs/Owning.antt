@@ -21,7 +21,7 @@ use Rattle.policy.specs.declared.Uid.{Uid}
 use Rattle.rules.specs.State.{isPeer}
 use Rattle.rules.specs.Addresses.{ownable}
 use Rattle.rules.specs.Calls.{isOwner, own}
-use Rattle.memory.specs.Layout.{memoryLength, slotStart, namesAt, firstName, nameRoom, namesLength, uidAt}
+use Rattle.memory.specs.Layout.{slotStart, namesAt, firstName, nameRoom, namesLength, uidAt}
 use Rattle.memory.specs.Encoding.{stateOf}
 use Rattle.memory.specs.Sound.{Held}
 use Rattle.memory.specs.Calls.{stored, Did}
@@ -56,9 +56,6 @@ pub ruleset asking = (may-own-front, may-own-is, needs)
 module _ (m y name : List ℕ) (at : ℕ) (g : Naming m at name) where
   pub name-room : at + 1 + length name ≤ length (set m at (length name))
   name-room =
-      let s : length m ≡ memoryLength = g .sized in
-      let k : length name ≤ nameLimit = g .short in
-      let r : at + nameWidth ≤ memoryLength = g .room in
       rw (length-set m at (length name)) (omega arith)
 
   pub name-put : y ≡ name
@@ -66,8 +63,6 @@ module _ (m y name : List ℕ) (at : ℕ) (g : Naming m at name) where
       ≡ take at m ++ (nameBytes name ++ drop (at + (1 + length name)) m)
   unfolding nameBytes
   name-put e =
-      let s : length m ≡ memoryLength = g .sized in
-      let r : at + nameWidth ≤ memoryLength = g .room in
       let n = length name in
       let u = set m at n in
       let t : take (at + 1) u ≡ take at m ++ (n ∷ []) = rw add-one (take-suc-set m at n (omega arith)) in
@@ -81,9 +76,6 @@ module _ (m y name : List ℕ) (at : ℕ) (g : Naming m at name) where
       ≡ length m
   unfolding nameBytes
   name-sized e =
-      let s : length m ≡ memoryLength = g .sized in
-      let k : length name ≤ nameLimit = g .short in
-      let r : at + nameWidth ≤ memoryLength = g .room in
       ap length (name-put e) ∙ put-sized m (nameBytes name) at (1 + length name) (omega arith) (omega arith)
 
 pub ruleset naming = (name-room, name-put, name-sized, needs)

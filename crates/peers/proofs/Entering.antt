@@ -71,7 +71,6 @@ pub ruleset admitting = (admit-seated, needs)
 
 pub enter-free : (m gids : List ℕ) (i : ℕ) → Held m → FoundSlot isFree m 0 i → (i ≡ 16 → ⊥) → length gids ≤ gidRoom → Free m i gids
 enter-free m gids i g e q h =
-    let b : i ≤ 16 = e .bound in
     let k : i < 16 = omega arith in
     record { sized = g .sized; held = g; below = k; few = h; zeros = free-part m i g e k }
 

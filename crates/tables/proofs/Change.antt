@@ -54,10 +54,7 @@ removed-of w n j t e l h =
 
 pub without-length : {A : Type 0} (i : ℕ) (xs : List A) → i < length xs → length (without i xs) + 1 ≡ length xs
 without-length i xs h =
-    let a = length-take-le i xs (omega arith) in
-    let b = length-drop (i + 1) xs in
-    let c = length-append (take i xs) (drop (i + 1) xs) in
-    omega arith
+    omega (arith, length-take-le i xs (omega arith), length-drop (i + 1) xs, length-append (take i xs) (drop (i + 1) xs))
 
 pub without-next : {A : Type 0} (x : A) (i : ℕ) (xs : List A) → without (suc i) (x ∷ xs) ≡ x ∷ without i xs
 without-next x i xs = rw (suc-add i 1)
