@@ -126,12 +126,14 @@ module _ {m₀ m : List ℕ} {c i : ℕ} (b : RemovalInvariant m₀ m c i) where
         let s = sweeping-again (removeCallsTo c) m₀ m u y i (b .sweeping) h e refl in
         let n : slotsAt + slotLength * (i + 1) ≡ a + slotLength = omega arith in
         let r : drop (a + slotLength) u ≡ drop (a + slotLength) m₀
-        = ap (drop (a + slotLength)) e
-        ∙ drop-past (take a m) (y ++ drop (a + slotLength) m) a slotLength (length-take-le a m (omega arith))
-        ∙ drop-at y (drop (a + slotLength) m) slotLength ly
-        ∙ sym (drop-drop slotLength a m)
-        ∙ ap (drop slotLength) (b .rest)
-        ∙ drop-drop slotLength a m₀ in
+        = rw (
+          e,
+          drop-past (take a m) (y ++ drop (a + slotLength) m) a slotLength (length-take-le a m (omega arith)),
+          drop-at y (drop (a + slotLength) m) slotLength ly,
+          ← drop-drop slotLength a m,
+          ← drop-drop slotLength a m₀,
+          b .rest,
+        ) in
         record { sweeping = s; whole = b .whole; rest = rw n r }
 
   pub removal-ends : 16 ≤ i → m ≡ endedFor m₀ c
