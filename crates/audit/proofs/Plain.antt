@@ -1,6 +1,6 @@
 -- A slot is the bytes of the peer that is read off it exactly where its tables have their shape.
-use mathlib.Core.Path.{_≡_, refl, sym, ap, ap₂, _∙_}
-use mathlib.Core.Bool.{Bool, true, false, _&&_}
+use mathlib.Core.Path.{_≡_, sym, ap, ap₂, _∙_}
+use mathlib.Core.Bool.{Bool, true, _&&_, and-assoc}
 use mathlib.Core.List.{List, _++_, append-assoc}
 use Prim.Native.Nat.{ℕ, _+_, _-_, _*_, _≤_, min, _<_}
 use native.Mathlib.Omega.{arith}
@@ -8,13 +8,15 @@ use native.Mathlib.Decide.{decLe}
 use native.Mathlib.Nat.{add-zero, mul-le-mul-left}
 use lib.Dec.{leb}
 use lib.ListN.{length, take, drop, replicate, length-drop}
-use lib.Seq.{drop-drop, length-take-le, take-add, take-take}
-use borrow.Author.Tests.{le-leb, lt-leb, ne-eqb}
+use lib.Seq.{drop-drop, length-take-le, take-take}
+use borrow.Author.Tests.{lt-leb, ne-eqb}
 use Rattle.wire.specs.Bytes.{Below, allZero, same, front}
 use Rattle.wire.specs.Words.{wordAt, wordBytes}
 use Rattle.wire.specs.declared.Order.the-variants.{Little}
-use Rattle.wire.proofs.Texts.{same-refl, zero-append}
-use Rattle.wire.proofs.Words.{word-length, bytes-again}
+use Rattle.wire.proofs.Texts.{same-refl}
+use Rattle.wire.proofs.Parts.{drop-take, drop-taken}
+use Rattle.wire.proofs.Blocks.{zeroes, zeroes-divides}
+use Rattle.wire.proofs.Words.{word-length, bytes-again, word-bytes}
 use Rattle.tables.specs.Tables.{tableBytes, tableOf, plainCells}
 use Rattle.tables.proofs.Words.{word-part, word-front, bytes-take, bytes-drop, word-cut}
 use Rattle.tables.proofs.Table.{table-length, table-take}
@@ -31,23 +33,25 @@ use Rattle.memory.proofs.Reading.{slot-take, peer-from}
 use Rattle.memory.proofs.Heads.{single, single-length, head-table, head-of, single-plain}
 use Rattle.memory.proofs.Frame.{pending-length, cell-length, head-length}
 use Rattle.audit.specs.Tests.{tableTest, cellsTest, headFrom, headTest, shapeTest}
-use Rattle.audit.proofs.Shape.{drop-part}
 
 -- a part that starts a part of memory
 same-part : (x q m : List ℕ) (c n k : ℕ) → length x ≡ n → n ≤ k
     → same (x ++ q) (take k (drop c m)) ≡ same x (take n (drop c m)) && same q (take (k - n) (drop (c + n) m))
 same-part x q m c n k l h =
     same-split x q (take k (drop c m)) n l
-    ∙ rw (take-take n k (drop c m) h, drop-part n k (k - n) (drop c m) (omega arith), drop-drop n c m)
+    ∙ rw (take-take n k (drop c m) h, drop-taken n k (drop c m), drop-drop n c m)
+
+-- tests that agree where n is at most k
+within : (n k : ℕ) (a b : Bool) → (n ≤ k → a ≡ b) → leb n k && a ≡ leb n k && b
+within n k a b e = elim (decLe n k) [
+  | yes h ↦ rw (e h)
+  | no h ↦ rw (lt-leb n k (omega arith))
+]
 
 module _ (m : List ℕ) (f : Below 256 m) where
   -- any word is plain
   word-plain : (c : ℕ) → c + 4 ≤ length m → same (wordBytes (wordAt Little m c)) (take 4 (drop c m)) ≡ true
-  word-plain c h =
-      let l : length (take 4 (drop c m)) ≡ 4 = length-take-le 4 (drop c m) (omega (arith, length-drop c m)) in
-      let w : wordAt Little (take 4 (drop c m)) 0 ≡ wordAt Little m c = word-part m c 4 0 (omega arith) ∙ rw add-zero in
-      ap (λ (z : List ℕ). same z (take 4 (drop c m))) (rw (← w) (bytes-again (take 4 (drop c m)) l (bytes-take 4 (drop c m) (bytes-drop c m f))))
-      ∙ same-refl (take 4 (drop c m))
+  word-plain c h = rw (word-bytes m c f h) (same-refl (take 4 (drop c m)))
 
   word-same : (q : List ℕ) (c k : ℕ) → 4 ≤ k → c + 4 ≤ length m
       → same (wordBytes (wordAt Little m c) ++ q) (take k (drop c m)) ≡ same q (take (k - 4) (drop (c + 4) m))
@@ -63,7 +67,7 @@ module _ (m : List ℕ) (f : Below 256 m) where
         let l : length (take (4 + w * k) (drop c m)) ≡ 4 + w * k = length-take-le (4 + w * k) (drop c m) (omega (arith, length-drop c m)) in
         let e : wordAt Little m c ≡ wordAt Little (take (4 + w * k) (drop c m)) 0 = sym (word-part m c (4 + w * k) 0 (omega arith) ∙ rw add-zero) in
         let d : drop 4 (take (4 + w * k) (drop c m)) ≡ take (w * k) (drop (c + 4) m)
-        = drop-part 4 (4 + w * k) (w * k) (drop c m) (omega arith) ∙ rw (drop-drop 4 c m) in
+        = drop-take 4 (w * k) (drop c m) ∙ rw (drop-drop 4 c m) in
         ap (λ (xs : List A). same (tableBytes w k enc xs) (take (4 + w * k) (drop c m))) (sym (table-take w k dec (drop c m) (4 + w * k) (omega arith)))
         ∙ table-same w enc sized dec k (take (4 + w * k) (drop c m)) (wordAt Little m c) s l (bytes-take (4 + w * k) (drop c m) (bytes-drop c m f)) e
         ∙ rw d
@@ -72,23 +76,14 @@ module _ (m : List ℕ) (f : Below 256 m) where
     table-plain : ((b : List ℕ) → length b ≡ w → Below 256 b → enc (dec b) ≡ b) → (c : ℕ) → k < 4294967296 → c + (4 + w * k) ≤ length m
         → same (tableBytes w k enc (tableOf w k dec (drop c m))) (take (4 + w * k) (drop c m)) ≡ tableTest m c w k
     unfolding tableTest
-    table-plain always c s h = table-cells c s h ∙ go (decLe (wordAt Little m c) k)
-      where
-        go : Dec (wordAt Little m c ≤ k)
-            → leb (wordAt Little m c) k && plainCells enc dec w (wordAt Little m c) (take (w * k) (drop (c + 4) m))
-            ≡ leb (wordAt Little m c) k && allZero (take (w * k - w * wordAt Little m c) (drop (c + 4 + w * wordAt Little m c) m))
-        go (yes b) =
-            let n = wordAt Little m c in
-            let o : w * n ≤ w * k = mul-le-mul-left w b in
-            let l : length (take (w * k) (drop (c + 4) m)) ≡ w * k = length-take-le (w * k) (drop (c + 4) m) (omega (arith, length-drop (c + 4) m)) in
-            rw (
-              le-leb n k b,
-              plain-always w enc sized dec always n (take (w * k) (drop (c + 4) m)) (omega arith)
-                  (bytes-take (w * k) (drop (c + 4) m) (bytes-drop (c + 4) m f)),
-              drop-part (w * n) (w * k) (w * k - w * n) (drop (c + 4) m) (omega arith),
-              drop-drop (w * n) (c + 4) m,
-            )
-        go (no b) = rw (lt-leb (wordAt Little m c) k (omega arith))
+    table-plain always c s h =
+        let n = wordAt Little m c in
+        let d = drop (c + 4) m in
+        let l : length (take (w * k) d) ≡ w * k = length-take-le (w * k) d (omega (arith, length-drop (c + 4) m)) in
+        let plain : n ≤ k → plainCells enc dec w n (take (w * k) d) ≡ allZero (take (w * k - w * n) (drop (c + 4 + w * n) m))
+        = λ b. plain-always w enc sized dec always n (take (w * k) d) (rw l (mul-le-mul-left w b)) (bytes-take (w * k) d (bytes-drop (c + 4) m f))
+        ∙ rw (drop-taken (w * n) (w * k) d, drop-drop (w * n) (c + 4) m) in
+        table-cells c s h ∙ within n k _ _ plain
 
 pending-again : (b : List ℕ) → length b ≡ callWidth → Below 256 b → pendingBytes (pendingOf b) ≡ b
 pending-again b l f =
@@ -99,14 +94,6 @@ pending-again b l f =
 
 zeros-same : (n : ℕ) (d : List ℕ) → n ≤ length d → same (replicate n 0) (take n d) ≡ allZero (take n d)
 zeros-same n d h = rw (length-take-le n d h) at (same-zeros (take n d))
-
--- zeros up to b, and on from there
-zeros-join : (m : List ℕ) (a b c : ℕ) → a ≤ b → b ≤ c
-    → allZero (take (b - a) (drop a m)) && allZero (take (c - b) (drop b m)) ≡ allZero (take (c - a) (drop a m))
-zeros-join m a b c h k =
-    let e : c - a ≡ (b - a) + (c - b) = omega arith in
-    let f : a + (b - a) ≡ b = omega arith in
-    rw (e, take-add (b - a) (c - b) (drop a m), drop-drop (b - a) a m, f) (sym (zero-append (take (b - a) (drop a m)) (take (c - b) (drop b m))))
 
 -- ---- a whole slot
 
@@ -142,19 +129,17 @@ module _ (m : List ℕ) (f : Below 256 m) (a : ℕ) (h : a + slotLength ≤ leng
   unfolding tableTest
   end-plain =
       let t = headBytes (take (min (wordAt Little m (a + headAt)) headRoom) (drop (a + firstByte) m)) in
+      let n = wordAt Little m (a + headAt) in
       let e : a + headAt + keptLength ≡ a + restAt = omega arith in
+      let q : a + headAt + 4 + 1 * n ≡ a + firstByte + n = omega arith in
+      let zeros : n ≤ headRoom → allZero (take (1 * headRoom - 1 * n) (drop (a + headAt + 4 + 1 * n) m)) && zeroes m (a + restAt) (a + slotLength)
+      ≡ zeroes m (a + firstByte + n) (a + slotLength)
+      = λ b. let p : 1 * headRoom - 1 * n ≡ a + restAt - (a + firstByte + n) = omega arith in
+      rw (p, q) (sym (zeroes-divides m (a + firstByte + n) (a + restAt) (a + slotLength) (omega arith) (omega arith))) in
       same-part t restBytes m (a + headAt) keptLength (slotLength - headAt) (head-length _) (omega arith)
       ∙ ap₂ _&&_ head-plain (ap (λ (b : ℕ). same restBytes (take restLength (drop b m))) e ∙ rest-plain)
-      ∙ go (decLe (wordAt Little m (a + headAt)) headRoom)
-    where
-      go : Dec (wordAt Little m (a + headAt) ≤ headRoom)
-          → tableTest m (a + headAt) 1 headRoom && allZero (take (a + slotLength - (a + restAt)) (drop (a + restAt) m)) ≡ headFrom m a
-      go (yes b) =
-          let n = wordAt Little m (a + headAt) in
-          let p : 1 * headRoom - 1 * n ≡ a + restAt - (a + firstByte + n) = omega arith in
-          let q : a + headAt + 4 + 1 * n ≡ a + firstByte + n = omega arith in
-          rw (le-leb n headRoom b, p, q) (zeros-join m (a + firstByte + n) (a + restAt) (a + slotLength) (omega arith) (omega arith))
-      go (no b) = rw (lt-leb (wordAt Little m (a + headAt)) headRoom (omega arith))
+      ∙ and-assoc (leb n headRoom) _ _
+      ∙ within n headRoom _ _ zeros
 
   pub peer-plain : same (peerBytes (peerFrom m a)) (take slotLength (drop a m))
       ≡ tableTest m (a + gidsAt) gidWidth gidRoom
@@ -194,11 +179,6 @@ module _ (m : List ℕ) (f : Below 256 m) (a : ℕ) (h : a + slotLength ≤ leng
       ∙ word-same m f (t ++ restBytes) (a + takenAt) (slotLength - takenAt) (omega arith) (omega arith)
       ∙ rw y end-plain)))))))
 
-and-assoc : (a b c d : Bool) → a && (b && (c && d)) ≡ a && b && c && d
-and-assoc true true c d = refl
-and-assoc true false c d = refl
-and-assoc false b c d = refl
-
 -- slot i has a peer, and is the bytes of what is read off it where it has its shape
 pub slot-plain : (m : List ℕ) → Below 256 m → length m ≡ memoryLength → (i : ℕ) → i < 16 → (wordAt Little m (slotStart i) ≡ 0 → ⊥)
     → same (slotBytes (slotOf (take slotLength (drop (slotStart i) m)))) (take slotLength (drop (slotStart i) m)) ≡ shapeTest m i
@@ -209,8 +189,7 @@ slot-plain m f l i h e =
     = slot-take (drop a m) ∙ rw (word-front m a, ne-eqb (wordAt Little m a) 0 e) (ap peer (peer-from m a)) in
     ap (λ (x : Slot Tail). same (slotBytes x) (take slotLength (drop a m))) q
     ∙ peer-plain m f a (omega arith)
-    ∙ and-assoc (tableTest m (a + gidsAt) gidWidth gidRoom) (tableTest m (a + pendingAt) callWidth callRoom)
-    (cellsFrom m a) (headFrom m a)
+    ∙ simp and-assoc
 
 -- a free slot is all zero
 pub free-plain : (m : List ℕ) → length m ≡ memoryLength → (i : ℕ) → i < 16 → wordAt Little m (slotStart i) ≡ 0

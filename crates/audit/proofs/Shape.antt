@@ -15,7 +15,7 @@ use borrow.Author.Tests.{le-leb, lt-leb, eq-eqb, not-true, not-false}
 use Rattle.wire.specs.Bytes.{allZero, same, front, pad}
 use Rattle.wire.specs.Words.{wordAt}
 use Rattle.wire.specs.declared.Order.the-variants.{Little}
-use Rattle.wire.proofs.Parts.{drop-take}
+use Rattle.wire.proofs.Parts.{drop-taken}
 use Rattle.tables.specs.Tables.{plainCells}
 use Rattle.tables.proofs.Same.{same-pad, plain-next, plain-end}
 use Rattle.policy.specs.Names.{nameLimit, cellOf, nameOf, nameWidth}
@@ -67,15 +67,12 @@ pub ruleset heads = (head-many, head-zero, needs)
 
 -- ---- a name's cell
 
-pub drop-part : (n k c : ℕ) (l : List ℕ) → c + n ≡ k → drop n (take k l) ≡ take c (drop n l)
-drop-part n k c l e = let f : k ≡ n + c = omega arith in rw f (drop-take n c l)
-
 module _ (m : List ℕ) (a b : ℕ) (e : b ≡ getD m a 0) (s : b < 256) (l : a + nameWidth ≤ length m) where
   front-is : front (take nameWidth (drop a m)) ≡ b
   front-is = cell-front m a ∙ sym e
 
   rest : drop 1 (take nameWidth (drop a m)) ≡ take nameLimit (drop (a + 1) m)
-  rest = drop-part 1 nameWidth nameLimit (drop a m) (omega arith) ∙ rw (drop-drop 1 a m)
+  rest = rw (drop-taken 1 nameWidth (drop a m), drop-drop 1 a m)
 
   rest-length : length (take nameLimit (drop (a + 1) m)) ≡ nameLimit
   rest-length = length-take-le nameLimit (drop (a + 1) m) (omega (arith, length-drop (a + 1) m))
@@ -100,7 +97,7 @@ module _ (m : List ℕ) (a b : ℕ) (e : b ≡ getD m a 0) (s : b < 256) (l : a 
         eq-eqb b b refl,
         same-pad b nameLimit (take nameLimit (drop (a + 1) m)) rest-length,
         k,
-        drop-part b nameLimit (nameLimit - b) (drop (a + 1) m) (omega arith),
+        drop-taken b nameLimit (drop (a + 1) m),
         drop-drop b (a + 1) m,
       )
 
@@ -140,9 +137,8 @@ module _ {m : List ℕ} {i n j : ℕ} (l : CellsInvariant m i n j) where
   module _ (h : j < n) {r : Bool} (e : r ≡ plainCell m i j) where
     cell-at : take nameWidth (drop (nameWidth * j) (region m i)) ≡ take nameWidth (drop (slotStart i + firstName + nameWidth * j) m)
     cell-at =
-        let f : n ≤ nameRoom = l .few in
         rw (
-          drop-part (nameWidth * j) (nameWidth * nameRoom) ((nameWidth * nameRoom) - nameWidth * j) (drop (slotStart i + firstName) m) (omega arith),
+          drop-taken (nameWidth * j) (nameWidth * nameRoom) (drop (slotStart i + firstName) m),
           drop-drop (nameWidth * j) (slotStart i + firstName) m,
         )
         (take-take nameWidth ((nameWidth * nameRoom) - nameWidth * j) (drop (slotStart i + firstName + nameWidth * j) m) (omega arith))
@@ -165,14 +161,12 @@ module _ {m : List ℕ} {i n j : ℕ} (l : CellsInvariant m i n j) where
       → r ≡ allZero (take (slotStart i + takenAt - (slotStart i + firstName + nameWidth * j)) (drop (slotStart i + firstName + nameWidth * j) m))
       → r ≡ cellsTest m i
   cells-ends h r z =
-      let f : n ≤ nameRoom = l .few in
-      let g : j ≤ n = l .inside in
       let k : slotStart i + takenAt - (slotStart i + firstName + nameWidth * j) ≡ (nameWidth * nameRoom) - nameWidth * j = omega arith in
       z
       ∙ sym (l .left
       ∙ plain-end nameWidth cellOf cell-length nameOf n j (region m i) h
       ∙ rw (
-        drop-part (nameWidth * j) (nameWidth * nameRoom) ((nameWidth * nameRoom) - nameWidth * j) (drop (slotStart i + firstName) m) (omega arith),
+        drop-taken (nameWidth * j) (nameWidth * nameRoom) (drop (slotStart i + firstName) m),
         drop-drop (nameWidth * j) (slotStart i + firstName) m,
         k,
       ))

@@ -75,21 +75,16 @@ ending-begins c t n l b e en =
 module _ {c : ℕ} {ws₀ : List Pending} {t : List ℕ} {n j : ℕ} (g : Ending c ws₀ t n j) (h : j < n) where
   pub ending-cell : Cell t (4 + callWidth * j) callWidth (4 + callWidth * n)
   ending-cell =
-      let l : length t ≡ pendingLength = g .sized in
-      let f : n ≤ callRoom = g .few in
       record { inside = omega arith; room = omega arith }
 
   read : tableOf callWidth callRoom pendingOf t ≡ g .calls
   read =
       let ws = g .calls in
-      let m : n ≡ length ws = g .count in
-      let f : n ≤ callRoom = g .few in
       ap (tableOf callWidth callRoom pendingOf) (g .is ∙ sym (append-nil (tableBytes callWidth callRoom pendingBytes ws)))
       ∙ table-again callWidth callRoom pendingBytes pending-length pendingOf ws [] (omega arith) (omega arith) (g .back)
 
   callee-at : getD (g .calls) j (pendingOf []) .callee ≡ wordAt Little t (4 + callWidth * j)
   callee-at =
-      let m : n ≡ length (g .calls) = g .count in
       let l : j < length (tableOf callWidth callRoom pendingOf t) = rw read (omega arith) in
       let q : getD (g .calls) j (pendingOf []) ≡ pendingOf (take callWidth (drop (4 + callWidth * j) t)) =
       rw read at (table-at callWidth callRoom pendingOf t j l) in
@@ -119,7 +114,6 @@ module _ {c : ℕ} {ws₀ : List Pending} {t : List ℕ} {n j : ℕ} (g : Ending
 
     pub ending-stays : (k ≡ c → ⊥) → Ending c ws₀ t n (j + 1)
     ending-stays q =
-        let m : n ≡ length (g .calls) = g .count in
         record {
           calls = g .calls;
           back = g .back;
@@ -134,7 +128,6 @@ module _ {c : ℕ} {ws₀ : List Pending} {t : List ℕ} {n j : ℕ} (g : Ending
 pub ending-ends : {c : ℕ} {ws₀ : List Pending} {t : List ℕ} {n j : ℕ} → Ending c ws₀ t n j → n ≤ j
     → t ≡ tableBytes callWidth callRoom pendingBytes (endedAll c ws₀)
 ending-ends {c} {ws₀} {n = n} {j = j} g h =
-    let m : n ≡ length (g .calls) = g .count in
     g .is ∙ ap (tableBytes callWidth callRoom pendingBytes) (leaving-ends c ws₀ (g .calls) j (g .left) (omega arith))
 
 pub ruleset ending = (ending-begins, ending-cell, ending-out, ending-stays, ending-ends, needs)

@@ -12,7 +12,7 @@ use Rattle.tables.specs.Tables.{parts}
 use Rattle.tables.proofs.Words.{word-part}
 use Rattle.tables.proofs.Cells.{parts-length}
 use Rattle.rules.specs.State.{free, peer}
-use Rattle.memory.specs.Layout.{slotLength, slotStart, gidsAt, pendingAt, namesAt, headAt, firstByte, headRoom, slotsAt, gidRoom, callRoom, nameRoom}
+use Rattle.memory.specs.Layout.{slotLength, slotStart, gidsAt, pendingAt, namesAt, headAt, firstByte, headRoom, slotsAt, nameRoom}
 use Rattle.memory.specs.Encoding.{slotBytes, slotOf, stateOf}
 use Rattle.memory.specs.Good.{plainSlots}
 use Rattle.memory.specs.Sound.{Held}
@@ -58,17 +58,13 @@ held-counted m i g h e =
     let p = peerFrom m a in
     let count : (k : ℕ) → k + 4 ≤ slotLength → wordAt Little m (a + k) ≡ wordAt Little (slotBytes (peer p)) k
     = λ k l. sym (word-part m a slotLength k l) ∙ ap (λ (z : List ℕ). wordAt Little z k) (held-peer m i g h e) in
-    let lg : length (p .gids) ≡ min (wordAt Little m (a + gidsAt)) gidRoom = gids-many m a in
-    let lc : length (p .pending) ≡ min (wordAt Little m (a + pendingAt)) callRoom = pending-many m a in
     let ln : length (p .names) ≡ min (wordAt Little m (a + namesAt)) nameRoom = names-many m a in
     let lh : length (p .stream .head) ≤ headRoom = omega (arith, length-take (min (wordAt Little m (a + headAt)) headRoom) (drop (a + firstByte) m)) in
-    let eg : wordAt Little m (a + gidsAt) ≡ length (p .gids) = count gidsAt (omega arith) ∙ table-counted (gids-in p) (omega arith) in
-    let ec : wordAt Little m (a + pendingAt) ≡ length (p .pending) = count pendingAt (omega arith) ∙ table-counted (pending-in p) (omega arith) in
     let en : wordAt Little m (a + namesAt) ≡ length (p .names) = count namesAt (omega arith) ∙ table-counted (names-in p) (omega arith) in
     let eh : wordAt Little m (a + headAt) ≡ length (p .stream .head) = count headAt (omega arith) ∙ head-count p lh in
     record {
-      gids = sym eg;
-      calls = sym ec;
+      gids = sym (count gidsAt (omega arith) ∙ table-counted (gids-in p) (omega (arith, gids-many m a)));
+      calls = sym (count pendingAt (omega arith) ∙ table-counted (pending-in p) (omega (arith, pending-many m a)));
       names = sym en;
       head = sym eh;
       fewNames = omega arith;

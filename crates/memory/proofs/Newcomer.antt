@@ -4,7 +4,6 @@ use mathlib.Core.Path.{_≡_, refl, ap, ap₂, _∙_}
 use Prim.Native.Nat.{ℕ, _+_, _-_, _*_, _≤_}
 use native.Mathlib.Omega.{arith}
 use lib.ListN.{length, replicate, replicate-append-replicate}
-use Rattle.wire.specs.Bytes.{pad}
 use Rattle.wire.specs.Words.{wordBytes}
 use Rattle.wire.proofs.Words.{word-length}
 use Rattle.tables.specs.Tables.{cells, tableBytes}
@@ -50,14 +49,8 @@ pub newcomer-spread : (n uid : ℕ) (gids : List ℕ) → length gids ≤ gidRoo
     ≡ wordBytes n ++ (wordBytes uid ++ (wordBytes (length gids) ++ (cells wordBytes gids ++ replicate ((slotLength - firstGid) - gidWidth * length gids) 0)))
 unfolding tableBytes
 newcomer-spread n uid gids h =
-    let c = cells wordBytes gids in
     let x = gidWidth * gidRoom - gidWidth * length gids in
     let e : x + (slotLength - pendingAt) ≡ (slotLength - firstGid) - gidWidth * length gids = omega arith in
-    let s : (wordBytes (length gids) ++ pad (gidWidth * gidRoom) c) ++ replicate (slotLength - pendingAt) 0
-    ≡ wordBytes (length gids) ++ (c ++ replicate ((slotLength - firstGid) - gidWidth * length gids) 0)
-    = append-assoc (wordBytes (length gids)) (pad (gidWidth * gidRoom) c) (replicate (slotLength - pendingAt) 0)
-    ∙ ap (λ (z : List ℕ). wordBytes (length gids) ++ z)
-    (ap (λ (z : List ℕ). z ++ replicate (slotLength - pendingAt) 0) (table-spread gidWidth gidRoom wordBytes word-length gids h)
-    ∙ append-assoc c (replicate x 0) (replicate (slotLength - pendingAt) 0)
-    ∙ ap (λ (z : List ℕ). c ++ z) (replicate-append-replicate {A = ℕ} x (slotLength - pendingAt) 0 ∙ ap (λ (k : ℕ). replicate k 0) e)) in
-    newcomer-bytes n uid gids ∙ ap (λ (z : List ℕ). wordBytes n ++ (wordBytes uid ++ z)) s
+    newcomer-bytes n uid gids
+    ∙ rw (table-spread gidWidth gidRoom wordBytes word-length gids h, ← e, ← replicate-append-replicate {A = ℕ} x (slotLength - pendingAt) 0)
+    (simp append-assoc)

@@ -9,7 +9,7 @@ use lib.Dec.{eqb}
 use lib.ListN.{length}
 use borrow.Author.Tests.{eqb-true, leb-true, le-leb}
 use Rattle.wire.specs.Lists.{any}
-use Rattle.wire.proofs.Texts.{both, either}
+use Rattle.wire.proofs.Texts.{both, both-true, either}
 use Rattle.stream.specs.Tail.{Tail, goodTail}
 use Rattle.rules.specs.State.{Peer, Slot, free, peer, isPeer}
 use Rattle.memory.specs.Good.{nobody, goodNames, goodPending, goodPeer, goodSlots}
@@ -31,18 +31,7 @@ peer-good all last p later e = search (both, leb-true) depth 12
 
 pub good-peer : (all : List (Slot Tail)) (last : ℕ) (p : Peer Tail) (later : List (Slot Tail)) → GoodPeer all last p later → goodPeer all last p later ≡ true
 unfolding goodPeer
-good-peer all last p later g =
-    rw (
-      le-leb 1 (p .number) (g .some),
-      le-leb (p .number) last (g .within),
-      g .alone,
-      le-leb (length (p .gids)) 16 (g .gids),
-      le-leb (length (p .pending)) 16 (g .calls),
-      le-leb (length (p .names)) 4 (g .few),
-      g .pending,
-      g .names,
-      g .tail,
-    )
+good-peer all last p later g = search (both-true, le-leb) depth 12
 
 -- a number that one of the slots has is not above the last number
 pub connected-within : (all : List (Slot Tail)) (last n : ℕ) (slots : List (Slot Tail)) → goodSlots all last slots ≡ true

@@ -14,7 +14,7 @@ use Rattle.tables.proofs.Written.{append-written}
 use Rattle.policy.specs.Names.{cellOf, nameWidth}
 use Rattle.stream.specs.Tail.{Tail}
 use Rattle.rules.specs.State.{Pending, Peer, peer, putSlot, withNames, withPending, withStream}
-use Rattle.memory.specs.Layout.{memoryLength, slotLength, slotStart, pendingAt, firstCallee, callWidth, callRoom, pendingLength, namesAt, firstName}
+use Rattle.memory.specs.Layout.{slotLength, slotStart, pendingAt, firstCallee, callWidth, callRoom, pendingLength, namesAt, firstName}
 use Rattle.memory.specs.Layout.{nameRoom, namesLength, takenAt, streamLength}
 use Rattle.memory.specs.Encoding.{pendingBytes, streamBytes, slotBytes, memoryOf, stateOf}
 use Rattle.memory.specs.Sound.{Held}
@@ -80,7 +80,6 @@ module _ (m : List ℕ) (bytes : Below 256 m) (g : Held m) (i : ℕ) (h : i < 16
       → m₂ ≡ take (slotStart i + namesAt) m₁ ++ (wordBytes (n + 1) ++ drop (slotStart i + namesAt + 4) m₁)
       → m₂ ≡ memoryOf (putSlot (stateOf m) i (peer (withNames (peerFrom m (slotStart i)) (peerFrom m (slotStart i) .names ++ (name ∷ [])))))
   name-appended name m₁ m₂ n c e l ec e₁ e₂ =
-      let s : length m ≡ memoryLength = g .sized in
       append-written nameWidth nameRoom cellOf cell-length _ name m m₁ m₂ (slotStart i + namesAt) c n (omega arith) names-stand e l (omega arith) e₁ e₂
       ∙ sym (names-put (peerFrom m (slotStart i) .names ++ (name ∷ [])))
 
@@ -90,6 +89,6 @@ module _ (m : List ℕ) (bytes : Below 256 m) (g : Held m) (i : ℕ) (h : i < 16
       → m₂ ≡ take (slotStart i + pendingAt) m₁ ++ (wordBytes (n + 1) ++ drop (slotStart i + pendingAt + 4) m₁)
       → m₂ ≡ memoryOf (putSlot (stateOf m) i (peer (withPending (peerFrom m (slotStart i)) (peerFrom m (slotStart i) .pending ++ (w ∷ [])))))
   call-appended w m₁ m₂ n c e l ec e₁ e₂ =
-      let s : length m ≡ memoryLength = g .sized in
-      append-written callWidth callRoom pendingBytes pending-length _ w m m₁ m₂ (slotStart i + pendingAt) c n (omega arith) pending-stands e l (omega arith) e₁ e₂
+      append-written callWidth callRoom pendingBytes pending-length _ w m m₁ m₂ (slotStart i + pendingAt) c n (omega arith) pending-stands e l (omega arith)
+      e₁ e₂
       ∙ sym (pending-put (peerFrom m (slotStart i) .pending ++ (w ∷ [])))

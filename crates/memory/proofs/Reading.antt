@@ -113,31 +113,18 @@ pub gid-next : (m : List ℕ) (a j : ℕ) → j < length (peerFrom m a .gids)
 gid-next m a j h =
     let e : a + gidsAt + (4 + gidWidth * j) ≡ a + firstGid + gidWidth * j = omega arith in
     table-next gidWidth gidRoom wordOf (drop (a + gidsAt) m) j h
-    ∙ rw (
-      drop-drop (4 + gidWidth * j) (a + gidsAt) m,
-      word-take (drop (a + gidsAt + (4 + gidWidth * j)) m) gidWidth 0 (omega arith),
-      word-front m (a + gidsAt + (4 + gidWidth * j)),
-      e,
-    )
+    ∙ rw (drop-drop (4 + gidWidth * j), e, word-part m (a + firstGid + gidWidth * j) gidWidth 0 (omega arith), add-zero)
 
 pub pending-next : (m : List ℕ) (a j : ℕ) → j < length (peerFrom m a .pending)
     → drop j (peerFrom m a .pending)
     ≡ record { callee = wordAt Little m (a + firstCallee + callWidth * j); serial = wordAt Little m (a + firstSerial + callWidth * j) }
     ∷ drop (j + 1) (peerFrom m a .pending)
 pending-next m a j h =
-    let e : a + pendingAt + (4 + callWidth * j) ≡ a + firstCallee + callWidth * j = omega arith in
-    let f : a + firstCallee + callWidth * j + serialOffset ≡ a + firstSerial + callWidth * j = omega arith in
-    let d = drop (a + firstCallee + callWidth * j) m in
+    let c = a + firstCallee + callWidth * j in
+    let e : a + pendingAt + (4 + callWidth * j) ≡ c = omega arith in
+    let f : c + serialOffset ≡ a + firstSerial + callWidth * j = omega arith in
     table-next callWidth callRoom pendingOf (drop (a + pendingAt) m) j h
-    ∙ rw (
-      drop-drop (4 + callWidth * j) (a + pendingAt) m,
-      e,
-      word-take d callWidth 0 (omega arith),
-      word-take d callWidth serialOffset (omega arith),
-      word-front m (a + firstCallee + callWidth * j),
-      word-drop Little m (a + firstCallee + callWidth * j) serialOffset,
-      f,
-    )
+    ∙ rw (drop-drop (4 + callWidth * j), e, word-part m c callWidth 0 (omega arith), add-zero, word-part m c callWidth serialOffset (omega arith), f)
 
 pub name-next : (m : List ℕ) (a j : ℕ) → j < length (peerFrom m a .names)
     → drop j (peerFrom m a .names) ≡ nameOf (take nameWidth (drop (a + firstName + nameWidth * j) m)) ∷ drop (j + 1) (peerFrom m a .names)

@@ -4,7 +4,7 @@ use mathlib.Core.Path.{_≡_, refl, sym, ap, _∙_}
 use Prim.Native.Nat.{ℕ, _≤_, _<_, min}
 use native.Mathlib.Omega.{arith}
 use native.Mathlib.Nat.{min-eq-left}
-use lib.ListN.{length, take, drop, replicate, getD-replicate}
+use lib.ListN.{length, take, drop}
 use lib.Seq.{take-at, drop-at, drop-drop}
 use borrow.Author.Tests.{ne-eqb}
 use Rattle.wire.specs.Bytes.{pad}
@@ -16,9 +16,9 @@ use Rattle.tables.proofs.Words.{word-front}
 use Rattle.policy.specs.Names.{cellOf, nameOf}
 use Rattle.stream.specs.Tail.{Tail}
 use Rattle.rules.specs.State.{Peer, free, peer}
-use Rattle.memory.specs.Layout.{slotLength, uidAt, gidRoom, callRoom, nameRoom, takenAt, headAt, firstByte, headRoom, headOffset}
+use Rattle.memory.specs.Layout.{uidAt, gidRoom, callRoom, nameRoom, takenAt, headAt, firstByte, headRoom, headOffset}
 use Rattle.memory.specs.Encoding.{pendingBytes, headBytes, restBytes, peerBytes, slotBytes, wordOf, pendingOf, slotTail, peerOf, slotOf}
-use Rattle.memory.proofs.Frame.{pending-length, cell-length, free-bytes}
+use Rattle.memory.proofs.Frame.{pending-length, cell-length}
 use Rattle.memory.proofs.Fields.{gids-in, pending-in, names-in, table-back, stream-from}
 
 -- what the bytes of a slot can hold
@@ -36,26 +36,24 @@ pub record Fits (p : Peer Tail) : Type 0 where
 
 -- ---- each field
 
+-- a number is read where its bytes stand
+word-found : (s t : List ℕ) (b n : ℕ) → drop b s ≡ wordBytes n ++ t → n < 4294967296 → wordAt Little s b ≡ n
+word-found s t b n e h = sym (word-front s b) ∙ ap (λ (z : List ℕ). wordAt Little z 0) e ∙ word-again n t h
+
 pub number-back : (p : Peer Tail) → p .number < 4294967296 → wordAt Little (slotBytes (peer p)) 0 ≡ p .number
 unfolding slotBytes peerBytes
 number-back p h = word-again (p .number) _ h
 
 pub uid-back : (p : Peer Tail) → p .uid < 4294967296 → wordAt Little (slotBytes (peer p)) uidAt ≡ p .uid
 unfolding slotBytes peerBytes
-uid-back p h =
-    sym (word-front (peerBytes p) uidAt)
-    ∙ ap (λ (z : List ℕ). wordAt Little z 0) (drop-at (wordBytes (p .number)) _ uidAt (word-length (p .number)))
-    ∙ word-again (p .uid) _ h
+uid-back p h = word-found (peerBytes p) _ uidAt (p .uid) (drop-at (wordBytes (p .number)) _ uidAt (word-length (p .number))) h
 
 -- the stream in its words
 stream-words : (p : Peer Tail) → drop takenAt (slotBytes (peer p)) ≡ wordBytes (p .stream .taken) ++ (headBytes (p .stream .head) ++ restBytes)
 stream-words p = stream-from p ∙ append-assoc (wordBytes (p .stream .taken)) (headBytes (p .stream .head)) restBytes
 
 pub taken-back : (p : Peer Tail) → p .stream .taken < 4294967296 → wordAt Little (slotBytes (peer p)) takenAt ≡ p .stream .taken
-taken-back p h =
-    sym (word-front (slotBytes (peer p)) takenAt)
-    ∙ ap (λ (z : List ℕ). wordAt Little z 0) (stream-words p)
-    ∙ word-again (p .stream .taken) (headBytes (p .stream .head) ++ restBytes) h
+taken-back p h = word-found (slotBytes (peer p)) _ takenAt (p .stream .taken) (stream-words p) h
 
 head-bytes : (p : Peer Tail) → drop headAt (slotBytes (peer p)) ≡ wordBytes (length (p .stream .head)) ++ (pad headRoom (p .stream .head) ++ restBytes)
 unfolding headBytes
@@ -67,10 +65,7 @@ head-bytes p =
     ∙ append-assoc (wordBytes (length h)) (pad headRoom h) restBytes
 
 pub head-count : (p : Peer Tail) → length (p .stream .head) ≤ headRoom → wordAt Little (slotBytes (peer p)) headAt ≡ length (p .stream .head)
-head-count p h =
-    sym (word-front (slotBytes (peer p)) headAt)
-    ∙ ap (λ (z : List ℕ). wordAt Little z 0) (head-bytes p)
-    ∙ word-again (length (p .stream .head)) (pad headRoom (p .stream .head) ++ restBytes) (omega arith)
+head-count p h = word-found (slotBytes (peer p)) _ headAt (length (p .stream .head)) (head-bytes p) (omega arith)
 
 pub head-padded : (p : Peer Tail) → drop firstByte (slotBytes (peer p)) ≡ pad headRoom (p .stream .head) ++ restBytes
 head-padded p =

@@ -3,7 +3,7 @@ use mathlib.Core.Bool.{true}
 use mathlib.Core.Logic.{_↔_}
 use mathlib.Core.List.{List, [], _∷_, map, append-nil}
 use mathlib.Core.Path.{_≡_, refl, ap₂}
-use Prim.Native.Nat.{ℕ, _≤_, _<_}
+use Prim.Native.Nat.{ℕ, _<_}
 use native.Mathlib.Omega.{arith}
 use lib.ListN.{length, drop}
 use borrow.Author.Tests.{eq-eqb, ltb-true}
@@ -41,7 +41,6 @@ module _ (all : List (Slot Tail)) (last : ℕ) (g : goodSlots all last all ≡ t
   peer-fits : (p : Peer Tail) (later : List (Slot Tail)) → GoodPeer all last p later → narrow (peer p) ≡ true → Fits p
   unfolding narrow
   peer-fits p later q n =
-      let within : p .number ≤ last = q .within in
       let taken : p .stream .taken < 134217728 = tail-fits (p .stream) (q .tail) .0 in
       record {
         number = omega arith;

@@ -1,16 +1,16 @@
 -- Bytes written in memory are read back as a slot put; a loop that changes each slot in turn.
 use mathlib.Core.List.{List, [], _∷_, _++_, map, append-assoc}
 use mathlib.Core.Path.{_≡_, refl, sym, ap, ap₂, _∙_}
-use Prim.Native.Nat.{ℕ, zero, suc, _+_, _-_, _*_, _≤_, _<_}
+use Prim.Native.Nat.{ℕ, zero, suc, _+_, _*_, _≤_, _<_}
 use native.Mathlib.Omega.{arith}
-use lib.ListN.{length, take, drop, set, length-append, length-drop, take-append-drop}
+use lib.ListN.{length, take, drop, set, length-drop, take-append-drop}
 use lib.Seq.{take-at, drop-at, drop-drop, take-add, length-take-le}
 use Rattle.wire.specs.Bytes.{Below}
-use Rattle.wire.specs.Words.{wordAt, wordBytes}
+use Rattle.wire.specs.Words.{wordAt}
 use Rattle.wire.specs.declared.Order.the-variants.{Little}
-use Rattle.wire.proofs.Words.{word-length}
+use Rattle.wire.proofs.Words.{word-bytes}
 use Rattle.tables.specs.Tables.{cells, parts}
-use Rattle.tables.proofs.Words.{word-take, word-cut}
+use Rattle.tables.proofs.Words.{word-take}
 use Rattle.tables.proofs.Cells.{parts-put, map-set}
 use Rattle.tables.proofs.Written.{put-sized}
 use Rattle.tables.proofs.Sweep.{sweep, swept, sweep-begins, sweep-step, sweep-ends}
@@ -23,10 +23,6 @@ use Rattle.memory.proofs.Frame.{slot-length}
 use Rattle.memory.proofs.Slots.{free-back}
 
 -- ---- a slot's bytes put are read back
-
-word-first : (m : List ℕ) → slotsAt ≤ length m → Below 256 m → wordBytes (wordAt Little m 0) ≡ take slotsAt m
-word-first m h b =
-    sym (ap (take slotsAt) (word-cut m h b) ∙ take-at (wordBytes (wordAt Little m 0)) (drop slotsAt m) slotsAt (word-length (wordAt Little m 0)))
 
 -- the first four bytes, and the slots with part i put
 put-split : (m y : List ℕ) (i : ℕ)
@@ -82,7 +78,7 @@ sweeping-begins f m b l =
       below = omega arith;
       sized = l;
       left =
-          ap₂ _++_ (word-first m (omega arith) b) (cells-sweep f 16 d (length-drop slotsAt m ∙ omega arith) ∙ sweep-begins (changed f) slotLength 16 d);
+          ap₂ _++_ (word-bytes m 0 b (omega arith)) (cells-sweep f 16 d (length-drop slotsAt m ∙ omega arith) ∙ sweep-begins (changed f) slotLength 16 d);
     }
 
 pub sweeping-again : (f : Slot Tail → Slot Tail) (m₀ m u y : List ℕ) (i : ℕ) → Sweeping f m₀ m i → i < 16 → u ≡ putAt m i y

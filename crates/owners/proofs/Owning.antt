@@ -13,7 +13,7 @@ use borrow.Author.Tests.{lt-ltb, le-ltb, le-leb, lt-leb, not-true, not-false}
 use Rattle.wire.specs.Words.{wordAt, wordBytes}
 use Rattle.wire.specs.declared.Order.the-variants.{Little}
 use Rattle.wire.proofs.Words.{Octets, octets-below, put-at}
-use Rattle.wire.proofs.Parts.{drop-take, pad-fits, take-zeros}
+use Rattle.wire.proofs.Parts.{drop-taken, pad-fits, take-zeros}
 use Rattle.tables.proofs.Written.{put-sized, table-unused}
 use Rattle.policy.specs.Names.{nameLimit, cellOf, owns, nameWidth}
 use Rattle.policy.specs.Decisions.{mayOwn}
@@ -21,7 +21,7 @@ use Rattle.policy.specs.declared.Uid.{Uid}
 use Rattle.rules.specs.State.{isPeer}
 use Rattle.rules.specs.Addresses.{ownable}
 use Rattle.rules.specs.Calls.{isOwner, own}
-use Rattle.memory.specs.Layout.{memoryLength, slotStart, namesAt, firstName, nameRoom, namesLength, uidAt}
+use Rattle.memory.specs.Layout.{slotStart, namesAt, firstName, nameRoom, namesLength, uidAt}
 use Rattle.memory.specs.Encoding.{stateOf}
 use Rattle.memory.specs.Sound.{Held}
 use Rattle.memory.specs.Calls.{stored, Did}
@@ -56,9 +56,6 @@ pub ruleset asking = (may-own-front, may-own-is, needs)
 module _ (m y name : List ℕ) (at : ℕ) (g : Naming m at name) where
   pub name-room : at + 1 + length name ≤ length (set m at (length name))
   name-room =
-      let s : length m ≡ memoryLength = g .sized in
-      let k : length name ≤ nameLimit = g .short in
-      let r : at + nameWidth ≤ memoryLength = g .room in
       rw (length-set m at (length name)) (omega arith)
 
   pub name-put : y ≡ name
@@ -66,8 +63,6 @@ module _ (m y name : List ℕ) (at : ℕ) (g : Naming m at name) where
       ≡ take at m ++ (nameBytes name ++ drop (at + (1 + length name)) m)
   unfolding nameBytes
   name-put e =
-      let s : length m ≡ memoryLength = g .sized in
-      let r : at + nameWidth ≤ memoryLength = g .room in
       let n = length name in
       let u = set m at n in
       let t : take (at + 1) u ≡ take at m ++ (n ∷ []) = rw add-one (take-suc-set m at n (omega arith)) in
@@ -81,9 +76,6 @@ module _ (m y name : List ℕ) (at : ℕ) (g : Naming m at name) where
       ≡ length m
   unfolding nameBytes
   name-sized e =
-      let s : length m ≡ memoryLength = g .sized in
-      let k : length name ≤ nameLimit = g .short in
-      let r : at + nameWidth ≤ memoryLength = g .room in
       ap length (name-put e) ∙ put-sized m (nameBytes name) at (1 + length name) (omega arith) (omega arith)
 
 pub ruleset naming = (name-room, name-put, name-sized, needs)
@@ -104,20 +96,15 @@ module _ (m : List ℕ) (f : Octets m) (i : ℕ) (g : Seated m i) (name : List �
     room =
         let a = slotStart i in
         let k = 4 + nameWidth * n in
-        let x = (nameWidth * nameRoom) - nameWidth * n in
+        let x = nameWidth * nameRoom - nameWidth * n in
         let d = drop (a + namesAt) m in
-        let s : namesLength ≡ k + x = omega arith in
+        let s : namesLength - k ≡ x = omega arith in
         let t : a + namesAt + k ≡ a + firstName + nameWidth * n = omega arith in
-        let z : drop k (take namesLength d) ≡ replicate x 0
-        = table-unused nameWidth nameRoom cellOf cell-length (peerAt m i .names) (take namesLength d) n
-        (names-stand m (octets-below m f) (g .held) i (g .below) (g .some)) (sym many) (omega arith) in
-        let y : drop k (take namesLength d) ≡ take x (drop (a + firstName + nameWidth * n) m)
-        = ap (λ (c : ℕ). drop k (take c d)) s
-        ∙ drop-take k x d
-        ∙ ap (take x) (drop-drop k (a + namesAt) m ∙ ap (λ (c : ℕ). drop c m) t) in
-        sym (take-take nameWidth x (drop (a + firstName + nameWidth * n) m) (omega arith))
-        ∙ ap (take nameWidth) (sym y ∙ z)
-        ∙ take-zeros nameWidth x (omega arith)
+        let z : take x (drop (a + firstName + nameWidth * n) m) ≡ replicate x 0
+        = rw (drop-taken k namesLength d, s, drop-drop k (a + namesAt) m, t) at
+        (table-unused nameWidth nameRoom cellOf cell-length (peerAt m i .names) (take namesLength d) n
+        (names-stand m (octets-below m f) (g .held) i (g .below) (g .some)) (sym many) (omega arith)) in
+        sym (take-take nameWidth x (drop (a + firstName + nameWidth * n) m) (omega arith)) ∙ ap (take nameWidth) z ∙ take-zeros nameWidth x (omega arith)
 
     pub grant-done : length name ≤ nameLimit → (m₁ m₂ : List ℕ)
         → m₁ ≡ take (slotStart i + firstName + nameWidth * n) m ++ (nameBytes name ++ drop (slotStart i + firstName + nameWidth * n + (1 + length name)) m)
@@ -126,15 +113,9 @@ module _ (m : List ℕ) (f : Octets m) (i : ℕ) (g : Seated m i) (name : List �
     unfolding granted nameBytes cellOf
     grant-done k m₁ m₂ e₁ e₂ =
         let c = slotStart i + firstName + nameWidth * n in
-        let u = length name in
-        let t = drop (c + nameWidth) m in
-        let v : nameWidth - (1 + u) ≡ nameLimit - u = omega arith in
-        let z = replicate {A = ℕ} (nameLimit - u) 0 in
-        let y : drop (c + (1 + u)) m ≡ z ++ t = zero-rest m c nameWidth (1 + u) (omega arith) room ∙ ap (λ (x : ℕ). replicate x 0 ++ t) v in
-        let p : nameBytes name ++ (z ++ t) ≡ cellOf name ++ t
-        = ap (λ (x : List ℕ). u ∷ x) (sym (append-assoc name z t) ∙ ap (λ (x : List ℕ). x ++ t) (sym (pad-fits nameLimit name k))) in
-        let e₃ : m₁ ≡ take c m ++ (cellOf name ++ t)
-        = e₁ ∙ ap (λ (x : List ℕ). take c m ++ (nameBytes name ++ x)) y ∙ ap (λ (x : List ℕ). take c m ++ x) p in
+        let v : nameWidth - (1 + length name) ≡ nameLimit - length name = omega arith in
+        let e₃ : m₁ ≡ take c m ++ (cellOf name ++ drop (c + nameWidth) m)
+        = e₁ ∙ rw (zero-rest m c nameWidth (1 + length name) (omega arith) room, v, pad-fits nameLimit name k) (simp append-assoc) in
         let w = name-appended m (octets-below m f) (g .held) i (g .below) (g .some) name m₁ m₂ n c (sym many) l refl e₃ e₂ in
         rw (many, lt-leb 4 n l) (record { result = refl; memory = w })
 

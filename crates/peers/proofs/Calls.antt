@@ -14,7 +14,7 @@ use Rattle.wire.proofs.Parts.{drop-past, part-nested, cut-two}
 use Rattle.tables.proofs.Table.{table-take}
 use Rattle.rules.specs.State.{Pending, peer}
 use Rattle.rules.specs.Pending.{endedAll, removeCallsTo}
-use Rattle.memory.specs.Layout.{memoryLength, slotLength, slotStart, pendingAt, callWidth, callRoom, pendingLength, namesAt, slotsAt}
+use Rattle.memory.specs.Layout.{slotLength, slotStart, pendingAt, callWidth, callRoom, pendingLength, namesAt, slotsAt}
 use Rattle.memory.specs.Encoding.{pendingBytes, pendingOf, slotBytes, peerOf, slotOf, memoryOf, stateOf}
 use Rattle.memory.specs.Places.{numberAt, changed}
 use Rattle.memory.proofs.Reading.{sixteen, slot-at, part-peer, part-number}
@@ -50,8 +50,6 @@ module _ (m : List ℕ) (i : ℕ) (p : PlainSlot m i) (n : ℕ) (e : n ≡ numbe
 
   pub slot-length-is : length (take (slotStart i + pendingAt + pendingLength - (slotStart i + pendingAt)) (drop (slotStart i + pendingAt) m)) ≡ pendingLength
   slot-length-is =
-      let s : length m ≡ memoryLength = p .sized in
-      let h : i < 16 = p .below in
       ap length (cut-at (slotStart i + pendingAt) pendingLength m)
       ∙ length-take-le pendingLength (drop (slotStart i + pendingAt) m) (omega (arith, length-drop (slotStart i + pendingAt) m))
 
@@ -123,18 +121,19 @@ module _ {m₀ m : List ℕ} {c i : ℕ} (b : RemovalInvariant m₀ m c i) where
     unfolding endedAt
     removal-more u e =
         let a = slotStart i in
-        let l : length m ≡ memoryLength = b .sweeping .sized in
         let y = changed (removeCallsTo c) (take slotLength (drop a m)) in
         let ly : length y ≡ slotLength = slot-length (removeCallsTo c (slotOf (take slotLength (drop a m)))) in
         let s = sweeping-again (removeCallsTo c) m₀ m u y i (b .sweeping) h e refl in
         let n : slotsAt + slotLength * (i + 1) ≡ a + slotLength = omega arith in
         let r : drop (a + slotLength) u ≡ drop (a + slotLength) m₀
-        = ap (drop (a + slotLength)) e
-        ∙ drop-past (take a m) (y ++ drop (a + slotLength) m) a slotLength (length-take-le a m (omega arith))
-        ∙ drop-at y (drop (a + slotLength) m) slotLength ly
-        ∙ sym (drop-drop slotLength a m)
-        ∙ ap (drop slotLength) (b .rest)
-        ∙ drop-drop slotLength a m₀ in
+        = rw (
+          e,
+          drop-past (take a m) (y ++ drop (a + slotLength) m) a slotLength (length-take-le a m (omega arith)),
+          drop-at y (drop (a + slotLength) m) slotLength ly,
+          ← drop-drop slotLength a m,
+          ← drop-drop slotLength a m₀,
+          b .rest,
+        ) in
         record { sweeping = s; whole = b .whole; rest = rw n r }
 
   pub removal-ends : 16 ≤ i → m ≡ endedFor m₀ c

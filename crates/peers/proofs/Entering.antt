@@ -9,7 +9,6 @@ use borrow.Author.Needs.{needs}
 use borrow.Author.Tests.{lt-ltb, le-ltb, not-true, not-false}
 use Rattle.wire.proofs.Words.{Octets, octets-below}
 use Rattle.wire.specs.Words.{wordBytes}
-use Rattle.tables.specs.Tables.{cells}
 use Rattle.policy.specs.Decisions.{mayConnect}
 use Rattle.stream.specs.Tail.{tails}
 use Rattle.rules.specs.State.{peer, isFree}
@@ -36,20 +35,8 @@ seat-bytes : (m gids : List ℕ) (a n u : ℕ) → length gids ≤ gidRoom → t
 unfolding newBytes
 seat-bytes m gids a n u h e =
     let k = firstGid + gidWidth * length gids in
-    let x₁ = wordBytes n in
-    let x₂ = wordBytes u in
-    let x₃ = wordBytes (length gids) in
-    let x₄ = cells wordBytes gids in
     let f : slotLength - k ≡ (slotLength - firstGid) - gidWidth * length gids = omega arith in
-    let z = replicate {A = ℕ} ((slotLength - firstGid) - gidWidth * length gids) 0 in
-    let t = drop (a + slotLength) m in
-    let r : drop (a + k) m ≡ z ++ t = zero-rest m a slotLength k (omega arith) e ∙ ap (λ (c : ℕ). replicate c 0 ++ t) f in
-    let s : slotBytes (peer (newcomer tails n u gids)) ≡ (x₁ ++ (x₂ ++ (x₃ ++ x₄))) ++ z
-    = newcomer-spread n u gids h
-    ∙ sym (append-assoc x₁ (x₂ ++ (x₃ ++ x₄)) z
-    ∙ ap (λ (y : List ℕ). x₁ ++ y) (append-assoc x₂ (x₃ ++ x₄) z ∙ ap (λ (y : List ℕ). x₂ ++ y) (append-assoc x₃ x₄ z))) in
-    let q = x₁ ++ (x₂ ++ (x₃ ++ x₄)) in
-    ap (λ (y : List ℕ). q ++ y) r ∙ sym (append-assoc q z t) ∙ ap (λ (y : List ℕ). y ++ t) (sym s)
+    rw (zero-rest m a slotLength k (omega arith) e, f, newcomer-spread n u gids h) (simp append-assoc)
 
 -- ---- the seat
 
@@ -71,7 +58,6 @@ pub ruleset admitting = (admit-seated, needs)
 
 pub enter-free : (m gids : List ℕ) (i : ℕ) → Held m → FoundSlot isFree m 0 i → (i ≡ 16 → ⊥) → length gids ≤ gidRoom → Free m i gids
 enter-free m gids i g e q h =
-    let b : i ≤ 16 = e .bound in
     let k : i < 16 = omega arith in
     record { sized = g .sized; held = g; below = k; few = h; zeros = free-part m i g e k }
 

@@ -14,7 +14,7 @@ use Rattle.rules.specs.State.{free, putSlot, isPeer}
 use Rattle.rules.specs.Pending.{removeCallsTo}
 use Rattle.rules.specs.Calls.{disconnect, noGone}
 use Rattle.rules.specs.declared.Gone.{Gone}
-use Rattle.memory.specs.Layout.{memoryLength, slotLength, slotStart, takenAt}
+use Rattle.memory.specs.Layout.{slotLength, slotStart, takenAt}
 use Rattle.memory.specs.Encoding.{slotBytes, memoryOf, stateOf}
 use Rattle.memory.specs.Sound.{Held}
 use Rattle.memory.specs.Calls.{stored, Did}
@@ -34,7 +34,6 @@ module _ (m : List ℕ) (g : Held m) (i : ℕ) (h : i < 16) (z : List ℕ)
   zeros : z ≡ slotBytes free
   zeros =
       let a = slotStart i in
-      let s : length m ≡ memoryLength = g .sized in
       let l : length (take (a + slotLength - a) (drop a m)) ≡ slotLength
       = ap length (cut-at a slotLength m) ∙ length-take-le slotLength (drop a m) (omega (arith, length-drop a m)) in
       e ∙ ap (λ (k : ℕ). replicate k 0) l ∙ sym free-bytes

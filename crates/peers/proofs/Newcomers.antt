@@ -1,7 +1,7 @@
 -- The bytes of a peer that connects, as they are written.
 use mathlib.Core.Path.{_≡_, ap, _∙_}
 use mathlib.Core.List.{List, _++_, append-assoc}
-use Prim.Native.Nat.{ℕ, _+_, _*_, _≤_, _<_}
+use Prim.Native.Nat.{ℕ, _+_, _*_, _≤_}
 use native.Mathlib.Omega.{arith}
 use lib.ListN.{length, take, drop, length-append}
 use borrow.Author.Needs.{needs}
@@ -9,7 +9,7 @@ use Rattle.wire.specs.Words.{wordBytes}
 use Rattle.wire.proofs.Words.{word-length}
 use Rattle.tables.specs.Tables.{cells}
 use Rattle.tables.proofs.Written.{put-joined}
-use Rattle.memory.specs.Layout.{memoryLength, slotStart, gidsAt, firstGid, gidWidth, gidRoom, uidAt}
+use Rattle.memory.specs.Layout.{slotStart, gidsAt, firstGid, gidWidth, gidRoom, uidAt}
 use Rattle.slots.specs.Slots.{At}
 use Rattle.peers.specs.Writes.{newBytes}
 
@@ -23,8 +23,6 @@ pub seat-written : (m m₁ m₂ m₃ m₄ gids : List ℕ) (i n u : ℕ) → At 
 unfolding newBytes
 seat-written m m₁ m₂ m₃ m₄ gids i n u g f e₁ e₂ e₃ e₄ =
     let a = slotStart i in
-    let l : length m ≡ memoryLength = g .sized in
-    let h : i < 16 = g .below in
     let x₁ = wordBytes n in
     let x₂ = wordBytes u in
     let x₃ = wordBytes (length gids) in

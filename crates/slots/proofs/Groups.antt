@@ -45,7 +45,6 @@ module _ {m : List ℕ} {i count : ℕ} {list : List ℕ} {k : ℕ} (g : Gatheri
 
   pub gathering-ends : count ≤ k → take count list ≡ peerAt m i .gids
   gathering-ends h =
-      let j : k ≤ count = g .inside in
       let e : k ≡ count = omega arith in
       let n : drop count (peerAt m i .gids) ≡ [] = drop-of-length-le (peerAt m i .gids) {i = count} (omega (arith, g .long)) in
       sym (append-nil (take count list)) ∙ ap (λ (l : List ℕ). take count list ++ l) (sym n) ∙ rw e at (g .left)

@@ -3,7 +3,7 @@ use mathlib.Core.List.{List, [], _∷_, _++_, map, append-assoc, append-nil}
 use mathlib.Core.Path.{_≡_, refl, sym, ap, ap₂, _∙_}
 use Prim.Native.Nat.{ℕ, zero, suc, _+_, _-_, _*_, _≤_, _<_}
 use native.Mathlib.Omega.{arith}
-use lib.ListN.{length, getD, take, drop, set, replicate, length-append, length-drop, take-append-drop, replicate-append-replicate}
+use lib.ListN.{length, getD, take, drop, set, replicate, length-append, length-drop, replicate-append-replicate}
 use lib.Seq.{take-at, drop-at, drop-drop, take-take, take-add, take-nil, drop-nil, length-take-le}
 use Rattle.tables.specs.Tables.{cells, parts}
 use Rattle.wire.proofs.Parts.{take-past, drop-past, drop-taken}
@@ -30,7 +30,6 @@ module _ (w : ℕ) where
   parts-take zero j m h = refl
   parts-take (suc n) j m h =
       let e : w * suc n ≡ w + w * n = omega arith in
-      let l : w + w * n ≤ j = rw e at h in
       ap₂ _∷_ (take-take w j m (omega arith)) (rw (drop-taken w j m) (parts-take n (j - w) (drop w m) (omega arith)))
 
   -- part i put: the others stay
@@ -46,7 +45,6 @@ module _ (w : ℕ) where
       let e : w * suc i ≡ w + w * i = omega arith in
       let f : w + w * i + w ≡ w + (w * i + w) = omega arith in
       let r : w * suc n ≡ w + w * n = omega arith in
-      let k : w + w * n ≤ length m = rw r at s in
       let t : length (take w m) ≡ w = length-take-le w m (omega arith) in
       let d = drop w m in
       let c : take (w * suc i) m ++ (y ++ drop (w * suc i + w) m) ≡ take w m ++ (take (w * i) d ++ (y ++ drop (w * i + w) d))

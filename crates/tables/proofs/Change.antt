@@ -1,6 +1,6 @@
 -- Tables changed in their bytes: a thing put at the end; a thing taken out, the later ones moved down.
 use mathlib.Core.List.{List, [], _∷_, _++_, map, append-assoc}
-use mathlib.Core.Path.{_≡_, refl, sym, ap, ap₂, _∙_}
+use mathlib.Core.Path.{_≡_, refl, sym, ap, _∙_}
 use Prim.Native.Nat.{ℕ, zero, suc, _+_, _-_, _*_, _≤_, _<_}
 use native.Mathlib.Omega.{arith}
 use native.Mathlib.Nat.{mul-le-mul-left, suc-add}
@@ -25,8 +25,7 @@ removed-parts : (w n j : ℕ) (a b c e : List ℕ) → length a ≡ w * j → le
     → removed w n j (a ++ (b ++ (c ++ e))) ≡ a ++ (c ++ (replicate w 0 ++ e))
 unfolding cutOut
 removed-parts w n j a b c e la lb lc =
-    let s : a ++ (b ++ (c ++ e)) ≡ (a ++ (b ++ c)) ++ e
-    = sym (append-assoc a (b ++ c) e ∙ ap (λ (z : List ℕ). a ++ z) (append-assoc b c e)) in
+    let s : a ++ (b ++ (c ++ e)) ≡ (a ++ (b ++ c)) ++ e = simp append-assoc in
     let l : length (a ++ (b ++ c)) ≡ w * n = length-append a (b ++ c) ∙ omega (arith, length-append b c) in
     rw (
       take-at a (b ++ (c ++ e)) (w * j) la,
@@ -46,18 +45,14 @@ removed-of w n j t e l h =
     let c = drop (w * j + w) t in
     let la : length a ≡ w * j = length-take-le (w * j) t (omega arith) in
     let lb : length b ≡ w = length-take-le w (drop (w * j) t) (omega (arith, length-drop (w * j) t)) in
-    let q : t ++ e ≡ a ++ (b ++ (c ++ e))
-    = ap (λ (z : List ℕ). z ++ e) (cut-two t (w * j) w) ∙ append-assoc a (b ++ c) e ∙ ap (λ (z : List ℕ). a ++ z) (append-assoc b c e) in
+    let q : t ++ e ≡ a ++ (b ++ (c ++ e)) = ap (λ (z : List ℕ). z ++ e) (cut-two t (w * j) w) ∙ simp append-assoc in
     ap (removed w n j) q ∙ removed-parts w n j a b c e la lb (omega (arith, length-drop (w * j + w) t))
 
 -- ---- a list without its thing i
 
 pub without-length : {A : Type 0} (i : ℕ) (xs : List A) → i < length xs → length (without i xs) + 1 ≡ length xs
 without-length i xs h =
-    let a = length-take-le i xs (omega arith) in
-    let b = length-drop (i + 1) xs in
-    let c = length-append (take i xs) (drop (i + 1) xs) in
-    omega arith
+    omega (arith, length-take-le i xs (omega arith), length-drop (i + 1) xs, length-append (take i xs) (drop (i + 1) xs))
 
 pub without-next : {A : Type 0} (x : A) (i : ℕ) (xs : List A) → without (suc i) (x ∷ xs) ≡ x ∷ without i xs
 without-next x i xs = rw (suc-add i 1)
@@ -86,11 +81,8 @@ module _ {A : Type 0} (w k : ℕ) (enc : A → List ℕ) (sized : (x : A) → le
       let m : w * suc len ≤ w * k = mul-le-mul-left w (rw en at h) in
       let d : drop 4 b ≡ c ++ replicate z 0 = ap (drop 4) eb ∙ table-body w k enc xs ∙ table-spread w k enc sized xs (omega arith) in
       let y : w * k - w * length ys ≡ z - w = rw ly (omega arith) in
-      let cy : cells enc ys ≡ c ++ enc x = cells-snoc enc xs x in
       let left : pad (w * k) (cells enc ys) ≡ c ++ (enc x ++ replicate (z - w) 0)
-      = table-spread w k enc sized ys (omega arith)
-      ∙ ap₂ (λ (s : List ℕ) (q : ℕ). s ++ replicate q 0) cy y
-      ∙ append-assoc c (enc x) (replicate (z - w) 0) in
+      = rw (table-spread w k enc sized ys (omega arith), cells-snoc enc xs x, y) (append-assoc c (enc x) (replicate (z - w) 0)) in
       rw (
         en,
         d,
@@ -120,13 +112,15 @@ module _ {A : Type 0} (w k : ℕ) (enc : A → List ℕ) (sized : (x : A) → le
       let d : drop 4 b ≡ t ++ replicate z 0 = ap (drop 4) eb ∙ table-body w k enc xs ∙ table-spread w k enc sized xs (omega arith) in
       let r : removed w len i (t ++ replicate z 0) ≡ a ++ (c ++ (replicate w 0 ++ replicate z 0)) = removed-of w len i t (replicate z 0) lt o in
       let s : w * (i + 1) ≡ w * i + w = omega arith in
-      let cy : cells enc ys ≡ a ++ c
-      = cells-append enc (take i xs) (drop (i + 1) xs)
-      ∙ ap₂ _++_ (cells-take w enc sized i xs) (rw s at (cells-drop w enc sized (i + 1) xs)) in
       let y : w * k - w * length ys ≡ w + z = omega arith in
       let left : pad (w * k) (cells enc ys) ≡ a ++ (c ++ replicate (w + z) 0)
-      = table-spread w k enc sized ys (omega arith)
-      ∙ ap₂ (λ (u : List ℕ) (q : ℕ). u ++ replicate q 0) cy y
-      ∙ append-assoc a c (replicate (w + z) 0) in
+      = rw (
+        table-spread w k enc sized ys (omega arith),
+        y,
+        cells-append enc (take i xs) (drop (i + 1) xs),
+        cells-take w enc sized i xs,
+        cells-drop w enc sized (i + 1) xs,
+        s,
+      ) (append-assoc a c (replicate (w + z) 0)) in
       let e : length ys ≡ len - 1 = omega arith in
       rw (en, d, r, e, left, replicate-append-replicate {A = ℕ} w z 0)

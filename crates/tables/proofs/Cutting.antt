@@ -22,8 +22,6 @@ pub record Shifting (s₀ s : List ℕ) (at w count i : ℕ) : Type 0 where
 
 pub shifting-begins : {s : List ℕ} {at w end : ℕ} → Cell s at w end → Shifting s s at w (end - (at + w)) 0
 shifting-begins {s} {at} {w} {end} c =
-    let h : at + w ≤ end = c .inside in
-    let k : end ≤ length s = c .room in
     record { inside = omega arith; room = omega arith; sized = refl; left = paste-zero s at (drop (at + w) s) }
 
 module _ {s₀ s : List ℕ} {at w count i : ℕ} (g : Shifting s₀ s at w count i) where
@@ -56,8 +54,6 @@ module _ {s₀ s : List ℕ} {at w count i : ℕ} (g : Shifting s₀ s at w coun
 pub shifting-ends : {s₀ s : List ℕ} {at w end i : ℕ} → Shifting s₀ s at w (end - (at + w)) i → Cell s₀ at w end → end - (at + w) ≤ i
     → s ≡ take at s₀ ++ (take (end - (at + w)) (drop (at + w) s₀) ++ drop (end - w) s₀)
 shifting-ends {s₀} {s} {at} {w} {end} {i} g c h =
-    let a : at + w ≤ end = c .inside in
-    let b : i ≤ end - (at + w) = g .inside in
     let e : i ≡ end - (at + w) = omega arith in
     let f : at + (end - (at + w)) ≡ end - w = omega arith in
     g .left
@@ -73,8 +69,6 @@ pub cut-written : (s s₁ z : List ℕ) (at w end : ℕ) → Cell s at w end
     → take (end - w) s₁ ++ (z ++ drop (end - (end - w)) (drop (end - w) s₁)) ≡ cutOut w end at s
 unfolding cutOut
 cut-written s s₁ z at w end c e ez =
-    let a : at + w ≤ end = c .inside in
-    let b : end ≤ length s = c .room in
     let k = end - (at + w) in
     let d = drop (at + w) s in
     let r = drop (end - w) s in
@@ -97,8 +91,6 @@ pub ruleset cutting = (cut-written, needs)
 
 pub remove-cell : (t : List ℕ) (at w end : ℕ) → Cell t (4 + at) w (4 + end) → Cell (take (length t - 4) (drop 4 t)) at w end
 remove-cell t at w end g =
-    let i : 4 + at + w ≤ 4 + end = g .inside in
-    let r : 4 + end ≤ length t = g .room in
     let l : length (take (length t - 4) (drop 4 t)) ≡ length t - 4 = ap length (rest-at 4 t) ∙ length-drop 4 t in
     record { inside = omega arith; room = omega arith }
 
@@ -106,7 +98,6 @@ pub remove-written : (t y t₂ : List ℕ) (at w end n : ℕ) → Cell t (4 + at
     → t₂ ≡ wordBytes n ++ drop 4 (take 4 t ++ (y ++ drop (length t - 4) (drop 4 t)))
     → t₂ ≡ wordBytes n ++ cutOut w end at (drop 4 t)
 remove-written t y t₂ at w end n g ey e =
-    let r : 4 + end ≤ length t = g .room in
     let d = drop (length t - 4) (drop 4 t) in
     let z : d ≡ [] = drop-of-length-le (drop 4 t) {i = length t - 4} (omega (arith, length-drop 4 t)) in
     let q : drop 4 (take 4 t ++ (y ++ d)) ≡ y = drop-at (take 4 t) (y ++ d) 4 (length-take-le 4 t (omega arith)) ∙ rw z (append-nil y) in

@@ -51,7 +51,6 @@ module _ {s₀ ws s : List ℕ} {at k : ℕ} (p : Putting s₀ ws s at k) where
 
   pub putting-ends : length ws ≤ k → s ≡ take at s₀ ++ (cells wordBytes ws ++ drop (at + 4 * length ws) s₀)
   putting-ends h =
-      let i : k ≤ length ws = p .inside in
       let e : k ≡ length ws = omega arith in
       p .left ∙ rw (take-all k ws h, e)
 

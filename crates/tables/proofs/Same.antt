@@ -141,7 +141,6 @@ module _ {A : Type 0} (w : ℕ) (enc : A → List ℕ) (sized : (x : A) → leng
   plain-always always zero d l f = let e : w * 0 ≡ 0 = omega arith in rw e
   plain-always always (suc n) d l f =
       let e : w * suc n ≡ w + w * n = omega arith in
-      let s : w + w * n ≤ length d = rw e at l in
       let b = take w d in
       let q : enc (dec b) ≡ b = always b (length-take-le w d (omega arith)) (bytes-take w d f) in
       let p : same (enc (dec b)) b ≡ true = ap (λ (z : List ℕ). same z b) q ∙ same-refl b in

@@ -13,7 +13,7 @@ use Rattle.tables.specs.Tables.{cells, tableBytes}
 use Rattle.tables.specs.Cut.{Cell, without}
 use Rattle.wire.proofs.Parts.{drop-past, drop-take, part-past, part-nested}
 use Rattle.tables.proofs.Cells.{cells-length}
-use Rattle.tables.proofs.Table.{table-length, table-body, table-spread}
+use Rattle.tables.proofs.Table.{table-body, table-spread}
 use Rattle.tables.proofs.Change.{removed, table-append, table-remove}
 
 -- m with the bytes y for the c at a
@@ -45,7 +45,8 @@ module _ {A : Type 0} (w k : ℕ) (enc : A → List ℕ) (sized : (x : A) → le
       let s : length (take (t + 4) m) ≡ t + 4 = length-take-le (t + 4) m (omega arith) in
       let before : take t m₁ ≡ take t m = ap (take t) q ∙ take-append-le t (take (t + 4) m) (y ++ post) (omega arith) ∙ take-take t (t + 4) m (omega arith) in
       let behind : drop (t + 4) m₁ ≡ y ++ post = ap (drop (t + 4)) q ∙ drop-at (take (t + 4) m) (y ++ post) (t + 4) s in
-      let table : tableBytes w k enc (xs ++ (x ∷ [])) ≡ wordBytes (n + 1) ++ y = rw ed at (table-append w k enc sized xs x (tableBytes w k enc xs) n refl en l) in
+      let table : tableBytes w k enc (xs ++ (x ∷ [])) ≡ wordBytes (n + 1) ++ y
+      = rw ed at (table-append w k enc sized xs x (tableBytes w k enc xs) n refl en l) in
       e₂ ∙ rw (before, behind, table, g) (ap (λ (z : List ℕ). take t m ++ z) (sym (append-assoc (wordBytes (n + 1)) y post)))
 
   -- ---- a thing taken out, by `remove` on the part of m that is the table

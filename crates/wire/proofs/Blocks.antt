@@ -18,7 +18,7 @@ use Rattle.wire.proofs.Ranges.{Divides, range-grows, range-laps, range-
 
 -- ---- the two tests of a range
 
-abbrev zeroes : List ℕ → ℕ → ℕ → Bool
+abbrev pub zeroes : List ℕ → ℕ → ℕ → Bool
 zeroes s a b = allZero (take (b - a) (drop a s))
 
 abbrev equals : List ℕ → List ℕ → ℕ → ℕ → Bool
@@ -31,7 +31,7 @@ cut s a b c h k =
     let f : a + (b - a) ≡ b = omega arith in
     rw (e, take-add (b - a) (c - b) (drop a s), drop-drop (b - a) a s, f)
 
-zeroes-divides : (s : List ℕ) → Divides (zeroes s)
+pub zeroes-divides : (s : List ℕ) → Divides (zeroes s)
 zeroes-divides s a b c h k = rw (cut s a b c h k) (zero-append (take (b - a) (drop a s)) (take (c - b) (drop b s)))
 
 equals-divides : (x y : List ℕ) → length x ≡ length y → Divides (equals x y)

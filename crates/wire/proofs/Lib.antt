@@ -6,5 +6,5 @@ pub mod Parts
 pub mod Words
 mod Runs
 pub mod Ranges
-mod Blocks
+pub mod Blocks
 mod Loads

@@ -1,8 +1,8 @@
 -- A test of the number in four or eight bytes is the test of each of the bytes.
-use mathlib.Core.Path.{_≡_, refl, sym, ap, ap₂, _∙_}
+use mathlib.Core.Path.{_≡_, sym, ap, ap₂, _∙_}
 use mathlib.Core.Bool.{true, _&&_}
 use mathlib.Core.List.{List, [], _∷_, _++_}
-use Prim.Native.Nat.{ℕ, zero, suc, _+_, _*_, _/_, _≤_, _<_}
+use Prim.Native.Nat.{ℕ, _+_, _*_, _/_, _≤_, _<_}
 use native.Mathlib.Omega.{arith}
 use lib.Dec.{eqb}
 use lib.ListN.{length, take, drop, getD, length-take, length-drop}
@@ -13,7 +13,7 @@ use Rattle.wire.specs.Bytes.{allZero, same}
 use Rattle.wire.specs.Words.{joined, wordAt, wordBytes, longAt}
 use Rattle.wire.specs.declared.Order.the-variants.{Little}
 use Rattle.wire.proofs.Texts.{agree, both-first, both-second, zero-append, zero-zeros, same-append, same-eq, eq-same}
-use Rattle.wire.proofs.Words.{Octets, octets-below, four-at, bytes-again, word-below}
+use Rattle.wire.proofs.Words.{Octets, octets-below, four-at, word-four, word-bytes, word-below}
 
 -- ---- eight bytes are four and four
 
@@ -70,38 +70,16 @@ zero-long s at b h =
 
 -- ---- equal
 
--- the bytes of a list of four
-bytes-of : (s : List ℕ) (at : ℕ) → Octets s → (i : ℕ) → getD (getD s at 0 ∷ getD s (at + 1) 0 ∷ getD s (at + 2) 0 ∷ getD s (at + 3) 0 ∷ []) i 0 < 256
-bytes-of s at b zero = b at .fits
-bytes-of s at b (suc zero) = b (at + 1) .fits
-bytes-of s at b (suc (suc zero)) = b (at + 2) .fits
-bytes-of s at b (suc (suc (suc zero))) = b (at + 3) .fits
-bytes-of s at b (suc (suc (suc (suc i)))) = omega arith
-
--- four bytes are those of their number
-again : (s : List ℕ) (at : ℕ) → Octets s → at + 4 ≤ length s → wordBytes (wordAt Little s at) ≡ take 4 (drop at s)
-unfolding wordAt
-again s at b h =
-    rw (four-at s at h)
-    (bytes-again (getD s at 0 ∷ getD s (at + 1) 0 ∷ getD s (at + 2) 0 ∷ getD s (at + 3) 0 ∷ []) refl (bytes-of s at b))
-
--- and say their number
-number : List ℕ → ℕ
-number l = joined (getD l 0 0) (getD l 1 0) (getD l 2 0) (getD l 3 0)
-
-numbered : (s : List ℕ) (at : ℕ) → at + 4 ≤ length s → number (take 4 (drop at s)) ≡ wordAt Little s at
-unfolding wordAt number
-numbered s at h = rw (four-at s at h)
-
 module _ (x y : List ℕ) (at : ℕ) (b : Octets x) (c : Octets y) where
   pub same-word : at + 4 ≤ length x → at + 4 ≤ length y
       → eqb (wordAt Little x at) (wordAt Little y at) ≡ same (take 4 (drop at x)) (take 4 (drop at y))
   same-word h k =
       agree (eqb (wordAt Little x at) (wordAt Little y at)) (same (take 4 (drop at x)) (take 4 (drop at y)))
       (λ e. eq-same (take 4 (drop at x)) (take 4 (drop at y))
-      (sym (again x at b h) ∙ ap wordBytes (eqb-true (wordAt Little x at) (wordAt Little y at) e) ∙ again y at c k))
+      (sym (word-bytes x at (octets-below x b) h) ∙ ap wordBytes (eqb-true (wordAt Little x at) (wordAt Little y at) e)
+      ∙ word-bytes y at (octets-below y c) k))
       (λ e. eq-eqb (wordAt Little x at) (wordAt Little y at)
-      (sym (numbered x at h) ∙ ap number (same-eq (take 4 (drop at x)) (take 4 (drop at y)) e) ∙ numbered y at k))
+      (sym (word-four x at) ∙ ap (λ (l : List ℕ). wordAt Little l 0) (same-eq (take 4 (drop at x)) (take 4 (drop at y)) e) ∙ word-four y at))
 
 module _ (x y : List ℕ) (at : ℕ) (b : Octets x) (c : Octets y) where
   pub same-long : at + 8 ≤ length x → at + 8 ≤ length y → eqb (longAt x at) (longAt y at) ≡ same (take 8 (drop at x)) (take 8 (drop at y))

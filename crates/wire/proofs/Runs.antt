@@ -33,13 +33,11 @@ module _ {a b : List ℕ} {i : ℕ} (z : Alike a b i) where
   pub alike-stop : i < length a → (getD a i 0 ≡ getD b i 0 → ⊥) → false ≡ same a b
   unfolding same
   alike-stop h e =
-      let l : length a ≡ length b = z .long in
       sym (z .left ∙ rw (next a i h, next b i (omega arith), ne-eqb (getD a i 0) (getD b i 0) e))
 
   pub alike-end : length a ≤ i → true ≡ same a b
   unfolding same
   alike-end h =
-      let l : length a ≡ length b = z .long in
       sym (z .left ∙ rw (past a i h, past b i (omega arith)))
 
 pub ruleset alike = (alike-begin, alike-more, alike-stop, alike-end, needs)
@@ -71,7 +69,6 @@ module _ {d₀ src d : List ℕ} {i : ℕ} (z : Copying d₀ src d i) where
 
   pub copying-end : length src ≤ i → d ≡ src
   copying-end h =
-      let w : length d₀ ≡ length src = z .whole in
       let k : i ≡ length src = le-antisymm (z .inside) h in
       z .left ∙ rw (drop-of-length-le d₀ {i = i} (omega arith), append-nil {A = ℕ}, k, take-length)
 
@@ -95,7 +92,6 @@ module _ {s₀ s : List ℕ} {i : ℕ} (z : Wiping s₀ s i) where
 
   pub wiping-end : length s ≤ i → s ≡ replicate (length s₀) 0
   wiping-end h =
-      let l : length s ≡ length s₀ = z .sized in
       let k : i ≡ length s₀ = le-antisymm (z .inside) (omega arith) in
       z .left ∙ rw (drop-of-length-le s₀ {i = i} (omega arith), append-nil {A = ℕ}, k)
 

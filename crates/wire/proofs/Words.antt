@@ -1,11 +1,11 @@
 -- Numbers and their bytes.
 use mathlib.Core.Path.{_≡_, refl, ap, _∙_}
 use mathlib.Core.List.{List, [], _∷_, _++_, append-assoc}
-use Prim.Native.Nat.{ℕ, suc, _+_, _-_, _*_, _/_, _%_, _^_, _≤_, _<_}
+use Prim.Native.Nat.{ℕ, zero, suc, _+_, _-_, _*_, _/_, _%_, _^_, _≤_, _<_}
 use native.Mathlib.Omega.{arith}
-use native.Mathlib.Nat.{add-sub-cancel-left}
+use native.Mathlib.Nat.{add-zero, add-sub-cancel-left}
 use lib.ListN.{length, take, drop, set, getD, length-drop}
-use lib.Seq.{sets-eq, drop-drop, getD-drop, getD-take, take-all}
+use lib.Seq.{sets-eq, drop-drop, getD-drop, getD-take, take-all, length-take-le}
 use mir.Syntax.{w8}
 use mir.Val.{Fits}
 use Rattle.wire.specs.Bytes.{Below}
@@ -38,18 +38,14 @@ bytes-again (a ∷ []) e h = absurd (omega arith)
 bytes-again (a ∷ b ∷ []) e h = absurd (omega arith)
 bytes-again (a ∷ b ∷ c ∷ []) e h = absurd (omega arith)
 bytes-again (a ∷ b ∷ c ∷ d ∷ []) e h =
-    let ha : a < 256 = h 0 in
-    let hb : b < 256 = h 1 in
-    let hc : c < 256 = h 2 in
-    let hd : d < 256 = h 3 in
     let n = a + 256 * b + 65536 * c + 16777216 * d in
-    let p : n % 256 ≡ a = omega arith in
-    let q : n / 256 ≡ b + 256 * c + 65536 * d = omega arith in
-    let r : (b + 256 * c + 65536 * d) % 256 ≡ b = omega arith in
-    let s : (b + 256 * c + 65536 * d) / 256 ≡ c + 256 * d = omega arith in
-    let t : (c + 256 * d) % 256 ≡ c = omega arith in
-    let u : (c + 256 * d) / 256 ≡ d = omega arith in
-    let v : d % 256 ≡ d = omega arith in
+    let p : n % 256 ≡ a = omega (arith, h 0) in
+    let q : n / 256 ≡ b + 256 * c + 65536 * d = omega (arith, h 0) in
+    let r : (b + 256 * c + 65536 * d) % 256 ≡ b = omega (arith, h 1) in
+    let s : (b + 256 * c + 65536 * d) / 256 ≡ c + 256 * d = omega (arith, h 1) in
+    let t : (c + 256 * d) % 256 ≡ c = omega (arith, h 2) in
+    let u : (c + 256 * d) / 256 ≡ d = omega (arith, h 2) in
+    let v : d % 256 ≡ d = omega (arith, h 3) in
     rw (p, q, r, s, t, u, v)
 bytes-again (a ∷ b ∷ c ∷ d ∷ f ∷ g) e h = absurd (omega arith)
 
@@ -77,6 +73,26 @@ pub word-below : (o : Order) (s : List ℕ) (at : ℕ) → Below 256 s → wordA
 unfolding wordAt
 word-below Little s at b = omega (arith, b at, b (at + 1), b (at + 2), b (at + 3))
 word-below Big s at b = omega (arith, b at, b (at + 1), b (at + 2), b (at + 3))
+
+-- ---- parts of bytes
+
+pub below-take : (n : ℕ) (s : List ℕ) → Below 256 s → Below 256 (take n s)
+below-take zero s b i = omega arith
+below-take (suc n) [] b i = omega arith
+below-take (suc n) (x ∷ s) b zero = b 0
+below-take (suc n) (x ∷ s) b (suc i) = below-take n s (λ j. b (suc j)) i
+
+pub below-drop : (n : ℕ) (s : List ℕ) → Below 256 s → Below 256 (drop n s)
+below-drop n s b i = rw (getD-drop n s i 0) (b (n + i))
+
+-- the four bytes at a place say the number there, and are those of it
+pub word-four : (s : List ℕ) (at : ℕ) → wordAt Little (take 4 (drop at s)) 0 ≡ wordAt Little s at
+word-four s at = word-take Little 4 (drop at s) 0 (omega arith) ∙ word-drop Little s at 0 ∙ rw add-zero
+
+pub word-bytes : (s : List ℕ) (at : ℕ) → Below 256 s → at + 4 ≤ length s → wordBytes (wordAt Little s at) ≡ take 4 (drop at s)
+word-bytes s at b h =
+    let l : length (take 4 (drop at s)) ≡ 4 = length-take-le 4 (drop at s) (omega (arith, length-drop at s)) in
+    rw (← word-four s at) (bytes-again (take 4 (drop at s)) l (below-take 4 (drop at s) (below-drop at s b)))
 
 -- the four bytes that a number is read from
 pub four-at : (s : List ℕ) (at : ℕ) → at + 4 ≤ length s
