@@ -114,7 +114,8 @@ module _ {image : List ℕ} {direction : ℕ} {uid : Uid} {gids names head : Lis
             → eqb (rule .verdict) 1 ≡ mayTransact image direction uid gids (namesIn names) (messageOf head m)
         unfolding mayTransact
         yes e =
-            search-found (u .rules) z (eqb-true (rule .context) context (both-first (eqb (rule .context) context) (eqb (rule .direction) direction) t)) (named e)
+            search-found (u .rules) z (eqb-true (rule .context) context (both-first (eqb (rule .context) context) (eqb (rule .direction) direction) t))
+            (named e)
 
         module _ {name : List ℕ} (is : name ≡ textOf image (rule .name)) where
           len : length name ≡ rule .name .len

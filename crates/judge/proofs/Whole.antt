@@ -102,9 +102,6 @@ module _ {image m : List ℕ} {i : ℕ} {head : List ℕ} {x : Header} (a : Judg
   judge-other b h q = rw (lt-ltb 4 (x .kind) h) (left-as-is (a .sender) b q)
 
   module _ {d : Destination} (s : Resolved m head (x .destination) d) where
-    pub stands : Stands m d
-    stands = s .stands
-
     module _ (h : x .kind ≤ 4) {r : Judgement} {m′ : List ℕ} where
       pub judge-reply : isReply x ≡ true → Replies m i d x r m′ → Judges image m i head x r m′
       unfolding judged
@@ -114,4 +111,4 @@ module _ {image m : List ℕ} {i : ℕ} {head : List ℕ} {x : Header} (a : Judg
       unfolding judged
       judge-direct t w = rw (le-ltb 4 (x .kind) h, t, ← s .is) (w .left)
 
-pub ruleset judging = (seeks-of, judge-other, asked, stands, judge-reply, judge-direct, needs)
+pub ruleset judging = (seeks-of, judge-other, asked, judge-reply, judge-direct, needs)

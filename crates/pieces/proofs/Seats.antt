@@ -22,13 +22,14 @@ use Rattle.memory.specs.Layout.{memoryLength, slotStart, takenAt, headAt, first
 use Rattle.memory.specs.Encoding.{headBytes, streamBytes, memoryOf, stateOf}
 use Rattle.memory.specs.Sound.{Sound}
 use Rattle.memory.proofs.Reading.{slot-peer}
-use Rattle.memory.proofs.Held.{held-peer, held-counted, Counted}
+use Rattle.memory.proofs.Held.{held-peer}
 use Rattle.memory.proofs.Fields.{stream-bytes}
 use Rattle.memory.proofs.Good.{good-sound}
 use Rattle.memory.proofs.Puts.{part-of, stream-put}
 use Rattle.sound.proofs.Kept.{Fine}
 use Rattle.sound.proofs.Put.{peer-fine}
 use Rattle.slots.specs.Slots.{peerAt, Seated}
+use Rattle.slots.proofs.Found.{counted}
 use Rattle.pieces.specs.Fed.{streamIn, Opens, Fed, FedAt, cleared, behindIn}
 
 fresh-bytes : streamBytes fresh ≡ replicate streamLength 0
@@ -44,9 +45,6 @@ module _ (m : List ℕ) (f : Octets m) (i : ℕ) (s : Seated m i) where
 
   pub fine : Fine (stateOf m .last) (peerAt m i)
   fine = peer-fine (stateOf m) i (peerAt m i) sound peer-is
-
-  counts : Counted m (slotStart i)
-  counts = held-counted m i (s .held) (s .below) (s .some)
 
   -- the bytes of its stream
   part-is : take streamLength (drop (slotStart i + takenAt) m) ≡ streamBytes (peerAt m i .stream)
@@ -106,7 +104,7 @@ module _ (m : List ℕ) (f : Octets m) (i : ℕ) (s : Seated m i) where
   tail-at : (t n : ℕ) → t ≡ wordAt Little m (slotStart i + takenAt) → n ≡ wordAt Little m (slotStart i + headAt)
       → tailOf (take (slotStart i + firstByte + headRoom - (slotStart i + firstByte)) (drop (slotStart i + firstByte) m)) t n ≡ peerAt m i .stream
   tail-at t n p q =
-      let k : n ≤ headRoom = rw (← q) at (counts .small) in
+      let k : n ≤ headRoom = rw (← q) at (counted m i s .small) in
       let e : min (wordAt Little m (slotStart i + headAt)) headRoom ≡ n = omega arith in
       rw (cut-at (slotStart i + firstByte) headRoom m, e, ← p)
       (ap (λ (h : List ℕ). record { taken = t; head = h }) (take-take n headRoom (drop (slotStart i + firstByte) m) k))
@@ -120,7 +118,7 @@ module _ (m : List ℕ) (f : Octets m) (i : ℕ) (s : Seated m i) where
               cut-at (slotStart i + firstByte) headRoom m,
               length-take-le headRoom (drop (slotStart i + firstByte) m) (omega (arith, length-drop (slotStart i + firstByte) m, s .sized, s .below)),
             )
-            (rw (← q) at (counts .small));
+            (rw (← q) at (counted m i s .small));
         good = ap goodTail (tail-at t n p q) ∙ fine .tail;
       }
 
