@@ -1,6 +1,6 @@
 -- A stream's bytes: whole messages, cut by their own lengths, and then one that is not whole; and where a head breaks.
 use mathlib.Core.Path.{_≡_, refl, sym, ap, _∙_, subst}
-use mathlib.Core.Bool.{true, false, cond}
+use mathlib.Core.Bool.{true, false}
 use mathlib.Core.List.{List, [], _∷_, _++_, append-assoc, append-nil}
 use Prim.Native.Nat.{ℕ, zero, suc, _+_, _≤_, _<_, min}
 use native.Mathlib.Omega.{arith}
@@ -11,11 +11,12 @@ use borrow.Author.Tests.{eqb-true, lt-ltb, le-ltb, ltb-false}
 use Rattle.wire.proofs.Texts.{both-first, both-second}
 use Rattle.header.proofs.Readings.{read-front, whole-fits}
 use Rattle.stream.specs.Stream.{Verdict, broken, whole}
-use Rattle.stream.specs.Tail.{Tail, headEnd, fresh, judge, fitting, goodTail, brokenAt}
+use Rattle.stream.specs.Tail.{Tail, headEnd, judge, fitting, goodTail, brokenAt}
 use Rattle.book.specs.Book.{firstVerdict, isWhole, size, past, cutOff, current, keptTail, tailView}
 use Rattle.book.specs.Split.{joinedPieces}
 use Rattle.book.specs.Messages.{WholeMessage, Messages, Parted}
 use Rattle.book.proofs.Cut.{begins-whole, whole-begins, whole-append, whole-some, whole-reached, past-few, front-none, cut-step, cut-stops, cut-enough}
+use Rattle.book.proofs.Tails.{fresh-view}
 use Rattle.rules.proofs.Tests.{by-test}
 
 -- ---- messages one after the other
@@ -128,21 +129,12 @@ parted xs =
 -- and of that one the guard has the count and the head, however the stream is parted so
 pub tail-behind : (ms : List (List ℕ)) (ys : List ℕ) → Messages ms → isWhole (firstVerdict ys) ≡ false → tailView (joinedPieces ms ++ ys) ≡ keptTail ys
 tail-behind [] ys w u = let e = current-first ys (rw u) in rw (e, u)
-tail-behind (m ∷ ms) ys w u = go (joinedPieces ms ++ ys) refl (tail-behind ms ys (w .1) u)
-  where
-    none : (zs : List ℕ) → joinedPieces ms ++ zs ≡ [] → zs ≡ []
-    none [] e = refl
-    none (b ∷ zs) e = let l = length-append (joinedPieces ms) (b ∷ zs) in let n : length (joinedPieces ms ++ (b ∷ zs)) ≡ 0 = ap length e in absurd (omega arith)
-
-    go : (zs : List ℕ) → joinedPieces ms ++ ys ≡ zs → tailView (joinedPieces ms ++ ys) ≡ keptTail ys → tailView (joinedPieces (m ∷ ms) ++ ys) ≡ keptTail ys
-    go [] e ih =
-        let c : current m ≡ m = current-first m (message-alone m (w .0)) in
-        ap tailView (append-assoc m (joinedPieces ms) ys ∙ ap (_++_ m) e ∙ append-nil m) ∙ rw (c, message-whole m (w .0)) (sym (ap keptTail (none ys e)))
-    go (b ∷ zs) e ih =
-        let n : length (joinedPieces ms ++ ys) ≡ length (b ∷ zs) = ap length e in
-        ap tailView (append-assoc m (joinedPieces ms) ys)
-        ∙ ap (λ (c : List ℕ). cond (isWhole (firstVerdict c)) fresh (keptTail c)) (message-then m (w .0) (joinedPieces ms ++ ys) (omega arith))
-        ∙ ih
+tail-behind (m ∷ ms) ys w u =
+    rw (append-assoc m (joinedPieces ms) ys)
+    ((elim (joinedPieces ms ++ ys) as (λ (zs : List ℕ). tailView zs ≡ keptTail ys → tailView (m ++ zs) ≡ keptTail ys) [
+      | [] ↦ λ i. rw (append-nil m, current-first m (message-alone m (w .0)), message-whole m (w .0)) (fresh-view ∙ i)
+      | b ∷ zs ↦ λ i. rw (message-then m (w .0) (b ∷ zs) (omega arith)) i
+    ]) (tail-behind ms ys (w .1) u))
 
 -- ---- where a head breaks
 
