@@ -1,5 +1,5 @@
 -- A piece offered whole comes to its bytes offered one by one: over any step that a piece makes, of which four laws are asked.
-use mathlib.Core.Path.{_≡_, refl, sym, ap, _∙_}
+use mathlib.Core.Path.{_≡_, refl, _∙_}
 use mathlib.Core.Bool.{true, false, false≢true}
 use mathlib.Core.List.{List, [], _∷_, _++_, append-assoc, append-nil}
 use Prim.Native.Nat.{ℕ, suc}
@@ -65,20 +65,14 @@ module _ {S : Type 0} (step : State S → List ℕ → Step S Taken) where
   unfolding bytewise
   bytewise-append s [] q = refl
   bytewise-append s (b ∷ p) q =
-      let vs = said (step s (b ∷ []) .result) in
       let t = step s (b ∷ []) .state in
-      ap (saidBefore vs) (bytewise-append t p q)
-      ∙ ap (λ (l : List Judgement). record { said = l; state = bytewise (bytewise t p .state) q .state })
-      (sym (append-assoc vs (bytewise t p .said) (bytewise (bytewise t p .state) q .said)))
+      rw (bytewise-append t p q, append-assoc (said (step s (b ∷ []) .result)) (bytewise t p .said) (bytewise (bytewise t p .state) q .said))
 
   -- what refuses is silent
   pub refused-silent : (s : State S) (p : List ℕ) → Refuses s → bytewise s p ≡ record { said = []; state = s }
   unfolding bytewise
   refused-silent s [] r = refl
-  refused-silent s (b ∷ p) r =
-      ap (λ (z : Step S Taken). saidBefore (said (z .result)) (bytewise (z .state) p)) (r .refused (b ∷ []))
-      ∙ ap (λ (l : List Judgement). saidBefore l (bytewise s p)) (r .silent)
-      ∙ refused-silent s p r
+  refused-silent s (b ∷ p) r = rw (r .refused (b ∷ []), r .silent) (refused-silent s p r)
 
   -- what a call with the piece p gives, and then the bytes that it left
   abbrev pub call-then : List ℕ → Step S Taken → Offering S
@@ -87,17 +81,12 @@ module _ {S : Type 0} (step : State S → List ℕ → Step S Taken) where
   module _ (laws : Laws) where
     pub call-first : (s : State S) (p : List ℕ) → bytewise s p ≡ call-then p (step s p)
     unfolding bytewise
-    call-first s [] =
-        elim (laws .idle s) [
-          | idle-refuses r ↦ sym (ap (call-then []) (r .refused []) ∙ ap (λ (l : List Judgement). saidBefore l (bytewise s [])) (r .silent))
-          | idles e ↦ sym (ap (call-then []) e)
-        ]
+    call-first s [] = elim (laws .idle s) [ idle-refuses r ↦ rw (r .refused [], r .silent) | idles e ↦ rw e ]
     call-first s (b ∷ p) =
-        let t = step s (b ∷ []) .state in
         elim (laws .way s b p) [
-          | refuses r ↦ sym (ap (call-then (b ∷ p)) (r .refused (b ∷ p)) ∙ ap (λ (l : List Judgement). saidBefore l (bytewise s (b ∷ p))) (r .silent))
-          | joins q e ↦ ap (λ (l : List Judgement). saidBefore l (bytewise t p)) q ∙ call-first t p ∙ sym (ap (call-then (b ∷ p)) e)
-          | decides e k f ↦ sym (ap (call-then (b ∷ p)) e ∙ ap (λ (n : ℕ). saidBefore (said (step s (b ∷ []) .result)) (bytewise t (drop n (b ∷ p)))) k)
+          | refuses r ↦ rw (r .refused (b ∷ p), r .silent)
+          | joins q e ↦ rw (e, q) (call-first (step s (b ∷ []) .state) p)
+          | decides e k f ↦ rw (e, k)
         ]
 
     -- an answer that ends an offering leaves a state that refuses

@@ -16,6 +16,7 @@ use Rattle.rules.specs.declared.Taken.{Taken}
 use Rattle.rules.specs.declared.Gone.{Gone}
 use Rattle.rules.specs.View.{seenPeer, seenSlot, seen}
 use Rattle.rules.proofs.View.{slot-seen}
+use Rattle.rules.proofs.Tests.{by-test}
 use Rattle.rules.proofs.First.{taken-below, number-found}
 use Rattle.rules.specs.Awaited.{isWaiting, isAwaited}
 use Rattle.rules.proofs.Replies.{gone-unawaited}
@@ -118,11 +119,9 @@ module _ {cs : List Call} {m : List ℕ} (run : Reached m cs) where
           ∙ ap (λ (c : Bool). cond c 0 24) (sym (ap (λ (s : State Tail). isAwaited s n h x) (held-state (reached-holds run)) ∙ awaited-seen tailView now n h x))
 
       passed-awaited : r .judgement .answer ≡ 0 → isAwaited now n h x ≡ true
-      passed-awaited z = go (isAwaited now n h x) (sym (said ∙ piece-reply now image n bytes h x ends reply) ∙ z)
-        where
-          go : (c : Bool) → _≡_ {A = ℕ} (cond c 0 24) 0 → c ≡ true
-          go true q = refl
-          go false q = absurd (omega arith)
+      passed-awaited z =
+          by-test (isAwaited now n h x) (λ e. e)
+          (λ e. let q : 24 ≡ 0 = rw e at (sym (said ∙ piece-reply now image n bytes h x ends reply) ∙ z) in absurd (omega arith))
 
       -- and the same reply, sent again at once, does not
       pub second-reply-24 : r .judgement .answer ≡ 0 → {other bytes′ d : List ℕ} {q : Taken} → Ran e d (offers other n bytes′) (taken q)

@@ -39,14 +39,13 @@ module _ (xs : List ℕ) where
   begins-whole x w = rw (w .read, le-ltb (length xs) (x .head + x .body) (w .reached))
 
   pub whole-begins : isWhole (firstVerdict xs) ≡ true → (x : Header) × Begins xs x
-  whole-begins e = go (readHeader xs) refl e
-    where
-      go : (r : Reading) → readHeader xs ≡ r → isWhole (finished (length xs) xs r) ≡ true → (x : Header) × Begins xs x
-      go Short r q = absurd (false≢true q)
-      go (Broken a) r q = absurd (false≢true q)
-      go (Whole x) r q =
-          choice (λ (v : Verdict). isWhole v ≡ true → (x : Header) × Begins xs x) (ltb (length xs) (x .head + x .body)) _ _
-          (λ l p. absurd (false≢true p)) (λ l p. (x, record { read = r; reached = ltb-false (length xs) (x .head + x .body) l })) q
+  whole-begins e =
+      (elim (readHeader xs) as (λ (r : Reading). readHeader xs ≡ r → isWhole (finished (length xs) xs r) ≡ true → (x : Header) × Begins xs x) [
+        | Short ↦ λ r q. absurd (false≢true q)
+        | Broken a ↦ λ r q. absurd (false≢true q)
+        | Whole x ↦ λ r. choice (λ (v : Verdict). isWhole v ≡ true → (x : Header) × Begins xs x) (ltb (length xs) (x .head + x .body)) _ _
+            (λ l p. absurd (false≢true p)) (λ l p. (x, record { read = r; reached = ltb-false (length xs) (x .head + x .body) l }))
+      ]) refl e
 
   begins-size : (x : Header) → Begins xs x → size (firstVerdict xs) ≡ x .head + x .body
   begins-size x w = ap size (begins-whole x w)

@@ -100,7 +100,8 @@ module _ {m : List ℕ} (b : State (List ℕ)) (h : Holds m b) where
       meets-image connected h noConnect (λ s. connect tails image s uid gids) (connect books image b uid gids)
       (connect-seen books tails tailView simulates image b uid gids) (connect-sound v uid gids (h .sound) u (every-below 4294967296 gids w) image) image d
   one (ran-own {image} {n} {name} d) =
-      meets-image plain h (λ a. a) (λ s. own image s n name) (own image b n name) (own-seen tailView b image n name) (own-sound v (h .sound) image n name) image d
+      meets-image plain h (λ a. a) (λ s. own image s n name) (own image b n name) (own-seen tailView b image n name)
+      (own-sound v (h .sound) image n name) image d
   one (ran-release {n} {name} d) =
       meets-memory plain h (λ a. a) (λ s. release s n name) (release b n name) (release-seen tailView b n name) (release-sound v (h .sound) n name) d
   one (ran-piece {image} {n} {bytes} w d) =

@@ -1,6 +1,6 @@
 -- A stream's bytes: whole messages, cut by their own lengths, and then one that is not whole; and where a head breaks.
 use mathlib.Core.Path.{_≡_, refl, sym, ap, _∙_, subst}
-use mathlib.Core.Bool.{Bool, true, false, cond, false≢true}
+use mathlib.Core.Bool.{true, false}
 use mathlib.Core.List.{List, [], _∷_, _++_, append-assoc, append-nil}
 use Prim.Native.Nat.{ℕ, zero, suc, _+_, _≤_, _<_, min}
 use native.Mathlib.Omega.{arith}
@@ -8,21 +8,16 @@ use lib.Dec.{eqb, ltb}
 use lib.ListN.{length, take, drop, length-append, length-drop, take-append-drop}
 use lib.Seq.{drop-at, length-take-le, take-all}
 use borrow.Author.Tests.{eqb-true, lt-ltb, le-ltb, ltb-false}
-use Rattle.wire.proofs.Texts.{impossible, both-first, both-second}
-use Rattle.header.specs.declared.Reading.{Reading}
-use Rattle.header.specs.declared.Reading.the-variants.{Short, Broken, Whole}
-use Rattle.header.specs.Header.{readHeader}
-use Rattle.header.proofs.Readings.{read-few, read-front, read-append, whole-fits}
+use Rattle.wire.proofs.Texts.{both-first, both-second}
+use Rattle.header.proofs.Readings.{read-front, whole-fits}
 use Rattle.stream.specs.Stream.{Verdict, broken, whole}
-use Rattle.stream.specs.Tail.{Tail, finished, isBroken, headEnd, fresh, judge, fitting, goodTail, brokenAt}
-use Rattle.stream.proofs.Pushes.{breaks}
-use Rattle.book.specs.Book.{firstVerdict, isWhole, size, past, cutOff, current, books, keptTail, tailView}
+use Rattle.stream.specs.Tail.{Tail, headEnd, judge, fitting, goodTail, brokenAt}
+use Rattle.book.specs.Book.{firstVerdict, isWhole, size, past, cutOff, current, keptTail, tailView}
 use Rattle.book.specs.Split.{joinedPieces}
 use Rattle.book.specs.Messages.{WholeMessage, Messages, Parted}
-use Rattle.book.proofs.Cut.{snoc, begins-whole, whole-begins, whole-append, whole-some, whole-reached, past-few, front-none, cut-step, cut-stops}
-use Rattle.book.proofs.Cut.{cut-enough, current-snoc}
+use Rattle.book.proofs.Cut.{begins-whole, whole-begins, whole-append, whole-some, whole-reached, past-few, front-none, cut-step, cut-stops, cut-enough}
+use Rattle.book.proofs.Tails.{fresh-view}
 use Rattle.rules.proofs.Tests.{by-test}
-use Rattle.sound.proofs.Numbers.{broken-read}
 
 -- ---- messages one after the other
 
@@ -49,15 +44,7 @@ module _ (m : List ℕ) (w : WholeMessage m) where
       cut-enough k (suc k) (m ++ ys) (omega arith) (omega arith) ∙ cut-step k (m ++ ys) p
       ∙ ap (cutOff k) (drop-at m ys (size (firstVerdict (m ++ ys))) (sym (ap size a ∙ message-size))) ∙ cut-enough k (length ys) ys (omega arith) (omega arith)
 
--- however many have come: the current message is that of the bytes behind them
-pub current-behind : (ms : List (List ℕ)) (ys : List ℕ) → Messages ms → 0 < length ys → current (joinedPieces ms ++ ys) ≡ current ys
-current-behind [] ys w l = refl
-current-behind (m ∷ ms) ys w l =
-    ap current (append-assoc m (joinedPieces ms) ys)
-    ∙ message-then m (w .0) (joinedPieces ms ++ ys) (omega (arith, length-append (joinedPieces ms) ys))
-    ∙ current-behind ms ys (w .1) l
-
--- and every stream is such: whole messages, and then the current one
+-- every stream is whole messages, and then the current one
 pub record Cut (xs ys : List ℕ) : Type 0 where
   pub messages : List (List ℕ)
   pub are : Messages messages
@@ -142,49 +129,14 @@ parted xs =
 -- and of that one the guard has the count and the head, however the stream is parted so
 pub tail-behind : (ms : List (List ℕ)) (ys : List ℕ) → Messages ms → isWhole (firstVerdict ys) ≡ false → tailView (joinedPieces ms ++ ys) ≡ keptTail ys
 tail-behind [] ys w u = let e = current-first ys (rw u) in rw (e, u)
-tail-behind (m ∷ ms) ys w u = go (joinedPieces ms ++ ys) refl (tail-behind ms ys (w .1) u)
-  where
-    none : (zs : List ℕ) → joinedPieces ms ++ zs ≡ [] → zs ≡ []
-    none [] e = refl
-    none (b ∷ zs) e = let l = length-append (joinedPieces ms) (b ∷ zs) in let n : length (joinedPieces ms ++ (b ∷ zs)) ≡ 0 = ap length e in absurd (omega arith)
-
-    go : (zs : List ℕ) → joinedPieces ms ++ ys ≡ zs → tailView (joinedPieces ms ++ ys) ≡ keptTail ys → tailView (joinedPieces (m ∷ ms) ++ ys) ≡ keptTail ys
-    go [] e ih =
-        let c : current m ≡ m = current-first m (message-alone m (w .0)) in
-        ap tailView (append-assoc m (joinedPieces ms) ys ∙ ap (_++_ m) e ∙ append-nil m) ∙ rw (c, message-whole m (w .0)) (sym (ap keptTail (none ys e)))
-    go (b ∷ zs) e ih =
-        let n : length (joinedPieces ms ++ ys) ≡ length (b ∷ zs) = ap length e in
-        ap tailView (append-assoc m (joinedPieces ms) ys)
-        ∙ ap (λ (c : List ℕ). cond (isWhole (firstVerdict c)) fresh (keptTail c)) (message-then m (w .0) (joinedPieces ms ++ ys) (omega arith))
-        ∙ ih
+tail-behind (m ∷ ms) ys w u =
+    rw (append-assoc m (joinedPieces ms) ys)
+    ((elim (joinedPieces ms ++ ys) as (λ (zs : List ℕ). tailView zs ≡ keptTail ys → tailView (m ++ zs) ≡ keptTail ys) [
+      | [] ↦ λ i. rw (append-nil m, current-first m (message-alone m (w .0)), message-whole m (w .0)) (fresh-view ∙ i)
+      | b ∷ zs ↦ λ i. rw (message-then m (w .0) (b ∷ zs) (omega arith)) i
+    ]) (tail-behind ms ys (w .1) u))
 
 -- ---- where a head breaks
-
--- an open stream that a byte breaks has just so many bytes of the broken message: 16 for 1 to 6, and the head's length for 7 to 9
-pub breaks-where : (xs : List ℕ) (b a : ℕ) → books .closed xs ≡ false → books .judge (snoc xs b) ≡ broken a
-    → length (current (snoc xs b)) ≡ brokenAt a (current (snoc xs b))
-breaks-where xs b a c j =
-    subst (λ (y : List ℕ). length y ≡ brokenAt a y) (sym (current-snoc xs b))
-    (go (isWhole (firstVerdict (current xs))) refl (ap firstVerdict (sym (current-snoc xs b)) ∙ j))
-  where
-    h : List ℕ
-    h = current xs
-
-    read : (y : List ℕ) → firstVerdict y ≡ broken a → readHeader y ≡ Broken a
-    read y q = broken-read (length y) y a q
-
-    short : readHeader (snoc h b) ≡ Broken a → (r : Reading) → readHeader h ≡ r → readHeader h ≡ Short
-    short q Short e = e
-    short q (Broken n) e = absurd (false≢true (sym c ∙ ap (λ (r : Reading). isBroken (finished (length h) h r)) e))
-    short q (Whole x) e =
-        let u : readHeader (snoc h b) ≡ Whole x = read-append h (b ∷ []) (λ s. let v : Whole x ≡ Short = sym e ∙ s in impossible cc) ∙ e in
-        let v : Whole x ≡ Broken a = sym u ∙ q in
-        impossible cc
-
-    go : (w : Bool) → isWhole (firstVerdict h) ≡ w → firstVerdict (cond w (b ∷ []) (snoc h b)) ≡ broken a
-        → length (cond w (b ∷ []) (snoc h b)) ≡ brokenAt a (cond w (b ∷ []) (snoc h b))
-    go true e q = breaks [] b (read-few [] (omega arith)) a (read (b ∷ []) q)
-    go false e q = let r = read (snoc h b) q in breaks h b (short r (readHeader h) refl) a r
 
 -- a head in good memory is broken at its last byte
 pub good-broken : (t : Tail) (a : ℕ) → goodTail t ≡ true → judge t ≡ broken a → t .taken ≡ brokenAt a (t .head)

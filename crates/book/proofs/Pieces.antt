@@ -88,13 +88,15 @@ module _ {S : Type 0} (O : Streams S) where
     pub piece-breaks : (a : ℕ) → pieceUnder .result .judgement .answer ≡ a → 1 ≤ a → a ≤ 9 → Breaks a
     piece-breaks a e l k =
         let t = low-takes (omega arith) in
-        let p = t .sender in
-        let o = offer O (p .stream) bytes in
-        let q = withStream p (settled O (o .verdict) (o .stream)) in
+        let o = offer O (t .sender .stream) bytes in
         let c = takes-is t in
-        let v = fault-broken image (putSlot s place (peer q)) place q (o .taken) (o .verdict) a
-        (sym (ap (λ (z : Step S Taken). z .result .judgement .answer) c) ∙ e) l k in
-        record { takes = t; stream = o .stream; reads = offer-judged O (broken a) (λ q. impossible cc) (p .stream) bytes v; state = ap (λ (z : Step S Taken). z .state) (c ∙ ap (comes p) v) }
+        let v = fault-broken image _ place _ _ (o .verdict) a (sym (ap (λ (z : Step S Taken). z .result .judgement .answer) c) ∙ e) l k in
+        record {
+          takes = t;
+          stream = o .stream;
+          reads = offer-judged O (broken a) (λ q. impossible cc) (t .sender .stream) bytes v;
+          state = ap (λ (z : Step S Taken). z .state) (c ∙ ap (comes (t .sender)) v);
+        }
 
     -- ---- a message that ends
 
@@ -103,10 +105,7 @@ module _ {S : Type 0} (O : Streams S) where
         → (t : Takes O s image n) × (h : List ℕ) × (x : Header) × (offer O (t .sender .stream) bytes .verdict ≡ whole h x)
     piece-ends faults j =
         let t = low-takes (judged-few (pieceUnder .result .judgement .answer) j) in
-        let p = t .sender in
-        let o = offer O (p .stream) bytes in
-        let q = withStream p (settled O (o .verdict) (o .stream)) in
-        let w = judged-whole image (putSlot s place (peer q)) place q (o .taken) (o .verdict) (faults (p .stream))
+        let w = judged-whole image _ place _ _ (offer O (t .sender .stream) bytes .verdict) (faults (t .sender .stream))
         (ap (λ (z : Step S Taken). isJudged (z .result .judgement .answer)) (sym (takes-is t)) ∙ j) in
         (t, w .0, w .1, w .2)
 

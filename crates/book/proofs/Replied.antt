@@ -3,7 +3,7 @@ use mathlib.Core.Path.{_≡_, refl, sym, ap, _∙_}
 use mathlib.Core.Bool.{Bool, true, false, cond}
 use mathlib.Core.List.{List}
 use Prim.Native.Nat.{ℕ}
-use lib.ListN.{getD, set}
+use lib.ListN.{set}
 use lib.Seq.{set-getD}
 use Rattle.header.specs.declared.Header.{Header}
 use Rattle.policy.specs.Matching.{fieldOf}
@@ -96,20 +96,15 @@ module _ (b : State (List ℕ)) (image : List ℕ) (n : ℕ) (bytes h : List ℕ
 
   -- a reply passes exactly where it is awaited
   pub piece-reply : step .result .judgement .answer ≡ cond (isAwaited b n h x) 0 24
-  piece-reply =
-      ap (λ (z : Step (List ℕ) Taken). z .result .judgement .answer) (ends-is books (λ t. refl) image b n bytes (m .takes) h x (m .ended))
-      ∙ reply-exact image later place done h x r
-      ∙ ap (λ (c : Bool). cond c 0 24) awaited-same
+  piece-reply = rw (ends-is books (λ t. refl) image b n bytes (m .takes) h x (m .ended), reply-exact image later place done h x r, awaited-same)
 
   -- and is then awaited no more
   pub piece-replied : ((j : ℕ) → okSlot (slotAt b j) ≡ true) → isAwaited b n h x ≡ true → isAwaited (step .state) n h x ≡ false
   piece-replied ok w =
-      ap (λ (z : Step (List ℕ) Taken). isAwaited (z .state) n h x) (ends-is books (λ t. refl) image b n bytes (m .takes) h x (m .ended))
-      ∙ ap (λ (k : ℕ). isAwaited (judged image later place done h x .state) k h x) (sym number)
-      ∙ reply-once image later place done h x r fine (awaited-same ∙ w)
-    where
-      fine : (j : ℕ) (p : Peer (List ℕ)) → getD (later .slots) j free ≡ peer p → okPending (p .pending) ≡ true
-      fine j p e = sym (ap okSlot e) ∙ ok-later b place sender (done .stream) (m .takes .sits) j ∙ ok j
+      rw (ends-is books (λ t. refl) image b n bytes (m .takes) h x (m .ended))
+      (ap (λ (k : ℕ). isAwaited (judged image later place done h x .state) k h x) (sym number)
+      ∙ reply-once image later place done h x r
+      (λ j p e. sym (ap okSlot e) ∙ ok-later b place sender (done .stream) (m .takes .sits) j ∙ ok j) (awaited-same ∙ w))
 
 pub alone-ok : (last : ℕ) (y : Slot Tail) → Alone last y → okSlot y ≡ true
 alone-ok last free a = refl

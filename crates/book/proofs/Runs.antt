@@ -60,10 +60,6 @@ held-state {b = b} h = ap stateOf (h .bytes) ∙ state-again (seen tailView b) (
 pub held-slot : {m : List ℕ} {b : State (List ℕ)} → Holds m b → (i : ℕ) → slotAt (stateOf m) i ≡ seenSlot tailView (slotAt b i)
 held-slot {b = b} h i = ap (λ (s : State Tail). slotAt s i) (held-state h) ∙ slot-seen tailView b i
 
-pub reached-then : {m e : List ℕ} {cs ds : List Call} {given : List Answer} → Reached m cs → Run m ds given e → Reached e (cs ++ ds)
-reached-then (since-start l r) t = since-start l (run-append r t)
-reached-then (since-empty r) t = since-empty (run-append r t)
-
 -- every list of calls reaches some memory from a start on
 pub reached-exists : (cs : List Call) → AllFit cs → (m : List ℕ) → length m ≡ memoryLength → (e : List ℕ) × Reached e (starts ∷ cs)
 reached-exists cs f m l = let r = run-exists (starts ∷ cs) (tt, f) m in (r .1, since-start l (r .2))

@@ -194,7 +194,8 @@ lists-alike {e₂ = e₂} {f₂ = f₂} {later = later} {bs₂ = bs₂} {ps = ps
     let z = started empty l₂ r₂ in
     let q = z .holds .bytes ∙ sym (a .holds .bytes) in
     let h = a .holds in
-    let s = sound-split image n (seen tailView (after empty (starts ∷ _))) (h .sound) (h .bytes) w o (subst (λ (x : List ℕ). OffersAll image n x e₂ ps ws) q os) in
+    let s = sound-split image n (seen tailView (after empty (starts ∷ _))) (h .sound) (h .bytes) w o
+    (subst (λ (x : List ℕ). OffersAll image n x e₂ ps ws) q os) in
     let u = same-run t₁ (subst (λ (x : List ℕ). Run x later bs₂ f₂) (sym (s .1)) t₂) in
     (a .answered ∙ sym (z .answered), s .0, u .0, u .1)
 

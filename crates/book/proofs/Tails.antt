@@ -40,15 +40,15 @@ read-kept c =
     ]
 
 judge-kept : (c : List ℕ) → judge (keptTail c) ≡ firstVerdict c
-judge-kept c = ap (finished (length c) (take (headEnd c) c)) (read-kept c) ∙ go (readHeader c) refl
-  where
-    go : (r : Reading) → readHeader c ≡ r → finished (length c) (take (headEnd c) c) r ≡ finished (length c) c r
-    go Short e = refl
-    go (Broken a) e = refl
-    go (Whole x) e =
-        let f = whole-fits c x e in
-        let n : x .head ≤ headEnd c = omega (arith, f .head-is, end-is c (omega (arith, f .head-low, f .head-inside))) in
-        rw (take-take (x .head) (headEnd c) c n)
+judge-kept c =
+    rw (read-kept c)
+    ((elim (readHeader c) as (λ (r : Reading). readHeader c ≡ r → finished (length c) (take (headEnd c) c) r ≡ finished (length c) c r) [
+      | Short ↦ λ e. refl
+      | Broken a ↦ λ e. refl
+      | Whole x ↦ λ e. let f = whole-fits c x e in
+          let n : x .head ≤ headEnd c = omega (arith, f .head-is, end-is c (omega (arith, f .head-low, f .head-inside))) in
+          rw (take-take (x .head) (headEnd c) c n)
+    ]) refl)
 
 -- ---- one byte more
 
@@ -56,28 +56,24 @@ abbrev joins : List ℕ → ℕ → List ℕ
 joins h b = cond (ltb (length h) (headEnd h)) (h ++ (b ∷ [])) h
 
 head-kept : (c : List ℕ) (b : ℕ) → joins (take (headEnd c) c) b ≡ take (headEnd (snoc c b)) (snoc c b)
-head-kept c b = go (decLt (length c) 16)
-  where
-    far : 16 ≤ length c → (n : ℕ) → n ≡ headLength c → Dec (length c < n) → joins (take n c) b ≡ take n (snoc c b)
-    far h n q (yes d) =
-        let e : headEnd c ≡ n = end-is c h ∙ sym q in
-        rw (take-all n c (omega arith), e, lt-ltb (length c) n d) (sym (take-all n (snoc c b) (omega (arith, length-snoc c b))))
-    far h n q (no d) =
-        let l : 16 ≤ n = omega (arith, head-low c) in
-        let k : length (take n c) ≡ n = length-take n c ∙ omega arith in
-        let e : headEnd (take n c) ≡ n = end-is (take n c) (omega arith) ∙ head-front n c l ∙ sym q in
-        rw (e, k, le-ltb n n (omega arith)) (sym (take-append-le n c (b ∷ []) (omega arith)))
-
-    go : Dec (length c < 16) → joins (take (headEnd c) c) b ≡ take (headEnd (snoc c b)) (snoc c b)
-    go (yes h) =
-        let e = few-end c h in
-        rw (take-all (headEnd c) c (omega arith), e, lt-ltb (length c) 16 h)
-        (sym (take-all (headEnd (snoc c b)) (snoc c b) (omega (arith, length-snoc c b, end-low (snoc c b)))))
-    go (no h) =
-        let l : 16 ≤ length c = omega arith in
-        let e = end-is c l in
-        let e′ : headEnd (snoc c b) ≡ headLength c = end-is (snoc c b) (omega (arith, length-snoc c b)) ∙ head-append c (b ∷ []) l in
-        rw (e, e′) (far l (headLength c) refl (decLt (length c) (headLength c)))
+head-kept c b =
+    let n = headLength c in
+    let s = length-snoc c b in
+    elim (decLt (length c) 16) [
+      | yes h ↦ let e = few-end c h in
+          rw (take-all (headEnd c) c (omega arith), e, lt-ltb (length c) 16 h)
+          (sym (take-all (headEnd (snoc c b)) (snoc c b) (omega (arith, end-low (snoc c b)))))
+      | no h ↦ let e : headEnd c ≡ n = end-is c (omega arith) in
+          let e′ : headEnd (snoc c b) ≡ n = end-is (snoc c b) (omega arith) ∙ head-append c (b ∷ []) (omega arith) in
+          rw (e, e′)
+          (elim (decLt (length c) n) [
+            | yes d ↦ rw (take-all n c (omega arith), e, lt-ltb (length c) n d) (sym (take-all n (snoc c b) (omega arith)))
+            | no d ↦ let l = head-low c in
+                let k : length (take n c) ≡ n = length-take n c ∙ omega arith in
+                let f : headEnd (take n c) ≡ n = end-is (take n c) (omega arith) ∙ head-front n c l in
+                rw (f, k, le-ltb n n (omega arith)) (sym (take-append-le n c (b ∷ []) (omega arith)))
+          ])
+    ]
 
 push-kept : (c : List ℕ) (b : ℕ) → push (keptTail c) b ≡ keptTail (snoc c b)
 push-kept c b =
@@ -109,7 +105,7 @@ closed-view xs =
     by-test (isWhole (firstVerdict (current xs))) (λ e. rw e (ap isBroken fresh-more ∙ sym (whole-open (firstVerdict (current xs)) e)))
     (λ e. rw e (ap isBroken (judge-kept (current xs))))
 
-fresh-view : fresh ≡ tailView []
+pub fresh-view : fresh ≡ tailView []
 fresh-view = choice (λ (t : Tail). fresh ≡ t) (isWhole (firstVerdict (current []))) _ _ (λ e. refl) (λ e. sym (ap keptTail current-none))
 
 -- the guard's streams answer as the model's do, whatever bytes have come

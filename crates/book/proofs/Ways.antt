@@ -5,7 +5,6 @@ use mathlib.Core.Bool.{true, false, cond, false≢true}
 use mathlib.Core.List.{List, [], _∷_}
 use Prim.Native.Nat.{ℕ, suc}
 use native.Mathlib.Omega.{arith}
-use lib.ListN.{set}
 use lib.Seq.{getD-set-same, set-set, set-getD}
 use borrow.Author.Tests.{lt-leb, le-leb}
 use Rattle.header.specs.declared.Header.{Header}
@@ -58,28 +57,18 @@ module _ {S : Type 0} (O : Streams S) (shut : (t : S) → O .closed t ≡ isBrok
       abbrev later : S → State S
       later t = putSlot s place (peer (withStream q t))
 
-      later-first : (t : S) → firstBy (isPeer n) (later t .slots) ≡ place
-      later-first t = first-set (isPeer n) (s .slots) place (peer (withStream q t)) free (ap (isPeer n) (sym e))
-
-      later-slot : (t : S) → slotAt (later t) place ≡ peer (withStream q t)
-      later-slot t = getD-set-same (s .slots) place (peer (withStream q t)) free (taken-below (s .slots) place q e)
-
-      later-put : (t : S) (y : Slot S) → putSlot (later t) place y ≡ putSlot s place y
-      later-put t y = ap (λ (l : List (Slot S)). record { last = s .last; slots = l }) (set-set (s .slots) place (peer (withStream q t)) y)
-
       later-same : later (q .stream) ≡ s
-      later-same =
-          ap (λ (l : List (Slot S)). record { last = s .last; slots = l })
-          (ap (set (s .slots) place) (sym e) ∙ set-getD (s .slots) place free)
+      later-same = rw (← e, set-getD (s .slots) place free)
 
       at-later : (t : S) (p : List ℕ) → stepOf (later t) p ≡ cond (O .closed t) (stays (later t) (noPiece 40)) (comes (offer O t p))
       unfolding piece
       at-later t p =
-          let o = offer O t p in
-          let r = withStream q (settled O (o .verdict) (o .stream)) in
-          ap (λ (k : ℕ). pieceAt O image (later t) k (slotAt (later t) k) p) (later-first t)
-          ∙ ap (λ (y : Slot S). pieceAt O image (later t) place y p) (later-slot t)
-          ∙ ap (λ (z : State S). cond (O .closed t) (stays (later t) (noPiece 40)) (offered image z place r (o .taken) (o .verdict))) (later-put t (peer r))
+          let x = peer (withStream q t) in
+          rw (
+            first-set (isPeer n) (s .slots) place x free (ap (isPeer n) (sym e)),
+            getD-set-same (s .slots) place x free (taken-below (s .slots) place q e),
+            set-set (s .slots) place x,
+          )
 
       -- ---- an open stream
 
@@ -88,23 +77,21 @@ module _ {S : Type 0} (O : Streams S) (shut : (t : S) → O .closed t ≡ isBrok
         at-open p = at-peer p ∙ rw c
 
         open-idles : stepOf s [] ≡ stays s (record { judgement = refusal 10; taken = 0 })
-        open-idles = at-open [] ∙ ap comes (offer-none O (q .stream)) ∙ ap (λ (z : State S). stays z (record { judgement = refusal 10; taken = 0 })) later-same
+        open-idles = rw (at-open [], offer-none O (q .stream), later-same)
 
         module _ (b : ℕ) where
           abbrev pushed : S
           pushed = O .push (q .stream) b
 
           at-first : (v : Verdict) → O .judge pushed ≡ v → (p : List ℕ) → stepOf s (b ∷ p) ≡ comes (bump (follows v pushed (offer O pushed p)))
-          at-first v j p = at-open (b ∷ p) ∙ ap comes (offer-step O (q .stream) b p ∙ ap (λ (u : Verdict). bump (follows u pushed (offer O pushed p))) j)
+          at-first v j p = at-open (b ∷ p) ∙ rw (offer-step O (q .stream) b p, j)
 
           bump-comes : (o : Offer S) → comes (bump o) ≡ bumped (comes o)
-          bump-comes o = go (o .verdict)
-            where
-              go : (v : Verdict) → let r = withStream q (settled O v (o .stream)) in
-                  offered image (putSlot s place (peer r)) place r (suc (o .taken)) v ≡ bumped (offered image (putSlot s place (peer r)) place r (o .taken) v)
-              go more = refl
-              go (broken a) = refl
-              go (whole h x) = refl
+          bump-comes o =
+              elim (o .verdict) as (λ (v : Verdict). let r = withStream q (settled O v (o .stream)) in
+              let z = putSlot s place (peer r) in
+              offered image z place r (suc (o .taken)) v ≡ bumped (offered image z place r (o .taken) v))
+              [ more ↦ refl | broken a ↦ refl | whole h x ↦ refl ]
 
           way-more : O .judge pushed ≡ more → (p : List ℕ) → Way stepOf s b p
           way-more j p =
@@ -132,12 +119,9 @@ module _ {S : Type 0} (O : Streams S) (shut : (t : S) → O .closed t ≡ isBrok
               (λ k. absurd (false≢true (sym g ∙ sym (ap (λ (z : Step S Taken). isStop (z .result .judgement .answer)) one) ∙ k)))
 
           way-open : (p : List ℕ) → Way stepOf s b p
-          way-open p = go (O .judge pushed) refl
-            where
-              go : (v : Verdict) → O .judge pushed ≡ v → Way stepOf s b p
-              go more j = way-more j p
-              go (broken a) j = way-broken a j p
-              go (whole h x) j = way-whole h x j p
+          way-open p =
+              (elim (O .judge pushed) as (λ (v : Verdict). O .judge pushed ≡ v → Way stepOf s b p)
+              [ more ↦ λ j. way-more j p | broken a ↦ λ j. way-broken a j p | whole h x ↦ λ j. way-whole h x j p ]) refl
 
     idle-at : (y : Slot S) → slotAt s place ≡ y → Idle stepOf s
     idle-at free e = idle-refuses (nobody-refuses e)

@@ -1,7 +1,7 @@
 -- Each call of an entry, and its report.
 use mathlib.Core.Path.{_≡_, refl, ap, _∙_}
 use mathlib.Core.Bool.{true}
-use mathlib.Core.List.{List, [], _∷_}
+use mathlib.Core.List.{List}
 use Prim.Native.Nat.{ℕ, _+_, _-_, _*_, _/_, _%_, _≤_, min, _<_}
 use native.Mathlib.Omega.{arith}
 use native.Mathlib.Nat.{sub-zero}
@@ -53,11 +53,6 @@ low-word n =
       low-digit (n / 256 / 256 / 256) (m / 256 / 256 / 256) q h,
     )
 
-seven : (a t k n c u d : ℕ) → wordBytes t ≡ wordBytes u → wordBytes c ≡ wordBytes d
-    → cells wordBytes (a ∷ t ∷ k ∷ n ∷ c ∷ 0 ∷ 0 ∷ []) ≡ cells wordBytes (a ∷ u ∷ k ∷ n ∷ d ∷ 0 ∷ 0 ∷ [])
-unfolding cells
-seven a t k n c u d p q = rw (p, q)
-
 pub shows-plain : (a : ℕ) → Shows (plain a) (record { answer = a; taken = 0; kind = 0; number = 0; count = 0 })
 unfolding answerPlace
 shows-plain a = record { are = refl }
@@ -67,22 +62,22 @@ module _ (t : Taken) (w : ℕ) (e : w ≡ t .taken % 4294967296) where
   low-taken = rw e (low-word (t .taken))
 
   pub shows-nobody : t .judgement .receiver ≡ to.Nobody → Shows (taken t) (record { answer = t .judgement .answer; taken = w; kind = 0; number = 0; count = 0 })
-  unfolding answerPlace
-  shows-nobody q = record { are = rw q (seven (t .judgement .answer) w 0 0 0 (t .taken) 0 low-taken refl) }
+  unfolding answerPlace cells
+  shows-nobody q = record { are = rw (q, low-taken) }
 
   pub shows-bus : t .judgement .receiver ≡ to.Bus → Shows (taken t) (record { answer = t .judgement .answer; taken = w; kind = 1; number = 0; count = 0 })
-  unfolding answerPlace
-  shows-bus q = record { are = rw q (seven (t .judgement .answer) w 1 0 0 (t .taken) 0 low-taken refl) }
+  unfolding answerPlace cells
+  shows-bus q = record { are = rw (q, low-taken) }
 
   pub shows-peer : (n : ℕ) → t .judgement .receiver ≡ to.Peer n
       → Shows (taken t) (record { answer = t .judgement .answer; taken = w; kind = 2; number = n; count = 0 })
-  unfolding answerPlace
-  shows-peer n q = record { are = rw q (seven (t .judgement .answer) w 2 n 0 (t .taken) 0 low-taken refl) }
+  unfolding answerPlace cells
+  shows-peer n q = record { are = rw (q, low-taken) }
 
   pub shows-slots : (mask n : ℕ) → t .judgement .receiver ≡ to.Slots mask n
       → Shows (taken t) (record { answer = t .judgement .answer; taken = w; kind = 3; number = mask; count = n })
-  unfolding answerPlace
-  shows-slots mask n q = record { are = rw q (seven (t .judgement .answer) w 3 mask n (t .taken) n low-taken refl) }
+  unfolding answerPlace cells
+  shows-slots mask n q = record { are = rw (q, low-taken) }
 
 pub ruleset showing = (shows-plain, shows-nobody, shows-bus, shows-peer, shows-slots, needs)
 
@@ -107,7 +102,7 @@ pub connect-reported : (image m a e : List ℕ) (uid : ℕ) (g : Gids) (c : Conn
     → Did (connectOn image m uid (take (g .count) (g .list))) c e
     → w ≡ c .slot % 4294967296
     → Reported (connects image (wordAt Little a 0) (gidsOf a)) m (record { answer = c .answer; taken = 0; kind = 0; number = c .number; count = w }) e
-unfolding answerPlace
+unfolding answerPlace cells
 connect-reported image m a e uid g c w f u l h d q =
     let n = (length a - 4) / 4 in
     let x : connectOn image m uid (take (g .count) (g .list)) ≡ connectOn image m (wordAt Little a 0) (gidsOf a)
@@ -119,7 +114,7 @@ connect-reported image m a e uid g c w f u l h d q =
       ran =
           ran-connect {uid = wordAt Little a 0} (rw (← u) l) (words-below n (drop 4 a) (bytes-drop 4 a (λ j. f j .fits)))
           (record { result = d .result ∙ ap (λ (o : MemoryStep Connected). o .result) x; memory = d .memory ∙ ap (λ (o : MemoryStep Connected). o .memory) x });
-      shows = record { are = seven (c .answer) 0 0 (c .number) w 0 (c .slot) refl (rw q (low-word (c .slot))) };
+      shows = record { are = rw (q, low-word (c .slot)) };
     }
 
 pub ruleset connecting = (connect-front, connect-reported, needs)

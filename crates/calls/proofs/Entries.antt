@@ -7,12 +7,13 @@ use native.Mathlib.Omega.{arith}
 use lib.Dec.{eqb, leb, ltb}
 use lib.ListN.{length, take, drop, length-drop}
 use borrow.Author.Needs.{needs}
-use borrow.Author.Tests.{eq-eqb, ne-eqb, lt-ltb, le-ltb, eqb-true, ltb-false, leb-true, not-true, not-false}
+use borrow.Author.Tests.{eq-eqb, ne-eqb, lt-ltb, le-ltb, eqb-true, eqb-false, ltb-true, ltb-false, leb-true, not-true, not-false}
 use Rattle.wire.specs.Words.{wordAt}
 use Rattle.wire.specs.declared.Order.the-variants.{Little}
 use Rattle.wire.proofs.Texts.{both-first, both-second}
 use Rattle.wire.proofs.Words.{rest-at}
 use Rattle.rules.proofs.Tests.{choice, by-test}
+use Rattle.book.specs.Lists.{Call}
 use Rattle.calls.specs.Script.{entryKind, sizeOf, argumentOf, wellSized, entrySize, layout, scriptCalls, callOf}
 use Rattle.calls.specs.Steps.{Sized, Entry, Counted}
 
@@ -121,50 +122,85 @@ behind {s} {k} z = rest-at k s ∙ rw (z .is)
 pub front-entry : (f : ℕ) (s : List ℕ) → 0 < length s → layout f s ≡ true → entrySize s ≡ 0 → ⊥
 front-entry f s h w e = false≢true (sym (layout-stuck f s h e) ∙ w)
 
+-- ---- more than a script's length changes neither its layout nor its calls
+
+pub layout-any : (f g : ℕ) (s : List ℕ) → length s ≤ f → length s ≤ g → layout f s ≡ layout g s
+layout-any zero g s h k = layout-end zero s h ∙ sym (layout-end g s (omega arith))
+layout-any (suc f) zero s h k = layout-end (suc f) s k ∙ sym (layout-end zero s k)
+layout-any (suc f) (suc g) s h k =
+    by-test (ltb 0 (length s))
+    (λ p. let l = ltb-true 0 (length s) p in
+    by-test (eqb (entrySize s) 0)
+    (λ q. let z = eqb-true (entrySize s) 0 q in layout-stuck (suc f) s l z ∙ sym (layout-stuck (suc g) s l z))
+    (λ q. let n = eqb-false (entrySize s) 0 q in
+    let d : length (drop (entrySize s) s) ≡ length s - entrySize s = length-drop (entrySize s) s in
+    layout-step f s l n ∙ layout-any f g (drop (entrySize s) s) (omega arith) (omega arith) ∙ sym (layout-step g s l n)))
+    (λ p. let l = ltb-false 0 (length s) p in layout-end (suc f) s l ∙ sym (layout-end (suc g) s l))
+
+pub calls-any : (image : List ℕ) (f g : ℕ) (s : List ℕ) → length s ≤ f → length s ≤ g → layout f s ≡ true → scriptCalls image f s ≡ scriptCalls image g s
+calls-any image zero g s h k w = calls-end image zero s h ∙ sym (calls-end image g s (omega arith))
+calls-any image (suc f) zero s h k w = calls-end image (suc f) s k ∙ sym (calls-end image zero s k)
+calls-any image (suc f) (suc g) s h k w =
+    by-test (ltb 0 (length s))
+    (λ p. let l = ltb-true 0 (length s) p in
+    let n = front-entry (suc f) s l w in
+    let d : length (drop (entrySize s) s) ≡ length s - entrySize s = length-drop (entrySize s) s in
+    calls-step image f s l
+    ∙ ap (λ (v : List Call). callOf image (entryKind s) (argumentOf s) ∷ v)
+    (calls-any image f g (drop (entrySize s) s) (omega arith) (omega arith) (sym (layout-step f s l n) ∙ w))
+    ∙ sym (calls-step image g s l))
+    (λ p. let l = ltb-false 0 (length s) p in calls-end image (suc f) s l ∙ sym (calls-end image (suc g) s l))
+
+-- one entry on, each with its own length
+module _ (s : List ℕ) (h : 0 < length s) where
+  abbrev rest : List ℕ
+  rest = drop (entrySize s) s
+
+  pub layout-next : (entrySize s ≡ 0 → ⊥) → layout (length s) s ≡ layout (length rest) rest
+  layout-next n =
+      let d : length rest ≡ length s - entrySize s = length-drop (entrySize s) s in
+      layout-any (length s) (suc (length s)) s (omega arith) (omega arith) ∙ layout-step (length s) s h n
+      ∙ layout-any (length s) (length rest) rest (omega arith) (omega arith)
+
+  pub calls-next : (image : List ℕ) → layout (length s) s ≡ true
+      → scriptCalls image (length s) s ≡ callOf image (entryKind s) (argumentOf s) ∷ scriptCalls image (length rest) rest
+  calls-next image w =
+      let d : length rest ≡ length s - entrySize s = length-drop (entrySize s) s in
+      let e = layout-any (length rest) (length s) rest (omega arith) (omega arith) in
+      calls-any image (length s) (suc (length s)) s (omega arith) (omega arith) w ∙ calls-step image (length s) s h
+      ∙ ap (_∷_ (callOf image (entryKind s) (argumentOf s)))
+      (calls-any image (length s) (length rest) rest (omega arith) (omega arith) (sym e ∙ sym (layout-next (front-entry (length s) s h w)) ∙ w))
+
 -- ---- the count
 
 pub record Counting (s rest : List ℕ) (n : ℕ) : Type 0 where
-  pub fuel : ℕ
-  pub enough : length rest ≤ fuel
   pub few : n + length rest ≤ length s
-  pub same : layout (length s) s ≡ layout fuel rest
-  pub many : (image : List ℕ) → length (scriptCalls image (length s) s) ≡ n + length (scriptCalls image fuel rest)
+  pub same : layout (length s) s ≡ layout (length rest) rest
+  pub many : layout (length rest) rest ≡ true → (image : List ℕ)
+      → length (scriptCalls image (length s) s) ≡ n + length (scriptCalls image (length rest) rest)
 
 pub counting-begins : (s : List ℕ) → Counting s s 0
-counting-begins s = record { fuel = length s; enough = omega arith; few = omega arith; same = refl; many = λ image. omega arith }
+counting-begins s = record { few = omega arith; same = refl; many = λ w image. omega arith }
 
 module _ {s rest : List ℕ} {n : ℕ} (c : Counting s rest n) where
   module _ (h : 0 < length rest) {k : ℕ} (z : Sized rest k) where
     pub counting-more : (k ≡ 0 → ⊥) → Counting s (take (length rest - k) (drop k rest)) (n + 1)
-    counting-more e = go (c .fuel) (c .enough) (c .same) (c .many)
-      where
-        go : (f : ℕ) → length rest ≤ f → layout (length s) s ≡ layout f rest
-            → ((image : List ℕ) → length (scriptCalls image (length s) s) ≡ n + length (scriptCalls image f rest))
-            → Counting s (take (length rest - k) (drop k rest)) (n + 1)
-        go zero l q m = absurd (omega arith)
-        go (suc f) l q m =
-            let w : n + length rest ≤ length s = c .few in
-            let i : k ≤ length rest = z .inside in
-            let j : k ≡ entrySize rest = z .is in
-            let d : length (drop (entrySize rest) rest) ≡ length rest - k = length-drop (entrySize rest) rest ∙ ap (λ (x : ℕ). length rest - x) (sym j) in
-            rw (behind z)
-            (record {
-              fuel = f;
-              enough = omega (arith, d);
-              few = omega (arith, d);
-              same = q ∙ layout-step f rest h (λ x. e (j ∙ x));
-              many = λ image. m image ∙ omega (arith, ap length (calls-step image f rest h));
-            })
+    counting-more e =
+        let l = layout-next rest h (λ x. e (z .is ∙ x)) in
+        rw (behind z)
+        (record {
+          few = omega (arith, c .few, z .inside, z .is, length-drop (entrySize rest) rest);
+          same = c .same ∙ l;
+          many = λ w image. c .many (l ∙ w) image ∙ omega (arith, ap length (calls-next rest h image (l ∙ w)));
+        })
 
     pub counting-broken : k ≡ 0 → Counted s (record { whole = false; calls = 0 })
     counting-broken e =
-        record { whole = sym (c .same ∙ layout-stuck (c .fuel) rest h (sym (z .is) ∙ e)); many = λ x. absurd (false≢true x) }
+        record { whole = sym (c .same ∙ layout-stuck (length rest) rest h (sym (z .is) ∙ e)); many = λ x. absurd (false≢true x) }
 
   pub counting-ends : length rest ≤ 0 → Counted s (record { whole = true; calls = n })
   counting-ends h =
-      record {
-        whole = sym (c .same ∙ layout-end (c .fuel) rest h);
-        many = λ x image. c .many image ∙ omega (arith, ap length (calls-end image (c .fuel) rest h));
-      }
+      let w = layout-end (length rest) rest h in
+      record { whole = sym (c .same ∙ w); many = λ x image. c .many w image ∙ omega (arith, ap length (calls-end image (length rest) rest h)) }
 
 pub ruleset counting = (counting-begins, counting-more, counting-broken, counting-ends, needs)

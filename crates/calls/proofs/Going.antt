@@ -2,7 +2,7 @@
 use mathlib.Core.Path.{_≡_, refl, sym, ap, _∙_}
 use mathlib.Core.Bool.{true, false, not}
 use mathlib.Core.List.{List, [], _∷_, _++_, append-assoc, append-nil}
-use Prim.Native.Nat.{ℕ, zero, suc, _+_, _-_, _*_, _/_, _≤_, _<_}
+use Prim.Native.Nat.{ℕ, suc, _+_, _-_, _*_, _/_, _≤_, _<_}
 use native.Mathlib.Omega.{arith}
 use lib.Dec.{eqb, ltb}
 use lib.ListN.{length, take, drop, length-append, length-drop}
@@ -14,13 +14,14 @@ use Rattle.wire.proofs.Words.{word-length, rest-at, put-at}
 use Rattle.tables.specs.Tables.{cells}
 use Rattle.tables.proofs.Cells.{cells-length, cells-snoc}
 use Rattle.rules.proofs.Tests.{by-test}
+use Rattle.rules.specs.State.{State}
 use Rattle.rules.specs.Calls.{empty}
 use Rattle.rules.specs.declared.Receiver.{Receiver}
 use Rattle.rules.specs.declared.Receiver.the-variants as to
 use Rattle.memory.specs.Layout.{memoryLength}
 use Rattle.memory.specs.Encoding.{memoryOf}
 use Rattle.memory.specs.Calls.{Did, startOn}
-use Rattle.book.specs.Lists.{Call, Answer, plain, connected, taken, gone, Run, done, then}
+use Rattle.book.specs.Lists.{Call, starts, Answer, plain, connected, taken, gone, modelStep, answers, after, Run, done, then}
 use Rattle.rules.specs.Places.{receiverWords}
 use Rattle.book.proofs.List.{empty-claim}
 use Rattle.book.proofs.Runs.{run-append}
@@ -28,7 +29,7 @@ use Rattle.calls.specs.declared.Count.{Count}
 use Rattle.calls.specs.Script.{entryKind, argumentOf, entrySize, layout, scriptCalls, callOf, decode}
 use Rattle.calls.specs.Places.{wordsOf, answerPlace, outcome, EndsAs}
 use Rattle.calls.specs.Steps.{Stepped, Sized, Entry, Counted, Ready, Replayed}
-use Rattle.calls.proofs.Entries.{entry-of, front-entry, layout-step, calls-step, calls-end, behind}
+use Rattle.calls.proofs.Entries.{entry-of, front-entry, layout-next, calls-next, calls-end, behind}
 
 -- ---- a run has an answer for each call
 
@@ -57,16 +58,14 @@ place-length a = cells-length 4 wordBytes word-length (wordsOf a) ∙ omega (ari
 -- ---- the entries behind `rest` are to come; those before it have run
 
 pub record Going (image s m₀ x m y rest : List ℕ) (at : ℕ) : Type 0 where
-  pub fuel : ℕ
-  pub enough : length rest ≤ fuel
-  pub whole : layout fuel rest ≡ true
+  pub whole : layout (length rest) rest ≡ true
   pub past : List Call
   pub given : List Answer
   pub ran : Run (memoryOf empty) past given m
-  pub all : scriptCalls image (length s) s ≡ past ++ scriptCalls image fuel rest
+  pub all : scriptCalls image (length s) s ≡ past ++ scriptCalls image (length rest) rest
   pub place : at ≡ 28 * length past
   pub text : y ≡ cells answerPlace given ++ drop at x
-  pub room : at + 28 * length (scriptCalls image fuel rest) ≤ length x
+  pub room : at + 28 * length (scriptCalls image (length rest) rest) ≤ length x
   pub sized : length y ≡ length x
   pub fits : length m ≡ length m₀
 
@@ -75,8 +74,6 @@ unfolding cells
 going-begins image s m x r =
     let k : 28 * length (scriptCalls image (length s) s) ≤ length x = r .room in
     record {
-      fuel = length s;
-      enough = omega arith;
       whole = r .whole;
       past = [];
       given = [];
@@ -95,68 +92,51 @@ module _ {image s m₀ x m y rest : List ℕ} {at : ℕ} (g : Going image s m₀
 
   module _ (h : 0 < length rest) where
     pub going-room : at + 28 ≤ length y
-    going-room = go (g .fuel) (g .enough) (g .room)
-      where
-        go : (f : ℕ) → length rest ≤ f → at + 28 * length (scriptCalls image f rest) ≤ length x → at + 28 ≤ length y
-        go zero l r = absurd (omega arith)
-        go (suc f) l r = let z : length y ≡ length x = g .sized in omega (arith, ap length (calls-step image f rest h))
+    going-room = omega (arith, g .room, g .sized, ap length (calls-next rest h image (g .whole)))
 
     pub going-entry : Entry rest
-    going-entry = entry-of rest (front-entry (g .fuel) rest h (g .whole))
+    going-entry = entry-of rest (front-entry (length rest) rest h (g .whole))
 
     pub going-less : {k : ℕ} → Sized rest k → length (take (length rest - k) (drop k rest)) < length rest
     going-less {k} z =
-        let n = front-entry (g .fuel) rest h (g .whole) in
+        let n = front-entry (length rest) rest h (g .whole) in
         let p : k ≡ 0 → ⊥ = λ e. n (sym (z .is) ∙ e) in
         omega (arith, ap length (rest-at k rest), length-drop k rest)
 
     module _ {k : ℕ} (z : Sized rest k) (e w : List ℕ) (t : Stepped image rest m e w) (same : length e ≡ length m) where
       pub going-on : Going image s m₀ x e (take at y ++ (w ++ drop (at + 28 - at) (drop at y))) (take (length rest - k) (drop k rest)) (at + 28)
-      going-on = rw (behind z, put-at at 28 y w) (go (g .fuel) (g .enough) (g .whole) (g .all) (g .room))
-        where
-          go : (f : ℕ) → length rest ≤ f → layout f rest ≡ true → scriptCalls image (length s) s ≡ g .past ++ scriptCalls image f rest
-              → at + 28 * length (scriptCalls image f rest) ≤ length x
-              → Going image s m₀ x e (take at y ++ (w ++ drop (at + 28) y)) (drop (entrySize rest) rest) (at + 28)
-          go zero l q a r = absurd (omega arith)
-          go (suc f) l q a r =
-              let n : entrySize rest ≡ 0 → ⊥ = front-entry (suc f) rest h q in
-              let c = callOf image (entryKind rest) (argumentOf rest) in
-              let o = cells answerPlace (g .given) in
-              let lw : length w ≡ 28 = ap length (t .written) ∙ place-length (t .answer) in
-              let ty : take at y ≡ o = ap (take at) (g .text) ∙ take-at o (drop at x) at written in
-              let dy : drop (at + 28) y ≡ drop (at + 28) x
-              = sym (drop-drop 28 at y) ∙ ap (λ (v : List ℕ). drop 28 (drop at v)) (g .text) ∙ ap (drop 28) (drop-at o (drop at x) at written)
-              ∙ drop-drop 28 at x in
-              let b : cells answerPlace (g .given ++ (t .answer ∷ [])) ≡ o ++ w = cells-snoc answerPlace (g .given) (t .answer)
-              ∙ ap (λ (v : List ℕ). o ++ v) (sym (t .written)) in
-              let text : take at y ++ (w ++ drop (at + 28) y) ≡ cells answerPlace (g .given ++ (t .answer ∷ [])) ++ drop (at + 28) x
-              = rw (ty, dy, b) (sym (append-assoc o w (drop (at + 28) x))) in
-              let lo : length (cells answerPlace (g .given ++ (t .answer ∷ []))) ≡ at + 28 = ap length b ∙ length-append o w ∙ omega (arith, written) in
-              let d : length (drop (entrySize rest) rest) ≡ length rest - entrySize rest = length-drop (entrySize rest) rest in
-              let cs : length (scriptCalls image (suc f) rest) ≡ suc (length (scriptCalls image f (drop (entrySize rest) rest))) =
-              ap length (calls-step image f rest h) in
-              record {
-                fuel = f;
-                enough = omega (arith, d);
-                whole = sym (layout-step f rest h n) ∙ q;
-                past = g .past ++ (c ∷ []);
-                given = g .given ++ (t .answer ∷ []);
-                ran = run-append (g .ran) (then (t .ran) done);
-                all =
-                    a
-                    ∙ ap (λ (v : List Call). g .past ++ v) (calls-step image f rest h)
-                    ∙ sym (append-assoc (g .past) (c ∷ []) (scriptCalls image f (drop (entrySize rest) rest)));
-                place = omega (arith, g .place, length-append (g .past) (c ∷ []));
-                text = text;
-                room = omega arith;
-                sized = ap length text ∙ length-append (cells answerPlace (g .given ++ (t .answer ∷ []))) (drop (at + 28) x)
-                    ∙ omega (arith, lo, length-drop (at + 28) x);
-                fits = same ∙ g .fits;
-              }
+      going-on =
+          let n = front-entry (length rest) rest h (g .whole) in
+          let c = callOf image (entryKind rest) (argumentOf rest) in
+          let cs = calls-next rest h image (g .whole) in
+          let o = cells answerPlace (g .given) in
+          let lw : length w ≡ 28 = ap length (t .written) ∙ place-length (t .answer) in
+          let ty : take at y ≡ o = ap (take at) (g .text) ∙ take-at o (drop at x) at written in
+          let dy : drop (at + 28) y ≡ drop (at + 28) x
+          = sym (drop-drop 28 at y) ∙ ap (λ (v : List ℕ). drop 28 (drop at v)) (g .text) ∙ ap (drop 28) (drop-at o (drop at x) at written)
+          ∙ drop-drop 28 at x in
+          let b : cells answerPlace (g .given ++ (t .answer ∷ [])) ≡ o ++ w = rw (t .written) (cells-snoc answerPlace (g .given) (t .answer)) in
+          let text : take at y ++ (w ++ drop (at + 28) y) ≡ cells answerPlace (g .given ++ (t .answer ∷ [])) ++ drop (at + 28) x
+          = rw (ty, dy, b) (sym (append-assoc o w (drop (at + 28) x))) in
+          let lo : length (cells answerPlace (g .given ++ (t .answer ∷ []))) ≡ at + 28 = ap length b ∙ length-append o w ∙ omega (arith, written) in
+          rw (behind z, put-at at 28 y w)
+          (record {
+            whole = sym (layout-next rest h n) ∙ g .whole;
+            past = g .past ++ (c ∷ []);
+            given = g .given ++ (t .answer ∷ []);
+            ran = run-append (g .ran) (then (t .ran) done);
+            all = g .all ∙ rw cs (sym (append-assoc (g .past) (c ∷ []) (scriptCalls image (length (drop (entrySize rest) rest)) (drop (entrySize rest) rest))));
+            place = omega (arith, g .place, length-append (g .past) (c ∷ []));
+            text = text;
+            room = omega (arith, g .room, ap length cs);
+            sized = ap length text ∙ length-append (cells answerPlace (g .given ++ (t .answer ∷ []))) (drop (at + 28) x)
+                ∙ omega (arith, lo, g .room, ap length cs, length-drop (at + 28) x);
+            fits = same ∙ g .fits;
+          })
 
   pub going-ends : length rest ≤ 0 → Replayed image s x m y
   going-ends h =
-      let c : scriptCalls image (length s) s ≡ g .past = g .all ∙ ap (λ (v : List Call). g .past ++ v) (calls-end image (g .fuel) rest h)
+      let c : scriptCalls image (length s) s ≡ g .past = g .all ∙ ap (λ (v : List Call). g .past ++ v) (calls-end image (length rest) rest h)
       ∙ append-nil (g .past) in
       let a = empty-claim (g .ran) in
       record { memory = rw c (a .memory); room = rw (c, ← a .answered, ← g .place) (g .text) }
@@ -211,3 +191,12 @@ module _ (image s m x : List ℕ) (c : Count) (o : Counted s c) where
             rw (laid, z, eq-eqb (length m) memoryLength (start-done m e r d h .0)) (record { answer = refl; memory = p .memory; room = p .room })
 
 pub ruleset running = (run-broken, run-full, run-unfit, run-ready, run-done, needs)
+
+-- the contract's answers and memory are those of the list that begins with a start, whatever the model held before
+pub start-answers : (b : State (List ℕ)) (cs : List Call) → answers b (starts ∷ cs) ≡ plain 0 ∷ answers empty cs
+unfolding answers modelStep
+start-answers b cs = refl
+
+pub start-after : (b : State (List ℕ)) (cs : List Call) → after b (starts ∷ cs) ≡ after empty cs
+unfolding after modelStep
+start-after b cs = refl

@@ -3,4 +3,3 @@ pub mod Entries
 pub mod Words
 pub mod Called
 pub mod Going
-pub mod Fuel

@@ -59,22 +59,6 @@ module _ {S : Type 0} (image : List ℕ) (s : State S) (i : ℕ) (sender : Peer 
 
   -- ---- it ends that call: a second reply is 24 (rule 7.9)
 
-  module _ (ok : (j : ℕ) (p : Peer S) → getD (s .slots) j free ≡ peer p → okPending (p .pending) ≡ true) where
-    once-to : (j : ℕ) (y : Slot S) → getD (s .slots) j free ≡ y → isWaiting (sender .number) (x .«reply_serial») y ≡ true
-        → isWaiting (sender .number) (x .«reply_serial») (getD (replyTo s j sender y x .state .slots) j free) ≡ false
-    once-to j free e w = absurd (false≢true w)
-    once-to j (peer caller) e w =
-        let ws = ended (sender .number) (x .«reply_serial») (caller .pending) in
-        rw (w, getD-set-same (s .slots) j (peer (withPending caller ws)) free (taken-below (s .slots) j caller e))
-        (ended-ends (sender .number) (x .«reply_serial») (caller .pending) (ok j caller e))
-
-    once : (a : Address) → awaited (s .slots) (sender .number) (x .«reply_serial») a ≡ true
-        → awaited (reply s sender a x .state .slots) (sender .number) (x .«reply_serial») a ≡ false
-    once undirected w = absurd (false≢true w)
-    once bus w = absurd (false≢true w)
-    once unknown w = absurd (false≢true w)
-    once (slot j) w = once-to j (getD (s .slots) j free) refl w
-
   -- whom an address means is not changed by it
   resolve-put : (j : ℕ) (p : Peer S) (ws : List Pending) (d : Option (List ℕ)) → getD (s .slots) j free ≡ peer p
       → resolve (set (s .slots) j (peer (withPending p ws))) d ≡ resolve (s .slots) d
@@ -95,11 +79,26 @@ module _ {S : Type 0} (image : List ℕ) (s : State S) (i : ℕ) (sender : Peer 
   resolve-after d (slot j) = resolve-to d j (getD (s .slots) j free) refl
 
   module _ (ok : (j : ℕ) (p : Peer S) → getD (s .slots) j free ≡ peer p → okPending (p .pending) ≡ true) where
+    once-to : (j : ℕ) (y : Slot S) → getD (s .slots) j free ≡ y → isWaiting (sender .number) (x .«reply_serial») y ≡ true
+        → isWaiting (sender .number) (x .«reply_serial») (getD (replyTo s j sender y x .state .slots) j free) ≡ false
+    once-to j free e w = absurd (false≢true w)
+    once-to j (peer caller) e w =
+        let ws = ended (sender .number) (x .«reply_serial») (caller .pending) in
+        rw (w, getD-set-same (s .slots) j (peer (withPending caller ws)) free (taken-below (s .slots) j caller e))
+        (ended-ends (sender .number) (x .«reply_serial») (caller .pending) (ok j caller e))
+
+    once : (a : Address) → awaited (s .slots) (sender .number) (x .«reply_serial») a ≡ true
+        → awaited (reply s sender a x .state .slots) (sender .number) (x .«reply_serial») a ≡ false
+    once undirected w = absurd (false≢true w)
+    once bus w = absurd (false≢true w)
+    once unknown w = absurd (false≢true w)
+    once (slot j) w = once-to j (getD (s .slots) j free) refl w
+
     -- over the state that a passed reply leaves, nobody awaits it
     pub reply-once : awaited (s .slots) (sender .number) (x .«reply_serial») address ≡ true
         → awaited (judged image s i sender h x .state .slots) (sender .number) (x .«reply_serial»)
         (resolve (judged image s i sender h x .state .slots) (fieldOf h (x .destination))) ≡ false
-    reply-once w = rw (judged-reply, resolve-after (fieldOf h (x .destination)) address) (once ok address w)
+    reply-once w = rw (judged-reply, resolve-after (fieldOf h (x .destination)) address) (once address w)
 
 -- the same reply again, by the peer with that number, is 24
 pub second-reply : {S : Type 0} (image : List ℕ) (s : State S) (i : ℕ) (sender : Peer S) (h : List ℕ) (x : Header) → isReply x ≡ true

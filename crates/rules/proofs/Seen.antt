@@ -40,14 +40,12 @@ module _ {A B : Type 0} (OA : Streams A) (OB : Streams B) (f : A → B) (h : Sim
   unfolding offer
   offer-seen s [] = refl
   offer-seen s (b ∷ p) =
-      rw (offer-step OB (f s) b p, offer-step OA s b p, h .judge s b) (go (OA .judge (OA .push s b)) refl (offer-seen (OA .push s b) p))
-    where
-      go : (v : Verdict) → OA .judge (OA .push s b) ≡ v → told OB (offer OB (f (OA .push s b)) p) ≡ seenOffer f (told OA (offer OA (OA .push s b) p))
-          → told OB (bump (follows v (OB .push (f s) b) (offer OB (OB .push (f s) b) p)))
-          ≡ seenOffer f (told OA (bump (follows v (OA .push s b) (offer OA (OA .push s b) p))))
-      go more e ih = rw (h .more s b e) (ap bump ih)
-      go (broken a) e ih = rw (h .broken s b a e)
-      go (whole k x) e ih = rw (h .whole s b k x e)
+      let t = OA .push s b in
+      let u = OB .push (f s) b in
+      rw (offer-step OB (f s) b p, offer-step OA s b p, h .judge s b)
+      ((elim (OA .judge t) as (λ (v : Verdict). OA .judge t ≡ v
+      → told OB (bump (follows v u (offer OB u p))) ≡ seenOffer f (told OA (bump (follows v t (offer OA t p)))))
+      [ more ↦ λ e. rw (h .more s b e) (ap bump (offer-seen t p)) | broken a ↦ λ e. rw (h .broken s b a e) | whole k x ↦ λ e. rw (h .whole s b k x e) ]) refl)
 
   -- ---- connect
 

@@ -81,15 +81,10 @@ slot-good all last (peer p) later b =
     let names = names-good later (p .names) (b .alone .owned) (λ y q. nobody-of (isOwner y) later (b .name y q)) in
     good-peer all last p later (search)
 
-slot-narrow : (last : ℕ) (x : Slot Tail) → Alone last x → narrow x ≡ true
-unfolding narrow
-slot-narrow last free a = refl
-slot-narrow last (peer p) a = rw (a .user, a .groups) (a .serials)
-
-slot-octets : (last : ℕ) (x : Slot Tail) → Alone last x → headOctets x ≡ true
-unfolding headOctets
-slot-octets last free a = refl
-slot-octets last (peer p) a = a .bytes
+slot-small : (last : ℕ) (x : Slot Tail) → Alone last x → (narrow x ≡ true) × (headOctets x ≡ true)
+unfolding narrow headOctets
+slot-small last free a = (refl, refl)
+slot-small last (peer p) a = (rw (a .user, a .groups) (a .serials), a .bytes)
 
 -- ---- all of them
 
@@ -150,6 +145,6 @@ kept-sound s l h k =
       sixteen = l;
       fits = h;
       slots = among-good (s .slots) (s .last) (s .slots) k;
-      narrows = every-of narrow (s .slots) (λ j. slot-narrow (s .last) (getD (s .slots) j free) (k .each j));
-      octets = every-of headOctets (s .slots) (λ j. slot-octets (s .last) (getD (s .slots) j free) (k .each j));
+      narrows = every-of narrow (s .slots) (λ j. slot-small (s .last) (getD (s .slots) j free) (k .each j) .0);
+      octets = every-of headOctets (s .slots) (λ j. slot-small (s .last) (getD (s .slots) j free) (k .each j) .1);
     }

@@ -25,11 +25,7 @@ okNames xs = distinct ownable sameName xs
 
 pub owns-snoc : (xs : List (List ℕ)) (name y : List ℕ) → owns (xs ++ (name ∷ [])) y ≡ true → (owns xs y ≡ true) ⊎ (y ≡ name)
 unfolding owns
-owns-snoc xs name y h = go (any-snoc (sameName y) xs name h)
-  where
-    go : (owns xs y ≡ true) ⊎ (same name y ≡ true) → (owns xs y ≡ true) ⊎ (y ≡ name)
-    go (inl e) = inl e
-    go (inr e) = inr (sym (same-eq name y e))
+owns-snoc xs name y h = elim (any-snoc (sameName y) xs name h) [ inl e ↦ inl e | inr e ↦ inr (sym (same-eq name y e)) ]
 
 pub ok-snoc : (xs : List (List ℕ)) (name : List ℕ) → okNames xs ≡ true → ownable name ≡ true → owns xs name ≡ false → okNames (xs ++ (name ∷ [])) ≡ true
 unfolding owns

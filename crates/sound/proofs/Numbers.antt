@@ -47,10 +47,8 @@ read-number : (s : List ℕ) (a : ℕ) → readHeader s ≡ Broken a → (1 ≤ 
 read-number s a e = go (known s e)
   where
     go : Known s (Broken a) → (1 ≤ a) × (a ≤ 9)
-    go (early l k f) = let n = fixed-number s f in (omega (arith, n .0), omega (arith, n .1))
-    go (late {head = h} l k z w) =
-        let n = head-number (take h s) (sym (read-whole s l (z .sizes) w) ∙ e) in
-        (omega (arith, n .0), omega (arith, n .1))
+    go (early l k f) = let n = fixed-number s f in omega arith
+    go (late {head = h} l k z w) = let n = head-number (take h s) (sym (read-whole s l (z .sizes) w) ∙ e) in omega arith
 
 -- a message that is broken or whole is so by what its head reads as
 abbrev readOf : Verdict → Reading

@@ -10,7 +10,7 @@ use Rattle.wire.proofs.Texts.{impossible, both-first, both-second}
 use Rattle.header.specs.Header.{readHeader}
 use Rattle.header.specs.declared.Header.{Header}
 use Rattle.header.specs.declared.Reading.the-variants.{Whole}
-use Rattle.stream.specs.Stream.{Verdict, more, broken, whole, Streams, offer, settled}
+use Rattle.stream.specs.Stream.{Verdict, more, broken, whole, Streams, Offer, offer, settled}
 use Rattle.stream.specs.Steps.{follows}
 use Rattle.stream.specs.Tail.{Tail, push, judge, tails, headEnd}
 use Rattle.stream.proofs.Offers.{offer-step}
@@ -28,22 +28,17 @@ unfolding offer
 taken-octets t [] e h = e
 taken-octets t (b ∷ p) e h =
     let pushed = push-octets t b e (both-first (octet b) (every octet p) h) in
-    rw (offer-step tails t b p) (go (judge (push t b)) pushed (taken-octets (push t b) p pushed (both-second (octet b) (every octet p) h)))
-  where
-    go : (v : Verdict) → every octet (push t b .head) ≡ true → every octet (offer tails (push t b) p .stream .head) ≡ true
-        → every octet (follows v (push t b) (offer tails (push t b) p) .stream .head) ≡ true
-    go more a ih = ih
-    go (broken n) a ih = a
-    go (whole k x) a ih = a
+    let later = taken-octets (push t b) p pushed (both-second (octet b) (every octet p) h) in
+    rw (offer-step tails t b p)
+    (elim (judge (push t b)) as (λ (v : Verdict). every octet (follows v (push t b) (offer tails (push t b) p) .stream .head) ≡ true)
+    [ more ↦ later | broken n ↦ pushed | whole k x ↦ pushed ])
 
 pub offer-octets : (t : Tail) (p : List ℕ) → every octet (t .head) ≡ true → every octet p ≡ true
     → every octet (settled tails (offer tails t p .verdict) (offer tails t p .stream) .head) ≡ true
-offer-octets t p e h = go (offer tails t p .verdict) (taken-octets t p e h)
-  where
-    go : (v : Verdict) → every octet (offer tails t p .stream .head) ≡ true → every octet (settled tails v (offer tails t p .stream) .head) ≡ true
-    go more a = a
-    go (broken n) a = a
-    go (whole k x) a = refl
+offer-octets t p e h =
+    let o = offer tails t p in
+    let a = taken-octets t p e h in
+    elim (o .verdict) as (λ (v : Verdict). every octet (settled tails v (o .stream) .head) ≡ true) [ more ↦ a | broken n ↦ a | whole k x ↦ refl ]
 
 -- ---- a verdict
 
@@ -52,15 +47,12 @@ pub offer-judged : {S : Type 0} (O : Streams S) (v : Verdict) → (v ≡ more �
     → O .judge (offer O s p .stream) ≡ v
 unfolding offer
 offer-judged O v n s [] e = absurd (n (sym e))
-offer-judged O v n s (b ∷ p) e =
-    rw (offer-step O s b p) (go (O .judge (O .push s b)) refl (rw (offer-step O s b p) at e) (offer-judged O v n (O .push s b) p))
-  where
-    go : (u : Verdict) → O .judge (O .push s b) ≡ u → follows u (O .push s b) (offer O (O .push s b) p) .verdict ≡ v
-        → (offer O (O .push s b) p .verdict ≡ v → O .judge (offer O (O .push s b) p .stream) ≡ v)
-        → O .judge (follows u (O .push s b) (offer O (O .push s b) p) .stream) ≡ v
-    go more q a ih = ih a
-    go (broken k) q a ih = q ∙ a
-    go (whole k y) q a ih = q ∙ a
+offer-judged {S} O v n s (b ∷ p) e =
+    let t = O .push s b in
+    let after : Verdict → Offer S = λ u. follows u t (offer O t p) in
+    rw (offer-step O s b p)
+    ((elim (O .judge t) as (λ (u : Verdict). O .judge t ≡ u → after u .verdict ≡ v → O .judge (after u .stream) ≡ v)
+    [ more ↦ λ q a. offer-judged O v n t p a | broken k ↦ λ q a. q ∙ a | whole k y ↦ λ q a. q ∙ a ]) refl (rw (offer-step O s b p) at e))
 
 pub offer-read : (t : Tail) (p h : List ℕ) (x : Header) → offer tails t p .verdict ≡ whole h x → readHeader (offer tails t p .stream .head) ≡ Whole x
 offer-read t p h x e =

@@ -1,5 +1,5 @@
 -- What the calls change of a peer: a name more or less, its stream, a pending call more or less. Each keeps a sound state sound.
-use mathlib.Core.Path.{_≡_, refl, sym, ap, _∙_, subst}
+use mathlib.Core.Path.{_≡_, refl, sym, ap, _∙_}
 use mathlib.Core.Logic.{_⊎_, inl, inr}
 use mathlib.Core.Bool.{true, false}
 use mathlib.Core.List.{List, [], _∷_, _++_}
@@ -47,15 +47,8 @@ module _ (s : State Tail) (i : ℕ) (p : Peer Tail) (g : Sound s) (e : getD (s .
       → Sound (putSlot s i (peer (withNames p (p .names ++ (name ∷ [])))))
   granted-sound name o n l =
       names-renewed (p .names ++ (name ∷ [])) (omega (arith, length-append (p .names) (name ∷ [])))
-      (names.ok-snoc (p .names) name (fine .owned) o own)
-      (λ y q. go y (names.owns-snoc (p .names) name y q))
-    where
-      own : owns (p .names) name ≡ false
-      own = sym (ap (isOwner name) e) ∙ nobody-at (isOwner name) refl (s .slots) n i
-
-      go : (y : List ℕ) → (owns (p .names) y ≡ true) ⊎ (y ≡ name) → (owns (p .names) y ≡ true) ⊎ (nobody (isOwner y) (s .slots) ≡ true)
-      go y (inl q) = inl q
-      go y (inr q) = inr (subst (λ (z : List ℕ). nobody (isOwner z) (s .slots) ≡ true) (sym q) n)
+      (names.ok-snoc (p .names) name (fine .owned) o (sym (ap (isOwner name) e) ∙ nobody-at (isOwner name) refl (s .slots) n i))
+      (λ y q. elim (names.owns-snoc (p .names) name y q) [ inl a ↦ inl a | inr a ↦ inr (rw a n) ])
 
   pub released-sound : (name : List ℕ) → Sound (putSlot s i (peer (withNames p (released name (p .names)))))
   unfolding released
@@ -70,12 +63,8 @@ module _ (s : State Tail) (i : ℕ) (p : Peer Tail) (g : Sound s) (e : getD (s .
   waits-sound c r k n l a b =
       pending-renewed (p .pending ++ (call c r ∷ [])) (omega (arith, length-append (p .pending) (call c r ∷ [])))
       (waits.ok-snoc (p .pending) c r (fine .waits) a n) (narrow-snoc (p .pending) c r (fine .serials) b)
-      (λ d q h. go d q (any-snoc (isCall d q) (p .pending) (call c r) h))
-    where
-      go : (d q : ℕ) → (awaits d q (p .pending) ≡ true) ⊎ (isCall d q (call c r) ≡ true)
-          → (awaits d q (p .pending) ≡ true) ⊎ (any (isPeer d) (s .slots) ≡ true)
-      go d q (inl h) = inl h
-      go d q (inr h) = inr (subst (λ (z : ℕ). any (isPeer z) (s .slots) ≡ true) (waits.call-callee d q (call c r) h) k)
+      (λ d q h. elim (any-snoc (isCall d q) (p .pending) (call c r) h)
+      [ inl a ↦ inl a | inr a ↦ inr (rw (← waits.call-callee d q (call c r) a) k) ])
 
   pub ended-sound : (c r : ℕ) → Sound (putSlot s i (peer (withPending p (ended c r (p .pending)))))
   unfolding ended
