@@ -13,7 +13,8 @@ use Rattle.wire.specs.declared.Order.{Order}
 use Rattle.wire.specs.declared.Order.the-variants.{Little, Big}
 use Rattle.header.specs.declared.Fixed.{Fixed}
 use Rattle.header.specs.declared.Fixed.the-variants.{Broken, Sizes}
-use Rattle.header.specs.Fixed.{fixedLength, arrayLimit, messageLimit, orderOf, isOrder, headLength, messageLength, sizesOf, fixedPart, arrayWord, bodyWord, kindOf, serialWord, versionOf}
+use Rattle.header.specs.Fixed.{fixedLength, arrayLimit, messageLimit, orderOf, isOrder, headLength, messageLength, sizesOf, fixedPart, arrayWord}
+use Rattle.header.specs.Fixed.{bodyWord, kindOf, serialWord, versionOf}
 
 module _ (s : List ℕ) where
   pub big : getD s 0 0 ≡ byte "B" → Big ≡ orderOf s
