@@ -75,6 +75,11 @@ allowDeny = twoRules (transactionRuleOf 0 1 0 0 0 7) (transactionRuleOf 0 0 0 0 
 abbrev pub denyAllow : List ℕ
 denyAllow = twoRules (transactionRuleOf 0 0 0 0 7 7) (transactionRuleOf 0 1 0 0 0 7)
 
+-- a verdict on all that is sent, and behind that a rule of a verdict and direction about the interface `org.a.x` and a member at an offset, or any
+abbrev pub interfaceRule : ℕ → ℕ → ℕ → ℕ → ℕ → List ℕ
+interfaceRule all verdict direction offset len =
+    twoRules (transactionRuleOf 0 all 0 0 0 0) (head 0 verdict direction 0 0 ++ (cites 0 0 ++ (cites 0 0 ++ (cites 0 7 ++ cites offset len))))
+
 -- ---- questions
 
 pub data WorkedQuestion : Type 0 where
@@ -178,7 +183,7 @@ workedTable =
     ∷ (callBetween denyAllow (bytes "org.b.y"), saysToPeer 64 2)  -- the rules the other way round
     ∷ []
 
--- ---- more lines: several messages on one stream, a second start, and the ends of an offering
+-- ---- more lines: calls without an interface, several messages on one stream, a second start, and the ends of an offering
 
 -- a whole message of type 5, and one that is broken by its type
 abbrev pub fifth : List ℕ
@@ -205,4 +210,9 @@ furtherRows =
     ∷ (sends noRules (littleFixed 5 8 0 ++ replicate 8 0), saysRefused 20 24)  -- a message is its head and its body (rule 2.3)
     ∷ (sendsThen fifth typeless, saysRefused 3 16)  -- the second message is judged by its own head (rule 11.2)
     ∷ (sendsThen typeless fifth, saysRefused 40 0)  -- a broken stream is closed (rule 9.3)
+    ∷ (callBetween (interfaceRule 1 0 0 0 0) (bytes "org.b.y"), saysRefused 22 64)  -- C has no interface, and to send one is denied (rule 6.8)
+    ∷ (sends (interfaceRule 1 0 0 0 0) callC, saysRefused 22 48)  -- to the bus too
+    ∷ (callBetween (interfaceRule 1 0 1 0 0) (bytes "org.b.y"), saysRefused 23 64)  -- and so is to receive one
+    ∷ (callBetween (interfaceRule 1 0 0 6 1) (bytes "org.b.y"), saysToPeer 64 2)  -- but not with another member, `x`
+    ∷ (callBetween (interfaceRule 0 1 0 0 0) (bytes "org.b.y"), saysRefused 22 64)  -- an allow for an interface lets none without one in
     ∷ []

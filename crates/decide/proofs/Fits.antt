@@ -126,15 +126,30 @@ module _ (image : List ℕ) (at : ℕ) where
           rw (literal, one-of (eqb (p .at) 0) (not (eqb len (p .len))) u .0, ← e) (rw (cut-at (p .at) (p .len) head) at h)
 
   module _ (head : List ℕ) where
-    pub interface-fits : (p : Place) {r : Bool} → r ≡ partFits image (rule .interface) (fieldOf head p) → r ≡ interfaceFits image rule (fieldOf head p)
-    unfolding interfaceFits
-    interface-fits p h = h
+    module _ (p : Place) where
+      -- a message without an interface, by the rule's own interface and verdict
+      pub interface-absent : p .at ≡ 0 → {len : ℕ} → len ≡ rule .interface .len
+          → eqb len 0 || eqb (rule .verdict) 0 ≡ interfaceFits image rule (fieldOf head p)
+      unfolding interfaceFits
+      interface-absent e g = rw (e, ← g)
 
-    pub parts-fit : (m : Header) {a b c : Bool} → a ≡ partFits image (rule .path) (fieldOf head (m .path))
-        → b ≡ interfaceFits image rule (fieldOf head (m .interface)) → c ≡ partFits image (rule .member) (fieldOf head (m .member))
-        → a && b && c ≡ partsFit image rule (messageOf head m)
-    unfolding partsFit messageOf
-    parts-fit m e f g = rw (e, f, g)
+      pub interface-present : (p .at ≡ 0 → ⊥) → {r : Bool} → r ≡ partFits image (rule .interface) (fieldOf head p) → r ≡ interfaceFits image rule (fieldOf head p)
+      unfolding interfaceFits
+      interface-present n h = rw (ne-eqb (p .at) 0 n) (rw (ne-eqb (p .at) 0 n) at h)
+
+    module _ (m : Header) {a : Bool} (e : a ≡ partFits image (rule .path) (fieldOf head (m .path))) where
+      pub path-differs : not a ≡ true → false ≡ partsFit image rule (messageOf head m)
+      unfolding partsFit messageOf
+      path-differs t = rw (← e, not-true a t)
+
+      module _ (t : not a ≡ false) {b : Bool} (f : b ≡ interfaceFits image rule (fieldOf head (m .interface))) where
+        pub interface-differs : not b ≡ true → false ≡ partsFit image rule (messageOf head m)
+        unfolding partsFit messageOf
+        interface-differs u = rw (← e, not-false a t, ← f, not-true b u)
+
+        pub parts-fit : not b ≡ false → {r : Bool} → r ≡ partFits image (rule .member) (fieldOf head (m .member)) → r ≡ partsFit image rule (messageOf head m)
+        unfolding partsFit messageOf
+        parts-fit u h = rw (← e, not-false a t, ← f, not-false b u) h
 
   module _ (uid : Uid) (gids head : List ℕ) (m : Header) where
     -- the code's tests of the type
@@ -173,7 +188,10 @@ pub ruleset fits = (
   part-any,
   part-differs,
   part-same,
-  interface-fits,
+  interface-absent,
+  interface-present,
+  path-differs,
+  interface-differs,
   parts-fit,
   rule-type,
   rule-other,

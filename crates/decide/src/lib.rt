@@ -156,11 +156,15 @@ fn part_fits(image: &[u8], at: usize, head: &[u8], place: Place) -> bool
     wire::equal(text(image, at), &head[from..to])
 }
 
-// The interface of the rule at `at`, whose verdict stands there too.
+// The interface of the rule at `at`. A message without one is met by the rules that name none, and by those that deny.
 fn interface_fits(image: &[u8], at: usize, head: &[u8], place: Place) -> bool
     requires { ⌜ InterfaceAsked (now image) at (now head) place ⌝ }
     ensures { λ r. ⌜ r ≡ interfaceFits (now (image .entry)) (ruleFrom (now (image .entry)) at) (fieldOf (now (head .entry)) place) ⌝ }
 {
+    if place.at == 0 {
+        return (word(image, at + INTERFACE_SPAN + LEN_OFFSET) == 0)
+            | (image[at + VERDICT_BYTE] == 0);
+    }
     part_fits(image, at + INTERFACE_SPAN, head, place)
 }
 
@@ -168,9 +172,13 @@ fn parts_fit(image: &[u8], at: usize, head: &[u8], header: Header) -> bool
     requires { ⌜ RuleAsked (now image) at (now head) header ⌝ }
     ensures { λ r. ⌜ r ≡ partsFit (now (image .entry)) (ruleFrom (now (image .entry)) at) (messageOf (now (head .entry)) header) ⌝ }
 {
-    part_fits(image, at + PATH_SPAN, head, header.path)
-        & interface_fits(image, at, head, header.interface)
-        & part_fits(image, at + MEMBER_SPAN, head, header.member)
+    if !part_fits(image, at + PATH_SPAN, head, header.path) {
+        return false;
+    }
+    if !interface_fits(image, at, head, header.interface) {
+        return false;
+    }
+    part_fits(image, at + MEMBER_SPAN, head, header.member)
 }
 
 // Everything of the rule but its direction and its name.

@@ -10,7 +10,7 @@ use Rattle.policy.specs.Names.{owns}
 use Rattle.policy.specs.Subjects.{inGroups, subjectFits}
 use Rattle.policy.specs.Matching.{connectFits, ownedFits, ownFits, partFits, interfaceFits, partsFit, nameFits, transactionFits, transactionMatches}
 use Rattle.policy.specs.Decisions.{decidesIn, mayConnect, mayOwn, mayTransact}
-use Rattle.policy.specs.Table.{DecisionRow, decisionTable, people, messageRows}
+use Rattle.policy.specs.Table.{DecisionRow, decisionTable, people, messageRows, bareRows}
 
 abbrev Agree : List DecisionRow → Type 0
 Agree lines = agrees (λ (given : Bool). given) Bool·beq lines ≡ true
@@ -27,3 +27,7 @@ people-agree = refl
 pub messages-agree : Agree messageRows
 unfolding same wordAt wordBytes deciding owns subjectFits partFits interfaceFits partsFit nameFits transactionFits transactionMatches decidesIn mayTransact
 messages-agree = refl
+
+pub bare-agree : Agree bareRows
+unfolding same wordAt wordBytes deciding subjectFits partFits interfaceFits partsFit nameFits transactionFits transactionMatches decidesIn mayTransact
+bare-agree = refl

@@ -59,9 +59,14 @@ equals literal (some text) = same literal text
 unfoldable pub partFits : List ℕ → Span → Option (List ℕ) → Bool
 partFits image s part = eqb (s .len) 0 || equals (textOf image s) part
 
--- the interface, by itself since only it can be absent from a message that rules are about (rule 6.7)
+-- the verdict is deny (rule 5.6)
+abbrev pub denies : PolicyRule → Bool
+denies r = eqb (r .verdict) 0
+
+-- a rule that names an interface fits a message without one exactly where it denies (rule 6.8)
 unfoldable pub interfaceFits : List ℕ → PolicyRule → Option (List ℕ) → Bool
-interfaceFits image r interface = partFits image (r .interface) interface
+interfaceFits image r none = eqb (r .interface .len) 0 || denies r
+interfaceFits image r (some text) = partFits image (r .interface) (some text)
 
 -- path, interface and member, each by itself (rule 6.7)
 unfoldable pub partsFit : List ℕ → PolicyRule → Message → Bool

@@ -16,7 +16,6 @@ strings = bytes "org.fooorg.a.xorg.b.y/pi.fM"
 abbrev pub citesNone : List ℕ
 citesNone = cites 0 0
 
--- org.foo, org.a.x and org.b.y; /p stands at 21, i.f at 23 and M at 26
 abbrev pub foo : List ℕ
 foo = cites 0 7
 
@@ -25,6 +24,22 @@ citesAx = cites 7 7
 
 abbrev pub citesBy : List ℕ
 citesBy = cites 14 7
+
+-- the path /p and another one, the interface i.f, the member M and another one
+abbrev pub citesPath : List ℕ
+citesPath = cites 21 2
+
+abbrev pub citesRoot : List ℕ
+citesRoot = cites 21 1
+
+abbrev pub citesInterface : List ℕ
+citesInterface = cites 23 3
+
+abbrev pub citesMember : List ℕ
+citesMember = cites 26 1
+
+abbrev pub citesF : List ℕ
+citesF = cites 25 1
 
 -- a context, a verdict, a matcher and an id
 abbrev pub connectRuleBytes : ℕ → ℕ → ℕ → ℕ → List ℕ
@@ -47,6 +62,12 @@ to context verdict subject name = transactionRuleBytes context verdict send 0 su
 abbrev pub of : ℕ → List ℕ → List ℕ → List ℕ → List ℕ
 of type path interface member = transactionRuleBytes 0 1 send type 0 citesNone path interface member
 
+-- anything is allowed in a direction, and behind that a type and parts are denied
+abbrev pub allBut : ℕ → ℕ → List ℕ → List ℕ → List ℕ → List ℕ
+allBut direction type path interface member =
+    transactionRuleBytes 0 1 direction 0 0 citesNone citesNone citesNone citesNone
+    ++ transactionRuleBytes 0 0 direction type 0 citesNone path interface member
+
 -- rules of the three sections, over those strings
 abbrev pub imageOfRules : List ℕ → List ℕ → List ℕ → List ℕ
 imageOfRules connects owns transactions = imageOf connects owns transactions strings
@@ -56,8 +77,17 @@ imageOfRules connects owns transactions = imageOf connects owns transactions str
 abbrev pub aCall : Message
 aCall = record { kind = 1; path = some (bytes "/p"); interface = some (bytes "i.f"); member = some (bytes "M") }
 
+-- the call without its interface
 abbrev pub bare : Message
 bare = record { kind = 1; path = some (bytes "/p"); interface = none; member = some (bytes "M") }
+
+-- the call as a signal
+abbrev pub aSignal : Message
+aSignal = record { kind = 4; path = some (bytes "/p"); interface = some (bytes "i.f"); member = some (bytes "M") }
+
+-- a message of which only the type is known: no head that is good is such a one, and a path and a member are still not matched by an absent one
+abbrev pub fieldless : Message
+fieldless = record { kind = 1; path = none; interface = none; member = none }
 
 abbrev pub gids : List ℕ
 gids = 5 ∷ 6 ∷ []
@@ -102,14 +132,30 @@ people =
     ∷ (letsOwn (ownRuleBytes 2 1 0 5 citesNone) (bytes "org.foo"), false)
     ∷ []
 
--- direction, type, path, interface and member; a text against an absent field; a name that is not owned
+-- direction, type, path, interface and member; a name that is not owned
 abbrev pub messageRows : List DecisionRow
 messageRows =
     (passes (to 0 1 0 citesNone) receive [] aCall, false)
     ∷ (passes (of 4 citesNone citesNone citesNone) send [] aCall, false)
-    ∷ (passes (of 1 (cites 21 2) (cites 23 3) (cites 26 1)) send [] aCall, true)
-    ∷ (passes (of 1 (cites 21 1) citesNone citesNone) send [] aCall, false)
-    ∷ (passes (of 1 citesNone citesNone (cites 26 1)) send [] bare, true)
-    ∷ (passes (of 1 citesNone (cites 23 3) citesNone) send [] bare, false)
+    ∷ (passes (of 1 citesPath citesInterface citesMember) send [] aCall, true)
+    ∷ (passes (of 1 citesRoot citesNone citesNone) send [] aCall, false)
+    ∷ (passes (of 1 citesNone citesNone citesMember) send [] bare, true)
     ∷ (passes (to 0 1 0 foo) send [] aCall, false)
+    ∷ []
+
+-- a rule that names an interface, against a call without one (rule 6.8): a deny matches in either direction where its type, path and member fit, and an
+-- allow is skipped; a deny does not match another interface, of a call or of a signal, nor an absent path or member
+abbrev pub bareRows : List DecisionRow
+bareRows =
+    (passes (allBut send 1 citesPath citesInterface citesMember) send [] bare, false)
+    ∷ (passes (allBut receive 0 citesNone citesInterface citesNone) receive [] bare, false)
+    ∷ (passes (allBut send 0 citesNone citesInterface citesF) send [] bare, true)
+    ∷ (passes (allBut send 0 citesRoot citesInterface citesNone) send [] bare, true)
+    ∷ (passes (allBut send 4 citesNone citesInterface citesNone) send [] bare, true)
+    ∷ (passes (of 1 citesNone citesInterface citesNone) send [] bare, false)
+    ∷ (passes (allBut send 0 citesNone foo citesNone) send [] aCall, true)
+    ∷ (passes (allBut send 0 citesNone foo citesNone) send [] aSignal, true)
+    ∷ (passes (allBut send 0 citesNone citesInterface citesNone) send [] aSignal, false)
+    ∷ (passes (allBut send 0 citesPath citesNone citesNone) send [] fieldless, true)
+    ∷ (passes (allBut send 0 citesNone citesNone citesMember) send [] fieldless, true)
     ∷ []

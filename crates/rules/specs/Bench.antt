@@ -11,7 +11,7 @@ use Rattle.header.specs.Fields.{absent}
 use Rattle.header.specs.declared.Header.{Header}
 use Rattle.policy.specs.Names.{busName}
 use Rattle.policy.specs.Decisions.{send, receive}
-use Rattle.policy.specs.Table.{citesNone, connectRuleBytes, ownRuleBytes, transactionRuleBytes, imageOfRules}
+use Rattle.policy.specs.Table.{citesNone, citesInterface, connectRuleBytes, ownRuleBytes, transactionRuleBytes, imageOfRules}
 use Rattle.stream.specs.Stream.{more, broken, Streams}
 use Rattle.rules.specs.State.{free, peer, Peer, Pending, State}
 use Rattle.rules.specs.Judge.{Judged, refusal, bit, judged}
@@ -42,6 +42,11 @@ receiveOnly = imageOfRules [] [] (allow receive)
 
 abbrev pub both : List ℕ
 both = imageOfRules [] [] (allow send ++ allow receive)
+
+-- everything is allowed, and behind that one interface denied in a direction
+abbrev pub allButInterface : ℕ → List ℕ
+allButInterface direction =
+    imageOfRules [] [] (allow send ++ allow receive ++ transactionRuleBytes 0 0 direction 0 0 citesNone citesNone citesInterface citesNone)
 
 -- ---- states
 
@@ -156,7 +161,8 @@ toPeerRow n = 0 ∷ 2 ∷ n ∷ 0 ∷ []
 abbrev pub toSlots : ℕ → ℕ → List ℕ
 toSlots mask count = 0 ∷ 3 ∷ mask ∷ count ∷ []
 
--- calls and signals: 20, 21, the bus, everybody; send before receive; 25 before 26, and only for a call that expects a reply
+-- calls and signals: 20, 21, the bus, everybody; send before receive; 25 before 26, and only for a call that expects a reply; a call without an interface
+-- is denied where an interface is, to a peer and to the bus (rule 6.8)
 abbrev pub judgementRows : List CallRow
 judgementRows =
     (judgement (fromOne both waiting 5 0 1 nameBy), refusedRow 20)
@@ -177,6 +183,10 @@ judgementRows =
     ∷ (judgement (fromFull 0 16), refusedRow 25)
     ∷ (judgement (fromFull 0 17), refusedRow 26)
     ∷ (judgement (fromFull 1 17), toPeerRow 2)
+    ∷ (judgement (fromOne (allButInterface send) waiting call 0 1 nameBy), refusedRow 22)
+    ∷ (judgement (fromOne (allButInterface send) waiting call 0 1 []), refusedRow 22)
+    ∷ (judgement (fromOne (allButInterface receive) waiting call 0 1 nameBy), refusedRow 23)
+    ∷ (judgement (fromOne (allButInterface receive) waiting call 0 1 []), toBusRow)
     ∷ []
 
 -- replies: peer 2's to serial 9 passes, once, whatever policy says; no other does

@@ -9,7 +9,9 @@ parts-fit-spec =
     (tie.spec
     (λ c. search fits)
     (λ c κs. search fits)
+    (λ c. search fits)
     (λ c κs. search fits)
+    (λ c. search fits)
     (λ c. search fits)
     (λ c κs. search fits)
     (λ c. search fits))
