@@ -91,12 +91,16 @@ static uint64_t copied(const struct job *j) {
 static uint64_t compared(const struct job *j) { return compare(j->a.at, j->memory.at, j->a.len) != 0; }
 
 static uint32_t gids[16] = {100, 101, 102, 103, 104, 105, 106, 107, 108, 109, 110, 111, 112, 113, 114, 115};
-static uint32_t places[6];
+// Path, interface and member of the call that is judged; and of the same call without an interface.
+static uint32_t places[6], bare[6];
 static unsigned char cells[1024];
 
-static uint64_t decide(const struct job *j) {
-    return bench_decide(j->image.at, j->image.len, 0, 1, 1000, gids, 16, cells, sizeof cells, j->a.at, j->a.len, places);
+static uint64_t decide_by(const struct job *j, const uint32_t *fields) {
+    return bench_decide(j->image.at, j->image.len, 0, 1, 1000, gids, 16, cells, sizeof cells, j->a.at, j->a.len, fields);
 }
+
+static uint64_t decide(const struct job *j) { return decide_by(j, places); }
+static uint64_t decide_bare(const struct job *j) { return decide_by(j, bare); }
 
 static uint64_t one_piece(const struct job *j, uint32_t peer, const unsigned char *at, size_t len) {
     return bench_piece(j->image.at, j->image.len, j->memory.at, j->memory.len, peer, at, len);
@@ -237,8 +241,8 @@ static void image(const char *work, struct bytes b) {
     j->memory = b, j->a = twin;
 }
 
-static void decision(const char *work, struct bytes b, uint64_t expect) {
-    struct job *j = add(work, "decide", decide, expect);
+static void decision(const char *work, uint64_t (*run)(const struct job *), struct bytes b, uint64_t expect) {
+    struct job *j = add(work, "decide", run, expect);
     j->image = b, j->a = call;
     add(work, "test", our_image, 0)->image = b;
 }
@@ -267,12 +271,14 @@ static void all_policy(void) {
     image("image test, 512 rules of four strings", image_of(NEARLY, 512));
     for (int i = 0; i < 3; i++) {
         sprintf(work, "decision, %d rules, none fits", sizes[i]);
-        decision(work, image_of(OTHERS, sizes[i]), 0);
+        decision(work, decide, image_of(OTHERS, sizes[i]), 0);
         sprintf(work, "decision, %d rules, all fit but for the name", sizes[i]);
-        decision(work, image_of(NEARLY, sizes[i]), 0);
+        decision(work, decide, image_of(NEARLY, sizes[i]), 0);
         sprintf(work, "decision, %d rules, a mandatory one decides first", sizes[i]);
-        decision(work, image_of(MANDATORY, sizes[i]), 1);
+        decision(work, decide, image_of(MANDATORY, sizes[i]), 1);
     }
+    decision("decision, 512 rules, none fits, no interface", decide_bare, image_of(OTHERS, 512), 0);
+    decision("decision, 512 rules, all fit but for the name, no interface", decide_bare, image_of(NEARLY, 512), 0);
 }
 
 static void growth(struct bytes long_head) {
@@ -281,9 +287,9 @@ static void growth(struct bytes long_head) {
         sprintf(work, "growth:image test:rules:%d", n);
         image(work, image_of(OTHERS, n));
         sprintf(work, "growth:none fits:rules:%d", n);
-        decision(work, image_of(OTHERS, n), 0);
+        decision(work, decide, image_of(OTHERS, n), 0);
         sprintf(work, "growth:all but the name:rules:%d", n);
-        decision(work, image_of(NEARLY, n), 0);
+        decision(work, decide, image_of(NEARLY, n), 0);
     }
     struct bytes m = served(PEERS);
     for (int n = 0; n <= 1792; n += 256) {
@@ -320,6 +326,7 @@ static void all_jobs(void) {
     for (int i = 0; i < 6; i += 2) {
         const char *s = i == 0 ? PATH : i == 2 ? INTERFACE : MEMBER;
         places[i] = (unsigned char *)memmem(call.at, call.len, s, strlen(s)) - call.at, places[i + 1] = strlen(s);
+        if (i != 2) bare[i] = places[i], bare[i + 1] = places[i + 1];
     }
     for (int j = 0; j < 4; j++) cells[256 * j] = sprintf((char *)cells + 256 * j + 1, "org.example.Service.Fir%02d", j);
     all_policy();

@@ -11,7 +11,8 @@ use Rattle.header.specs.declared.Header.{Header}
 use Rattle.header.specs.declared.Reading.{Reading}
 use Rattle.header.specs.declared.Reading.the-variants.{Short, Broken, Whole}
 use Rattle.header.specs.Header.{readHeader, readingAnswer}
-use Rattle.decide.specs.Contracts.{Within, Asked}
+use Rattle.matching.specs.Contracts.{Within}
+use Rattle.decide.specs.Contracts.{Asked}
 
 pub asked : (image head : List ℕ) (m : Header) {r : Outcome} → r ≡ outcomeOf image → r ≡ Good → Within head m → Asked image head m
 asked image head m e h w = record { good = outcome-holds image (sym e ∙ h); within = w }

@@ -11,7 +11,7 @@ ghost use Rattle.signature.specs.Signature.{validSignature};
 ghost use Rattle.header.specs.Header.{readHeader, readingAnswer};
 ghost use Rattle.memory.specs.Good.{good};
 ghost use Rattle.memory.specs.Calls.{startOn, ownOn, Did};
-ghost use Rattle.decide.specs.Contracts.{Within};
+ghost use Rattle.matching.specs.Contracts.{Within};
 
 // ---- reading
 

@@ -12,7 +12,7 @@ use Rattle.image.specs.Rules.{ruleFrom}
 use Rattle.image.specs.Contracts.{GoodImage}
 use Rattle.image.proofs.RuleHolds.{own-holds}
 use Rattle.policy.specs.Matching.{connectFits, ownFits}
-use Rattle.decide.specs.Contracts.{OwnAt}
+use Rattle.matching.specs.Contracts.{OwnAt}
 use Rattle.policy.specs.Decisions.{mayConnect, mayOwn}
 use Rattle.policy.specs.declared.Uid.{Uid}
 use Rattle.decide.proofs.Section.{Search, search-begins, search-down, search-over, search-at, search-other, search-miss, search-found}

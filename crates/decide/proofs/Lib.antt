@@ -1,5 +1,3 @@
-mod Subjects
-mod Fits
 mod Section
 mod Decisions
 mod Transactions

@@ -18,11 +18,12 @@ use Rattle.image.proofs.RuleHolds.{transaction-holds}
 use Rattle.header.specs.declared.Header.{Header}
 use Rattle.policy.specs.Names.{nameWidth, nameOf, namesIn, owns}
 use Rattle.policy.specs.Matching.{messageOf, nameFits, transactionFits, transactionMatches}
-use Rattle.decide.specs.Contracts.{Cited, TransactionAt, Within, Asked, RuleAsked}
+use Rattle.matching.specs.Contracts.{Cited, TransactionAt, Within, RuleAsked}
+use Rattle.decide.specs.Contracts.{Asked}
 use Rattle.policy.specs.Decisions.{mayTransact}
 use Rattle.policy.specs.declared.Uid.{Uid}
 use Rattle.policy.proofs.Cells.{Among, among-begins, among-here, among-more, among-ends}
-use Rattle.decide.proofs.Fits.{cited-length}
+use Rattle.matching.proofs.Fits.{cited-length}
 use Rattle.decide.proofs.Section.{Search, search-begins, search-down, search-over, search-at, search-pass, search-found}
 
 transaction-at : {image : List ℕ} → GoodImage image → (k : ℕ) → k < ruleCount Transaction image → TransactionAt image (rulePlace Transaction image k)

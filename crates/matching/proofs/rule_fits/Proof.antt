@@ -1,7 +1,7 @@
--- `decide::rule_fits` meets its contract.
-use Rattle.decide.proofs.Fits.{fits}
-use Rattle.decide.proofs.rule_fits.Statement.{statement}
-use Rattle.decide.proofs.rule_fits.Tie as tie
+-- `matching::rule_fits` meets its contract.
+use Rattle.matching.proofs.Fits.{fits}
+use Rattle.matching.proofs.rule_fits.Statement.{statement}
+use Rattle.matching.proofs.rule_fits.Tie as tie
 
 pub rule-fits-spec : {M : Type 1} → statement M
 rule-fits-spec =

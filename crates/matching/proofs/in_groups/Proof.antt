@@ -1,9 +1,9 @@
--- `decide::in_groups` meets its contract.
+-- `matching::in_groups` meets its contract.
 use lib.ListN.{length}
 use Prim.Native.Nat.{_-_}
-use Rattle.decide.proofs.Subjects.{Looking, looking}
-use Rattle.decide.proofs.in_groups.Statement.{statement}
-use Rattle.decide.proofs.in_groups.Tie as tie
+use Rattle.matching.proofs.Subjects.{Looking, looking}
+use Rattle.matching.proofs.in_groups.Statement.{statement}
+use Rattle.matching.proofs.in_groups.Tie as tie
 
 abbrev Inv-loop : tie.InvT-loop
 Inv-loop gids group i₀ i = Looking gids group i

@@ -22,7 +22,7 @@ use Rattle.header.specs.declared.Header.{Header}
 use Rattle.policy.specs.Names.{nameWidth, nameOf}
 use Rattle.policy.specs.Subjects.{sameUser, inGroups, subjectFits}
 use Rattle.policy.specs.Matching.{connectFits, ownedFits, ownFits, fieldOf, messageOf, equals, partFits, interfaceFits, partsFit, transactionFits}
-use Rattle.decide.specs.Contracts.{Cited, PartAsked}
+use Rattle.matching.specs.Contracts.{Cited, PartAsked}
 use Rattle.policy.specs.declared.Uid.{Uid}
 use Rattle.policy.proofs.Cells.{cell-name}
 

@@ -1,7 +1,7 @@
--- `decide::own_fits` meets its contract.
-use Rattle.decide.proofs.Fits.{fits}
-use Rattle.decide.proofs.own_fits.Statement.{statement}
-use Rattle.decide.proofs.own_fits.Tie as tie
+-- `matching::own_fits` meets its contract.
+use Rattle.matching.proofs.Fits.{fits}
+use Rattle.matching.proofs.own_fits.Statement.{statement}
+use Rattle.matching.proofs.own_fits.Tie as tie
 
 pub own-fits-spec : {M : Type 1} → statement M
 own-fits-spec =

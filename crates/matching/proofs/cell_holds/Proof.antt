@@ -1,7 +1,7 @@
--- `decide::cell_holds` meets its contract.
-use Rattle.decide.proofs.Fits.{cuts}
-use Rattle.decide.proofs.cell_holds.Statement.{statement}
-use Rattle.decide.proofs.cell_holds.Tie as tie
+-- `matching::cell_holds` meets its contract.
+use Rattle.matching.proofs.Fits.{cuts}
+use Rattle.matching.proofs.cell_holds.Statement.{statement}
+use Rattle.matching.proofs.cell_holds.Tie as tie
 
 pub cell-holds-spec : {M : Type 1} → statement M
 cell-holds-spec =

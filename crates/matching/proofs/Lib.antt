@@ -1,0 +1,2 @@
+mod Subjects
+pub mod Fits
