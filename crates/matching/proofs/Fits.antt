@@ -129,7 +129,7 @@ module _ (image : List ℕ) (at : ℕ) where
     module _ (p : Place) where
       -- a message without an interface, by the rule's own interface and verdict
       pub interface-absent : p .at ≡ 0 → {len : ℕ} → len ≡ rule .interface .len
-          → eqb len 0 || eqb (rule .verdict) 0 ≡ interfaceFits image rule (fieldOf head p)
+          → eqb len 0 || not (eqb (rule .verdict) 1) ≡ interfaceFits image rule (fieldOf head p)
       unfolding interfaceFits
       interface-absent e g = rw (e, ← g)
 

@@ -151,7 +151,7 @@ fn interface_fits(image: &[u8], at: usize, head: &[u8], place: Place) -> bool
 {
     if place.at == 0 {
         return (word(image, at + INTERFACE_SPAN + LEN_OFFSET) == 0)
-            | (image[at + VERDICT_BYTE] == 0);
+            | (image[at + VERDICT_BYTE] != 1);
     }
     part_fits(image, at + INTERFACE_SPAN, head, place)
 }

@@ -87,6 +87,13 @@ module _ (contextOf : ℕ → ℕ) (matches : ℕ → Bool) where
   says zero = λ j l. absurd (omega arith)
   says (suc n) = one-rule-more n (deciding contextOf matches n) (matches n) refl (says n)
 
+  -- no two rules each have a higher precedence than the other
+  pub clash : (i j : ℕ) → Beats contextOf i j → Beats contextOf j i → ⊥
+  clash i j (inl a) (inl b) = omega arith
+  clash i j (inl a) (inr b) = omega (arith, b .0)
+  clash i j (inr a) (inl b) = omega (arith, a .0)
+  clash i j (inr a) (inr b) = omega (arith, a .1, b .1)
+
   -- a position is given exactly where the rule there decides
   pub deciding-some : (n i : ℕ) → deciding contextOf matches n ≡ some i → Decides contextOf matches n i
   deciding-some n i e = subst (Says n) e (says n)
@@ -94,13 +101,6 @@ module _ (contextOf : ℕ → ℕ) (matches : ℕ → Bool) where
   pub deciding-only : (n i : ℕ) → Decides contextOf matches n i → deciding contextOf matches n ≡ some i
   deciding-only n i d = go (deciding contextOf matches n) (says n)
     where
-      -- no two rules each have a higher precedence than the other
-      clash : (j : ℕ) → Beats contextOf i j → Beats contextOf j i → ⊥
-      clash j (inl a) (inl b) = omega arith
-      clash j (inl a) (inr b) = omega (arith, b .0)
-      clash j (inr a) (inl b) = omega (arith, a .0)
-      clash j (inr a) (inr b) = omega (arith, a .1, b .1)
-
       go : (o : Option ℕ) → Says n o → o ≡ some i
       go none k = absurd (false≢true (sym (k i (d .inside)) ∙ d .fits))
       go (some j) k = same (eqb j i) refl
@@ -109,7 +109,7 @@ module _ (contextOf : ℕ → ℕ) (matches : ℕ → Bool) where
           same true q = rw (eqb-true j i q)
           same false q =
               let m : j ≡ i → ⊥ = eqb-false j i q in
-              absurd (clash j (d .beats j (k .inside) (k .fits) m) (k .beats i (d .inside) (d .fits) (λ e. m (sym e))))
+              absurd (clash i j (d .beats j (k .inside) (k .fits) m) (k .beats i (d .inside) (d .fits) (λ e. m (sym e))))
 
   -- none is given exactly where no rule matches
   pub deciding-none : (n : ℕ) → deciding contextOf matches n ≡ none → NoneMatches matches n

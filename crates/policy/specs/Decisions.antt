@@ -3,23 +3,22 @@ use mathlib.Core.Bool.{Bool}
 use mathlib.Core.List.{List}
 use mathlib.Core.Option.{Option}
 use Prim.Native.Nat.{ℕ}
-use lib.Dec.{eqb}
 use Rattle.image.specs.Image.{ruleCount}
 use Rattle.image.specs.declared.Section.{Section}
 use Rattle.image.specs.declared.Section.the-variants.{Connect, Own, Transaction}
 use Rattle.image.specs.Rules.{policyRule}
 use Rattle.policy.specs.Precedence.{deciding, ruleVerdict}
-use Rattle.policy.specs.Matching.{connectFits, ownFits, Message, transactionMatches}
+use Rattle.policy.specs.Matching.{allows, connectFits, ownFits, Message, transactionMatches}
 use Rattle.policy.specs.declared.Uid.{Uid}
 
 -- ---- over the rules of any section, of which those match for which `hits` holds
 
--- the context of rule i, and whether it allows (rules 5.4, 5.5 and 5.6)
+-- the context of rule i, and whether it allows
 abbrev pub contextIn : Section → List ℕ → ℕ → ℕ
 contextIn s image i = policyRule s image i .context
 
 abbrev pub allowsIn : Section → List ℕ → ℕ → Bool
-allowsIn s image i = eqb (policyRule s image i .verdict) 1
+allowsIn s image i = allows (policyRule s image i)
 
 -- the rule that decides (rule 6.1)
 unfoldable pub decidesIn : Section → List ℕ → (ℕ → Bool) → Option ℕ

@@ -1,5 +1,5 @@
 -- Which rules match.
-use mathlib.Core.Bool.{Bool, true, false, cond, _&&_, _||_}
+use mathlib.Core.Bool.{Bool, true, false, cond, not, _&&_, _||_}
 use mathlib.Core.List.{List}
 use mathlib.Core.Option.{Option, none, some}
 use Prim.Native.Nat.{ℕ}
@@ -13,6 +13,10 @@ use Rattle.header.specs.declared.Header.{Header}
 use Rattle.policy.specs.Names.{owns}
 use Rattle.policy.specs.Subjects.{sameUser, inGroups, subjectFits}
 use Rattle.policy.specs.declared.Uid.{Uid}
+
+-- the verdict of a rule is allow, or else deny (rules 5.4, 5.5 and 5.6)
+abbrev pub allows : PolicyRule → Bool
+allows r = eqb (r .verdict) 1
 
 -- ---- connect
 
@@ -50,6 +54,10 @@ unfoldable pub messageOf : List ℕ → Header → Message
 messageOf h m =
     record { kind = m .kind; path = fieldOf h (m .path); interface = fieldOf h (m .interface); member = fieldOf h (m .member) }
 
+-- the same message without its interface (rule 6.8)
+abbrev pub withoutInterface : Message → Message
+withoutInterface m = record { kind = m .kind; path = m .path; interface = none; member = m .member }
+
 -- a rule's text fits no absent field (rule 6.7)
 abbrev pub equals : List ℕ → Option (List ℕ) → Bool
 equals literal none = false
@@ -59,13 +67,9 @@ equals literal (some text) = same literal text
 unfoldable pub partFits : List ℕ → Span → Option (List ℕ) → Bool
 partFits image s part = eqb (s .len) 0 || equals (textOf image s) part
 
--- the verdict is deny (rule 5.6)
-abbrev pub denies : PolicyRule → Bool
-denies r = eqb (r .verdict) 0
-
 -- a rule that names an interface fits a message without one exactly where it denies (rule 6.8)
 unfoldable pub interfaceFits : List ℕ → PolicyRule → Option (List ℕ) → Bool
-interfaceFits image r none = eqb (r .interface .len) 0 || denies r
+interfaceFits image r none = eqb (r .interface .len) 0 || not (allows r)
 interfaceFits image r (some text) = partFits image (r .interface) (some text)
 
 -- path, interface and member, each by itself (rule 6.7)
