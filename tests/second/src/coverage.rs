@@ -1,11 +1,14 @@
-//! Counting what a set of captures reaches: answers by call, and the cases of 7, 8, 9 and 50.
+//! Counting what a set of captures reaches: answers by call, the cases of 7, 8, 9 and 50, and
+//! what rules that name an interface did.
 
 use crate::answer::{Receiver, ANSWERS_OF_CALLS};
-use crate::capture;
-use crate::guard::Guard;
-use crate::header::{required_fields, HeadFault, Malformed};
+use crate::capture::{self, Call};
+use crate::guard::{Guard, LentPolicy};
+use crate::header::{required_fields, HeadFault, Header, Malformed};
 use crate::image::{self, Breach};
+use crate::interface_cases;
 use crate::replay::{run, Outcome};
+use crate::stream::Step;
 use std::collections::BTreeMap;
 
 #[derive(Default)]
@@ -50,7 +53,26 @@ fn wanted_cases() -> Vec<String> {
     let waits = ["begins", "ends by a reply", "ends by a disconnect"];
     wanted.extend(waits.iter().map(|what| format!("wait {what}")));
     wanted.push("bad capture".to_string());
+    wanted.extend(interface_cases::CASES.iter().map(|case| case.to_string()));
     wanted
+}
+
+/// The message that a call is about to end, with its sender. It is read here as well, because
+/// a stream forgets its message at the last byte.
+fn ended_by(guard: &Guard, call: &Call) -> Option<(u32, Header)> {
+    let Call::Piece { peer, bytes } = call else { return None };
+    let mut stream = guard.peer(*peer)?.stream.clone();
+    if stream.is_closed() {
+        return None;
+    }
+    for &byte in bytes {
+        match stream.take(byte) {
+            Step::Continues => {}
+            Step::Broke(_) => return None,
+            Step::Ended(header) => return Some((*peer, header)),
+        }
+    }
+    None
 }
 
 impl Coverage {
@@ -71,9 +93,13 @@ impl Coverage {
         let mut guard = Guard::default();
         for call in &reading.capture.calls {
             let waits = guard.waits().len();
+            let message = ended_by(&guard, call);
             let outcome = run(&mut guard, policy.as_ref().ok(), call);
             self.count(outcome);
             self.count_waits(outcome, waits, guard.waits().len());
+            if let Some((sender, header)) = message {
+                self.count_interfaces(&guard, policy.as_ref().ok(), sender, &header, outcome);
+            }
         }
         self.captures += 1;
     }
@@ -99,6 +125,23 @@ impl Coverage {
             _ => return,
         };
         self.count_case(case.to_string());
+    }
+
+    fn count_interfaces(
+        &mut self,
+        guard: &Guard,
+        policy: LentPolicy,
+        sender: u32,
+        message: &Header,
+        outcome: Outcome,
+    ) {
+        let (Some(policy), Some(sender), Outcome::Piece(judged)) = (policy, guard.peer(sender), outcome)
+        else {
+            return;
+        };
+        for case in interface_cases::cases(guard, policy, sender, message, judged) {
+            self.count_case(case);
+        }
     }
 
     /// What was never met, one line each.

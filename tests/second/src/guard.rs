@@ -21,7 +21,7 @@ pub struct Peer {
 }
 
 impl Peer {
-    fn credentials(&self) -> Credentials<'_> {
+    pub fn credentials(&self) -> Credentials<'_> {
         Credentials { uid: self.uid, gids: &self.gids }
     }
 }
@@ -303,7 +303,7 @@ impl Guard {
     }
 
     /// A unique name leads to a peer only as the exact text that the peer was given.
-    fn resolve(&self, destination: &str) -> Option<&Peer> {
+    pub fn resolve(&self, destination: &str) -> Option<&Peer> {
         match destination.starts_with(':') {
             true => self.peers().find(|peer| unique_name_of(peer.number) == destination),
             false => self.owner_of(destination),

@@ -13,6 +13,7 @@ pub mod guard;
 pub mod header;
 pub mod image;
 pub mod image_write;
+pub mod interface_cases;
 pub mod message;
 pub mod names;
 pub mod policy;

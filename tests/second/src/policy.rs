@@ -105,49 +105,67 @@ pub struct Policy {
     pub transaction: Vec<TransactionRule>,
 }
 
-/// Of the rules that match, given in image order, the one with the highest context
-/// decides, and within a context the latest. No matching rule means deny.
-fn highest_allows(matching: impl Iterator<Item = (Context, Verdict)>) -> bool {
-    let highest = matching.enumerate().max_by_key(|(place, (context, _))| (context.rank(), *place));
-    matches!(highest, Some((_, (_, Verdict::Allow))))
+/// One question to the transaction rules: may this side let a message through? `who` are
+/// the sender's credentials in send and the receiver's in receive; `names` are those that
+/// the other side owns.
+#[derive(Clone, Copy)]
+pub struct Question<'a> {
+    pub direction: Direction,
+    pub who: Credentials<'a>,
+    pub names: &'a [String],
 }
 
+/// What lets one matching rule win over another: the higher context, and within one
+/// context the later place.
+pub fn precedence(context: Context, place: usize) -> (u8, usize) {
+    (context.rank(), place)
+}
+
+/// The place of the rule that decides, of those that match.
+fn highest(matching: impl Iterator<Item = (usize, Context)>) -> Option<usize> {
+    matching.max_by_key(|(place, context)| precedence(*context, *place)).map(|(place, _)| place)
+}
+
+/// No matching rule means deny.
 impl Policy {
     pub fn allows_connect(&self, who: Credentials) -> bool {
-        let matches = |rule: &&ConnectRule| match rule.who {
+        let matches = |rule: &ConnectRule| match rule.who {
             Who::Any => true,
             Who::Uid(uid) => who.uid == uid,
             Who::Gid(gid) => who.gids.contains(&gid),
         };
-        highest_allows(self.connect.iter().filter(matches).map(|rule| (rule.context, rule.verdict)))
+        let matching = self.connect.iter().enumerate().filter(|(_, rule)| matches(rule));
+        highest(matching.map(|(place, rule)| (place, rule.context)))
+            .is_some_and(|place| self.connect[place].verdict == Verdict::Allow)
     }
 
     pub fn allows_own(&self, who: Credentials, name: &str) -> bool {
-        let matches = |rule: &&OwnRule| rule.context.fits(who) && rule.name.matches(name);
-        highest_allows(self.own.iter().filter(matches).map(|rule| (rule.context, rule.verdict)))
+        let matches = |rule: &OwnRule| rule.context.fits(who) && rule.name.matches(name);
+        let matching = self.own.iter().enumerate().filter(|(_, rule)| matches(rule));
+        highest(matching.map(|(place, rule)| (place, rule.context)))
+            .is_some_and(|place| self.own[place].verdict == Verdict::Allow)
     }
 
     /// `who` are the credentials of the sender, `names` those that the receiver owns.
     pub fn allows_send(&self, who: Credentials, names: &[String], message: &Header) -> bool {
-        self.allows_transaction(Direction::Send, who, names, message)
+        self.allows(Question { direction: Direction::Send, who, names }, message)
     }
 
     /// `who` are the credentials of the receiver, `names` those that the sender owns.
     pub fn allows_receive(&self, who: Credentials, names: &[String], message: &Header) -> bool {
-        self.allows_transaction(Direction::Receive, who, names, message)
+        self.allows(Question { direction: Direction::Receive, who, names }, message)
     }
 
-    fn allows_transaction(
-        &self,
-        direction: Direction,
-        who: Credentials,
-        names: &[String],
-        message: &Header,
-    ) -> bool {
-        let matches = |rule: &&TransactionRule| {
-            rule.direction == direction && rule.context.fits(who) && rule.matches(names, message)
-        };
-        highest_allows(self.transaction.iter().filter(matches).map(|rule| (rule.context, rule.verdict)))
+    pub fn allows(&self, question: Question, message: &Header) -> bool {
+        self.deciding(question, message)
+            .is_some_and(|place| self.transaction[place].verdict == Verdict::Allow)
+    }
+
+    /// The place of the transaction rule that decides, if there is one.
+    pub fn deciding(&self, question: Question, message: &Header) -> Option<usize> {
+        let matching =
+            self.transaction.iter().enumerate().filter(|(_, rule)| rule.matches(question, message));
+        highest(matching.map(|(place, rule)| (place, rule.context)))
     }
 }
 
@@ -167,18 +185,30 @@ impl NameMatcher {
 impl TransactionRule {
     /// The name is tested against every name of the other side, whichever name the
     /// message was addressed to.
-    fn matches(&self, names: &[String], message: &Header) -> bool {
+    pub fn matches(&self, question: Question, message: &Header) -> bool {
         let type_fits = self.message_type.is_none_or(|wanted| wanted == message.fixed.message_type);
-        let name_fits = self.name.as_ref().is_none_or(|wanted| names.contains(wanted));
-        type_fits
+        let name_fits = self.name.as_ref().is_none_or(|wanted| question.names.contains(wanted));
+        self.direction == question.direction
+            && self.context.fits(question.who)
+            && type_fits
             && name_fits
             && literal_fits(&self.path, &message.path)
-            && literal_fits(&self.interface, &message.interface)
+            && self.interface_fits(message)
             && literal_fits(&self.member, &message.member)
+    }
+
+    /// A message without an interface may mean any, the rule's own too. So a deny takes
+    /// such a message for its own, and an allow does not vouch for it.
+    fn interface_fits(&self, message: &Header) -> bool {
+        match (&self.interface, &message.interface) {
+            (None, _) => true,
+            (Some(_), None) => self.verdict == Verdict::Deny,
+            (Some(wanted), Some(there)) => wanted == there,
+        }
     }
 }
 
-/// A literal doesn't match an absent field.
+/// Rules are asked only about calls and signals, which always have a path and a member.
 fn literal_fits(rule: &Option<String>, field: &Option<String>) -> bool {
     rule.is_none() || rule == field
 }

@@ -122,6 +122,43 @@ fn calls_and_signals_to_the_bus() {
 }
 
 #[test]
+fn calls_without_an_interface_to_the_bus() {
+    let answers = |rules: &str| {
+        let mut bench = Bench::with_peers(&format!("{OPEN}\n{rules}"), 1);
+        [
+            bench.sends(1, Message::call(1, "/", "M")),
+            bench.sends(1, call(1, "org.freedesktop.DBus")),
+            bench.sends(1, call(1, "org.freedesktop.DBus").interface("a.b")),
+            bench.sends(1, Message::call(1, "/", "M").interface("a.c")),
+            bench.sends(1, signal().to("org.freedesktop.DBus")),
+            bench.sends(1, Message::signal(1, "/", "a.c", "S").to("org.freedesktop.DBus")),
+        ]
+    };
+    assert_eq!(answers("transaction default deny send any interface=a.b"), [22, 22, 22, 0, 22, 0]);
+    let named = "transaction default deny send call name=org.freedesktop.DBus interface=a.b path=/";
+    assert_eq!(answers(named), [22, 22, 22, 0, 0, 0]);
+    for other in ["any name=org.a", "any path=/a", "any member=N"] {
+        let rule = format!("transaction default deny send {other} interface=a.b");
+        assert_eq!(answers(&rule), [0; 6], "{other}");
+    }
+    // The bus has no receive rules.
+    assert_eq!(answers("transaction default deny receive any interface=a.b"), [0; 6]);
+    let only = "transaction default deny send any\ntransaction default allow send any interface=a.b";
+    assert_eq!(answers(only), [22, 22, 0, 22, 0, 22]);
+}
+
+#[test]
+fn a_call_refused_for_want_of_an_interface_does_not_wait() {
+    let rules = format!("{OPEN}\ntransaction default deny receive call interface=a.b");
+    let mut bench = Bench::with_peers(&rules, 2);
+    assert_eq!(bench.sends(1, call(1, ":1.2")), 23);
+    assert!(bench.guard.waits().is_empty());
+    assert_eq!(bench.sends(1, call(1, ":1.2").interface("a.c")), 0);
+    assert_eq!(bench.sends(1, call(1, ":1.2")), 23);
+    assert_eq!(bench.send(1, signal()), (0, Receiver::Slots(0b11)));
+}
+
+#[test]
 fn destinations_that_are_nobodys() {
     let mut bench = Bench::with_peers(OPEN, 7);
     for to in [":1.07", ":1.0", ":1.8", ":2.7", ":1.7.7", ":1.7a", ":1.-7", ":1.4294967303", "org.a.b"] {

@@ -107,13 +107,113 @@ fn literals() {
     assert_eq!(with("call interface=a.b", signal()), 22);
 }
 
+/// The same where everything may pass but for these rules, which stand last.
+fn sent_past(rules: &str, message: Message) -> u32 {
+    let open = "transaction default allow send any\ntransaction default allow receive any";
+    sent(&format!("{open}\n{rules}"), message)
+}
+
 #[test]
-fn a_deny_literal_does_not_match_an_absent_interface() {
-    let rules = "transaction default allow send any
-        transaction mandatory deny send any interface=a.b
-        transaction default allow receive any";
-    assert_eq!(sent(rules, call()), 0);
-    assert_eq!(sent(rules, call().interface("a.b")), 22);
+fn a_deny_with_an_interface_matches_a_call_without_one() {
+    let denied =
+        |parts: &str| sent_past(&format!("transaction default deny send {parts} interface=a.b"), call());
+    for fitting in
+        ["any", "call", "any name=org.to", "any path=/a", "any member=M", "call name=org.to path=/a member=M"]
+    {
+        assert_eq!(denied(fitting), 22, "{fitting}");
+    }
+    for other in ["signal", "any name=org.from", "any path=/", "any path=/a/b", "any member=m"] {
+        assert_eq!(denied(other), 0, "{other}");
+    }
+    // One part that differs is enough, however many fit.
+    assert_eq!(denied("call name=org.to path=/a member=N"), 0);
+    assert_eq!(denied("call name=org.to path=/b member=M"), 0);
+    assert_eq!(denied("call name=org.other path=/a member=M"), 0);
+}
+
+#[test]
+fn such_a_deny_still_asks_for_its_subject() {
+    let denied =
+        |subject: &str| sent_past(&format!("transaction {subject} deny send any interface=a.b"), call());
+    for fitting in ["default", "user 1000", "group 5", "mandatory"] {
+        assert_eq!(denied(fitting), 22, "{fitting}");
+    }
+    for other in ["user 5", "group 1000", "user 1001", "group 6"] {
+        assert_eq!(denied(other), 0, "{other}");
+    }
+}
+
+#[test]
+fn an_allow_with_an_interface_skips_a_call_without_one() {
+    let receive = "transaction default allow receive any";
+    let only = format!("transaction default allow send any interface=a.b\n{receive}");
+    assert_eq!(sent(&only, call()), 22);
+    assert_eq!(sent(&only, call().interface("a.b")), 0);
+    // It neither allows nor stands in the way of what another rule allows.
+    assert_eq!(sent_past("transaction mandatory allow send any interface=a.b", call()), 0);
+    let reopened = "transaction default deny send any member=M
+        transaction mandatory allow send any member=M interface=a.b";
+    assert_eq!(sent_past(reopened, call()), 22);
+    assert_eq!(sent_past(reopened, call().interface("a.b")), 0);
+}
+
+#[test]
+fn receive_rules_treat_a_call_without_an_interface_alike() {
+    let denied =
+        |parts: &str| sent_past(&format!("transaction default deny receive {parts} interface=a.b"), call());
+    for fitting in ["any", "call", "any name=org.from", "call path=/a member=M"] {
+        assert_eq!(denied(fitting), 23, "{fitting}");
+    }
+    for other in ["signal", "any name=org.to", "any path=/b", "any member=N"] {
+        assert_eq!(denied(other), 0, "{other}");
+    }
+    let only = "transaction default allow send any\ntransaction default allow receive any interface=a.b";
+    assert_eq!(sent(only, call()), 23);
+    assert_eq!(sent(only, call().interface("a.b")), 0);
+    // Send is asked first.
+    let both = "transaction default deny receive any interface=a.b
+        transaction default deny send any interface=a.b";
+    assert_eq!(sent_past(both, call()), 22);
+}
+
+#[test]
+fn an_interface_that_is_there_must_be_the_rules_own() {
+    let deny = "transaction mandatory deny send any interface=a.b";
+    assert_eq!(sent_past(deny, call().interface("a.b")), 22);
+    for other in ["a.c", "a.b.c", "A.b"] {
+        assert_eq!(sent_past(deny, call().interface(other)), 0, "{other}");
+        assert_eq!(sent_past(deny, Message::signal(1, "/a", other, "M")), 0, "{other}");
+    }
+    assert_eq!(sent_past(deny, signal()), 22);
+    let receive = "transaction default allow receive any";
+    let allow =
+        |interface: &str| format!("transaction default allow send any interface={interface}\n{receive}");
+    assert_eq!(sent(&allow("a.b"), signal()), 0);
+    assert_eq!(sent(&allow("a.c"), signal()), 22);
+}
+
+#[test]
+fn a_rule_without_an_interface_matches_with_and_without_one() {
+    for message in [call(), call().interface("a.b"), signal()] {
+        assert_eq!(sent_past("transaction default deny send any path=/a", message.clone()), 22);
+        assert_eq!(sent_past("transaction default deny receive any member=M", message.clone()), 23);
+        let reopened = "transaction default deny send any\ntransaction default allow send any member=M";
+        assert_eq!(sent_past(reopened, message), 0);
+    }
+}
+
+#[test]
+fn precedence_of_a_deny_with_an_interface() {
+    let deny = |context: &str| format!("transaction {context} deny send any interface=a.b");
+    // A later or higher allow without an interface wins, and one with an interface does not.
+    assert_eq!(sent_past(&format!("{}\ntransaction default allow send call", deny("default")), call()), 0);
+    assert_eq!(sent_past(&format!("transaction user 1000 allow send any\n{}", deny("group 5")), call()), 0);
+    assert_eq!(sent_past(&format!("transaction group 5 allow send any\n{}", deny("user 1000")), call()), 22);
+    for above in ["default", "group 5", "user 1000", "mandatory"] {
+        let rules = format!("{}\ntransaction {above} allow send any interface=a.b", deny("default"));
+        assert_eq!(sent_past(&rules, call()), 22, "{above}");
+        assert_eq!(sent_past(&rules, call().interface("a.b")), 0, "{above}");
+    }
 }
 
 #[test]

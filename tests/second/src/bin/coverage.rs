@@ -1,5 +1,5 @@
 //! `coverage [--all] FILE...`: counts the answers that captures reach, and by which call.
-//! With --all it fails where an answer or a case of 7, 8, 9 or 50 was never met.
+//! With --all it fails where an answer or one of the cases was never met.
 
 use second::coverage::Coverage;
 use std::io::Write;

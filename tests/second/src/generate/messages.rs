@@ -14,18 +14,17 @@ use crate::wire::{ByteOrder, MAX_ARRAY_LENGTH, NO_REPLY_EXPECTED};
 const NOBODYS: [&str; 9] =
     [":1.0", ":1.07", ":1.01", ":2.1", ":1.1.1", ":1.4294967297", ":1.1a", "org.nobody.here", ":1.-1"];
 
-/// A good message from peer `sender`, dressed in optional fields.
+/// A good message from peer `sender`.
 pub fn good(random: &mut Random, guard: &Guard, sender: u32) -> Message {
     let awaited: Vec<Wait> = guard.waits().iter().filter(|wait| wait.callee == sender).copied().collect();
-    let message = match random.below(100) {
+    match random.below(100) {
         0..=39 => call(random, guard),
         40..=59 => signal(random, guard),
         60..=89 if !awaited.is_empty() => awaited_reply(random, guard, &awaited),
         60..=79 => call(random, guard),
         80..=93 => stray_reply(random, guard),
         _ => unknown_type(random, guard),
-    };
-    dress(random, message)
+    }
 }
 
 fn call(random: &mut Random, guard: &Guard) -> Message {
@@ -79,7 +78,7 @@ fn unknown_type(random: &mut Random, guard: &Guard) -> Message {
 }
 
 /// Small serials meet again; a large one now and then tries the full width.
-fn serial(random: &mut Random) -> u32 {
+pub fn serial(random: &mut Random) -> u32 {
     match random.below(30) {
         0 => u32::MAX,
         1 => random.between(1, 0x0100_0000) as u32,
@@ -96,7 +95,7 @@ fn a_name_of(random: &mut Random, guard: &Guard, number: u32) -> String {
     }
 }
 
-fn addressed(random: &mut Random, guard: &Guard, message: Message, absent: usize) -> Message {
+pub fn addressed(random: &mut Random, guard: &Guard, message: Message, absent: usize) -> Message {
     if random.chance(absent) {
         return message;
     }
@@ -116,7 +115,7 @@ fn addressed(random: &mut Random, guard: &Guard, message: Message, absent: usize
 }
 
 /// Optional fields, flags, a body, either byte order, and fields in any order.
-fn dress(random: &mut Random, mut message: Message) -> Message {
+pub fn dress(random: &mut Random, mut message: Message) -> Message {
     if random.chance(15) {
         message = message.sender(random.pick(&[":1.1", ":9.9", "org.a.x", "a.b"]));
     }

@@ -3,6 +3,7 @@
 mod faults;
 mod full;
 mod images;
+mod interfaces;
 mod messages;
 mod policies;
 pub mod random;

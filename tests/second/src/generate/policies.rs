@@ -1,7 +1,7 @@
 //! Random policies, from wide open to full sections.
 
 use super::random::Random;
-use super::vocabulary;
+use super::{interfaces, vocabulary};
 use crate::image::{MAX_CONNECT, MAX_LENGTH, MAX_OWN, MAX_TRANSACTION};
 use crate::image_write;
 use crate::policy::{
@@ -41,7 +41,19 @@ fn policy(random: &mut Random) -> Policy {
     policy.connect.extend((0..connect).map(|_| connect_rule(random)));
     policy.own.extend((0..own).map(|_| own_rule(random)));
     policy.transaction.extend((0..transaction).map(|_| transaction_rule(random)));
+    add_interface_rules(random, &mut policy);
     policy
+}
+
+/// Rules that name an interface are rare among the others; a few more go in between them.
+fn add_interface_rules(random: &mut Random, policy: &mut Policy) {
+    for _ in 0..random.between(1, 4) {
+        let rules = interfaces::rules(random);
+        if policy.transaction.len() + rules.len() <= MAX_TRANSACTION {
+            let place = random.between(policy.transaction.len() / 2, policy.transaction.len());
+            policy.transaction.splice(place..place, rules);
+        }
+    }
 }
 
 /// A policy that lets everything pass, in the shortest form or with full sections.
@@ -84,7 +96,7 @@ pub fn open() -> Policy {
     }
 }
 
-fn context(random: &mut Random) -> Context {
+pub fn context(random: &mut Random) -> Context {
     match random.below(10) {
         0..=3 => Context::Default,
         4..=5 => Context::Group(Gid(vocabulary::id(random))),

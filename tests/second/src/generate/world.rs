@@ -1,7 +1,7 @@
 //! The peers of a generated capture: what they do next, and what they still have to send.
 
 use super::random::Random;
-use super::{faults, messages, vocabulary};
+use super::{faults, interfaces, messages, vocabulary};
 use crate::capture::Call;
 use crate::guard::Guard;
 use crate::message::Message;
@@ -221,11 +221,21 @@ impl World {
         if self.random.chance(2) {
             return messages::at_limit(&mut self.random).bytes();
         }
-        let message = messages::good(&mut self.random, &self.guard, peer);
+        let message = self.good_message(peer);
         match self.random.chance(self.phase.faults) {
             true => faults::broken(&mut self.random, &message),
             false => message.bytes(),
         }
+    }
+
+    fn good_message(&mut self, peer: u32) -> Message {
+        let aims = self.random.chance(20);
+        let aimed = match &self.policy {
+            Some(policy) if aims => interfaces::message(&mut self.random, &self.guard, policy),
+            _ => None,
+        };
+        let message = aimed.unwrap_or_else(|| messages::good(&mut self.random, &self.guard, peer));
+        messages::dress(&mut self.random, message)
     }
 
     /// More calls to one peer than may wait for a reply.
