@@ -28,6 +28,13 @@ gives earlier later e = omega (arith, leb-true, ltb-true)
 keeps : (earlier later : ℕ) → givesWay earlier later ≡ false → later < earlier
 keeps earlier later e = omega (arith, leb-false, ltb-false)
 
+-- no two rules each have a higher precedence than the other
+pub clash : (contextOf : ℕ → ℕ) (i j : ℕ) → Beats contextOf i j → Beats contextOf j i → ⊥
+clash contextOf i j (inl a) (inl b) = omega arith
+clash contextOf i j (inl a) (inr b) = omega (arith, b .0)
+clash contextOf i j (inr a) (inl b) = omega (arith, a .0)
+clash contextOf i j (inr a) (inr b) = omega (arith, a .1, b .1)
+
 -- ---- any section
 
 module _ (contextOf : ℕ → ℕ) (matches : ℕ → Bool) where
@@ -87,13 +94,6 @@ module _ (contextOf : ℕ → ℕ) (matches : ℕ → Bool) where
   says zero = λ j l. absurd (omega arith)
   says (suc n) = one-rule-more n (deciding contextOf matches n) (matches n) refl (says n)
 
-  -- no two rules each have a higher precedence than the other
-  pub clash : (i j : ℕ) → Beats contextOf i j → Beats contextOf j i → ⊥
-  clash i j (inl a) (inl b) = omega arith
-  clash i j (inl a) (inr b) = omega (arith, b .0)
-  clash i j (inr a) (inl b) = omega (arith, a .0)
-  clash i j (inr a) (inr b) = omega (arith, a .1, b .1)
-
   -- a position is given exactly where the rule there decides
   pub deciding-some : (n i : ℕ) → deciding contextOf matches n ≡ some i → Decides contextOf matches n i
   deciding-some n i e = subst (Says n) e (says n)
@@ -109,7 +109,7 @@ module _ (contextOf : ℕ → ℕ) (matches : ℕ → Bool) where
           same true q = rw (eqb-true j i q)
           same false q =
               let m : j ≡ i → ⊥ = eqb-false j i q in
-              absurd (clash i j (d .beats j (k .inside) (k .fits) m) (k .beats i (d .inside) (d .fits) (λ e. m (sym e))))
+              absurd (clash contextOf i j (d .beats j (k .inside) (k .fits) m) (k .beats i (d .inside) (d .fits) (λ e. m (sym e))))
 
   -- none is given exactly where no rule matches
   pub deciding-none : (n : ℕ) → deciding contextOf matches n ≡ none → NoneMatches matches n

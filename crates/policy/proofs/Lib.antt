@@ -1,5 +1,5 @@
 pub mod Table
 pub mod Decides
-pub mod Bare
+pub mod WithoutInterface
 pub mod Precedence
 pub mod Cells

@@ -1,6 +1,6 @@
 -- Leaving the interface out gains nothing (rule 6.8): where a message without one may pass, the same message with any interface may pass too.
 use mathlib.Core.Path.{_≡_, refl, sym, _∙_}
-use mathlib.Core.Bool.{Bool, true, false, not, _&&_, _||_, false≢true}
+use mathlib.Core.Bool.{Bool, true, false, _&&_, _||_, false≢true, or-true}
 use mathlib.Core.List.{List}
 use mathlib.Core.Option.{Option, none, some}
 use Prim.Native.Nat.{ℕ}
@@ -32,13 +32,9 @@ module _ (image : List ℕ) (r : PolicyRule) where
   -- a deny fits a message without an interface, whatever it names
   deny-fits : allows r ≡ false → interfaceFits image r none ≡ true
   unfolding interfaceFits
-  deny-fits a = go (eqb (r .interface .len) 0)
-    where
-      go : (b : Bool) → b || not (allows r) ≡ true
-      go true = refl
-      go false = rw a
+  deny-fits a = rw (a, or-true (eqb (r .interface .len) 0))
 
--- the rule matches still where its interface does
+-- where the interface fits for another that fitted, the rule still matches: direction, type, subject, path, interface, member, name
 one-part : (d t s p i j e n : Bool) → (i ≡ true → j ≡ true) → d && (t && s && (p && i && e)) && n ≡ true → d && (t && s && (p && j && e)) && n ≡ true
 one-part false t s p i j e n h k = k
 one-part true false s p i j e n h k = k
@@ -61,7 +57,7 @@ module _ (image : List ℕ) (direction : ℕ) (uid : Uid) (gids : List ℕ) (nam
   abbrev rule : ℕ → PolicyRule
   rule i = policyRule Transaction image i
 
-  -- where an interface fits for another, the rule matches
+  -- where one interface fits if another does, the rule matches the one if it matches the other
   hits-too : (i : ℕ) (x y : Option (List ℕ)) → (interfaceFits image (rule i) x ≡ true → interfaceFits image (rule i) y ≡ true) → Hits x i ≡ true
       → Hits y i ≡ true
   unfolding transactionMatches transactionFits partsFit
@@ -89,7 +85,7 @@ module _ (image : List ℕ) (direction : ℕ) (uid : Uid) (gids : List ℕ) (nam
       go false e =
           let apart : k ≡ i → ⊥ = λ q. false≢true (sym e ∙ rw (← q) at a) in
           absurd
-          (clash (contextIn Transaction image) (Hits none) i k
+          (clash (contextIn Transaction image) i k
           (d .beats k (c .inside) (hits-too k (m .interface) none (λ h. deny-fits image (rule k) e) (c .fits)) apart)
           (c .beats i (d .inside) (hits-too i none (m .interface) (allow-fits image (rule i) a (m .interface)) (d .fits)) (λ q. apart (sym q))))
 
