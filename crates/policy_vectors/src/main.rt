@@ -1,5 +1,5 @@
-// Decisions over generated images: every context, matcher and direction, strings that overlap, four owned names. An independent program wrote
-// `stdout` from the same choices.
+// Decisions over generated images: every context, matcher and direction, strings that overlap, four owned names. Each message is asked about as it is
+// and as a call without an interface. An independent program wrote `stdout` from the same choices.
 use header::Header;
 use header::Place;
 use policy::Uid;
@@ -12,7 +12,8 @@ const TEXTS: [u8; 29] = *b"org.foo.bar/p/qi.fMorg.foobar";
 
 // A number that seed and place determine.
 fn choose(seed: usize, place: usize) -> usize {
-    (seed % 256 * 4096 + place % 4096) * 2654435761 / 65536
+    let spread = (seed % 256 * 4096 + place % 4096) * 2654435761 / 65536 % 65536;
+    spread * 40503 / 64 % 65536
 }
 
 fn byte(s: &mut [u8], at: usize, b: usize) {
@@ -247,16 +248,21 @@ fn ask_names(image: &[u8], out: &mut [u8])
     ask_own(image, b"org.foobar", 12, out);
 }
 
-// A call or a signal, its fields by choice.
-fn message(seed: usize, at: usize) -> Header
+// A call or a signal, its fields by choice; or a call without an interface.
+fn message(seed: usize, at: usize, is_bare: bool) -> Header
     requires { ⌜ at < 4096 ⌝ }
     ensures { λ r. ⌜ Short r ⌝ }
 {
     let none = Place { at: 0, len: 0 };
     let path = place(1 + choose(seed, at) % 2, 11, 2, 11, 4);
-    let interface = place(choose(seed, at + 1) % 3, 15, 3, 0, 7);
+    let which = if is_bare { 0 } else { choose(seed, at + 1) % 3 };
+    let interface = place(which, 15, 3, 0, 7);
     let member = place(1 + choose(seed, at + 2) % 2, 18, 1, 17, 1);
-    let kind = if choose(seed, at + 3) % 2 == 0 { 1 } else { 4 };
+    let kind = if is_bare | (choose(seed, at + 3) % 2 == 0) {
+        1
+    } else {
+        4
+    };
     Header {
         kind,
         flags: 0,
@@ -276,6 +282,7 @@ fn may_pass(
     image: &[u8],
     seed: usize,
     at: usize,
+    is_bare: bool,
     direction: u8,
     names: &[u8],
     head: &[u8; 30],
@@ -284,8 +291,27 @@ fn may_pass(
 {
     let uid = (5 + choose(seed, at + 4) % 3) as u32;
     let gids = [(5 + choose(seed, at + 5) % 3) as u32, 8];
-    let header = message(seed, at);
+    let header = message(seed, at, is_bare);
     decide::may_transact(image, direction, Uid(uid), &gids, names, head, header)
+}
+
+// One message in both directions: a digit for send, and twelve further on one for receive.
+fn ask_both(
+    image: &[u8],
+    seed: usize,
+    at: usize,
+    is_bare: bool,
+    names: &[u8],
+    head: &[u8; 30],
+    to: usize,
+    out: &mut [u8],
+)
+    requires { ⌜ (at < 4096) × (to < 64) × GoodImage (now image) ⌝ }
+{
+    let sends = may_pass(image, seed, at, is_bare, policy::SEND, names, head);
+    byte(out, to, bit(sends));
+    let receives = may_pass(image, seed, at, is_bare, policy::RECEIVE, names, head);
+    byte(out, to + 12, bit(receives));
 }
 
 fn ask_pass(image: &[u8], seed: usize, names: &[u8], head: &[u8; 30], out: &mut [u8])
@@ -293,16 +319,8 @@ fn ask_pass(image: &[u8], seed: usize, names: &[u8], head: &[u8; 30], out: &mut 
 {
     let mut q = 0;
     while q < 12 {
-        byte(
-            out,
-            15 + q,
-            bit(may_pass(image, seed, 2000 + 16 * q, policy::SEND, names, head)),
-        );
-        byte(
-            out,
-            27 + q,
-            bit(may_pass(image, seed, 2000 + 16 * q, policy::RECEIVE, names, head)),
-        );
+        ask_both(image, seed, 2000 + 16 * q, false, names, head, 15 + q, out);
+        ask_both(image, seed, 2000 + 16 * q, true, names, head, 39 + q, out);
         q += 1;
     }
 }
@@ -326,9 +344,9 @@ fn main() {
     while seed < 32 {
         let image = make_image(seed);
         let names = make_names(seed);
-        let mut out = [b'-'; 40];
+        let mut out = [b'-'; 64];
         answers(&image, seed, &names, &head, &mut out);
-        out[39] = 10;
+        out[63] = 10;
         io::write_all(1, &out);
         seed += 1;
     }

@@ -33,7 +33,8 @@ fn text((start, length): Part) -> String {
 
 /// The choice, below `options`, that a seed makes at a place.
 fn choice(seed: usize, place: usize, options: usize) -> usize {
-    (seed * 4096 + place) * 2_654_435_761 / 65_536 % options
+    let spread = (seed * 4096 + place) * 2_654_435_761 / 65_536 % 65_536;
+    spread * 40_503 / 64 % 65_536 % options
 }
 
 /// An image that is being filled with the choices of one seed.
@@ -147,7 +148,14 @@ fn message_of(seed: usize, at: usize) -> Header {
     }
 }
 
-/// Who may connect, who may own what, and what may be sent and received: one digit each.
+/// The same as a method call without an interface.
+fn without_interface(message: Header) -> Header {
+    let fixed = FixedPart { message_type: METHOD_CALL, ..message.fixed };
+    Header { fixed, interface: None, ..message }
+}
+
+/// Who may connect, who may own what, and what may be sent and received, as it is and without
+/// an interface: one digit each.
 fn line_of(policy: &Policy, seed: usize) -> String {
     let gids = [Gid(6), Gid(8)];
     let users = [5, 6, 7].map(|uid| Credentials { uid: Uid(uid), gids: &gids });
@@ -156,16 +164,19 @@ fn line_of(policy: &Policy, seed: usize) -> String {
         answers.extend(users.iter().map(|&who| policy.allows_own(who, name)));
     }
     let names = names_of(seed);
-    let (mut sent, mut received) = (Vec::new(), Vec::new());
+    let mut passes: [Vec<bool>; 4] = Default::default();
     for at in (0..12).map(|question| 2000 + 16 * question) {
         let id = |place: usize| 5 + choice(seed, place, 3) as u32;
         let gids = [Gid(id(at + 5)), Gid(8)];
         let who = Credentials { uid: Uid(id(at + 4)), gids: &gids };
         let message = message_of(seed, at);
-        sent.push(policy.allows_send(who, &names, &message));
-        received.push(policy.allows_receive(who, &names, &message));
+        let bare = without_interface(message.clone());
+        passes[0].push(policy.allows_send(who, &names, &message));
+        passes[1].push(policy.allows_receive(who, &names, &message));
+        passes[2].push(policy.allows_send(who, &names, &bare));
+        passes[3].push(policy.allows_receive(who, &names, &bare));
     }
-    answers.into_iter().chain(sent).chain(received).map(|allows| if allows { '1' } else { '0' }).collect()
+    answers.into_iter().chain(passes.concat()).map(|allows| if allows { '1' } else { '0' }).collect()
 }
 
 #[test]
