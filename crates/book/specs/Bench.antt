@@ -214,5 +214,5 @@ furtherRows =
     ∷ (sends (interfaceRule 1 0 0 0 0) callC, saysRefused 22 48)  -- to the bus too
     ∷ (callBetween (interfaceRule 1 0 1 0 0) (bytes "org.b.y"), saysRefused 23 64)  -- and so is to receive one
     ∷ (callBetween (interfaceRule 1 0 0 6 1) (bytes "org.b.y"), saysToPeer 64 2)  -- but not with another member, `x`
-    ∷ (callBetween (interfaceRule 0 1 0 0 0) (bytes "org.b.y"), saysRefused 22 64)  -- an allow for an interface lets none without one in
+    ∷ (callBetween (interfaceRule 0 1 0 0 0) (bytes "org.b.y"), saysRefused 22 64)  -- an allow for an interface does not let C in
     ∷ []

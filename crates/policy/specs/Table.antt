@@ -85,7 +85,7 @@ bare = record { kind = 1; path = some (bytes "/p"); interface = none; member = s
 abbrev pub aSignal : Message
 aSignal = record { kind = 4; path = some (bytes "/p"); interface = some (bytes "i.f"); member = some (bytes "M") }
 
--- a message of which only the type is known: no head that is good is such a one, and a path and a member are still not matched by an absent one
+-- a call without any field, which no good head is: the definitions are of any message, and a path or a member that is absent is matched by no text
 abbrev pub fieldless : Message
 fieldless = record { kind = 1; path = none; interface = none; member = none }
 
