@@ -21,26 +21,31 @@ use Rattle.policy.specs.Precedence.{deciding}
 use Rattle.policy.specs.Matching.{connectFits, ownedFits, ownFits, messageOf, partFits, interfaceFits, partsFit, nameFits, transactionFits, transactionMatches}
 use Rattle.policy.specs.Decisions.{decidesIn, mayConnect, mayOwn, mayTransact}
 use Rattle.stream.specs.Stream.{offer}
-use Rattle.rules.specs.State.{firstBy}
+use Rattle.rules.specs.State.{firstBy, dropFirst}
 use Rattle.rules.specs.Addresses.{digits, uniqueName, answersTo, resolve}
-use Rattle.rules.specs.Pending.{awaits}
+use Rattle.rules.specs.Pending.{awaits, ended, endedAll}
 use Rattle.rules.specs.Judge.{maskOf, countOf, judged}
-use Rattle.rules.specs.Calls.{connect, own, piece}
+use Rattle.rules.specs.Calls.{connect, own, piece, disconnect}
 use Rattle.book.specs.Book.{cutOff}
 use Rattle.book.specs.Lists.{modelStep, answers}
+use Rattle.book.specs.Tally.{counted, begins, tallied}
 use Rattle.book.specs.Bench.{workedAnswer, workedTable, furtherRows}
+use Rattle.book.specs.Waits.{tallyShown, tallyTable}
 
-both-agree : (agrees workedAnswer same workedTable ≡ true) × (agrees workedAnswer same furtherRows ≡ true)
+all-agree : (agrees workedAnswer same workedTable ≡ true) × (agrees workedAnswer same furtherRows ≡ true) × (agrees tallyShown same tallyTable ≡ true)
 unfolding allZero same wordAt wordBytes startsWith wellKnown unique validName inNamespace headOf closedBy one row validSignature orderOf headLength
     messageLength sizesOf fixedPart letterOf textIn valueAt framed elementAt walk fieldsOf numberIn goodValue goodField goodValues hasRequired headerOf
     judgedHead readHead readHeader goodCounts goodSections goodHeader goodString goodOrAny goodOwned goodConnectRule goodOwnRule goodStrings
     goodTransactionRule goodRule goodImage outcomeOf imageAnswer inGroups subjectFits owns deciding connectFits ownedFits ownFits messageOf partFits
     interfaceFits partsFit nameFits transactionFits transactionMatches decidesIn mayConnect mayOwn mayTransact offer firstBy digits uniqueName answersTo
-    resolve awaits maskOf countOf judged connect own piece cutOff modelStep answers
-both-agree = (refl, refl)
+    resolve dropFirst awaits ended endedAll maskOf countOf judged connect own piece disconnect cutOff modelStep answers counted begins tallied
+all-agree = (refl, refl, refl)
 
 pub table-agrees : agrees workedAnswer same workedTable ≡ true
-table-agrees = both-agree .0
+table-agrees = all-agree .0
 
 pub more-agrees : agrees workedAnswer same furtherRows ≡ true
-more-agrees = both-agree .1
+more-agrees = all-agree .1
+
+pub tally-agrees : agrees tallyShown same tallyTable ≡ true
+tally-agrees = all-agree .2

@@ -13,3 +13,7 @@ pub mod Pieces
 pub mod Replied
 pub mod Consequences
 pub mod Ends
+pub mod Counts
+pub mod Tally
+pub mod Counted
+pub mod Full

@@ -78,7 +78,7 @@ module _ {R : Type 0} (say : R → Answer) {m : List ℕ} {b : State (List ℕ)}
 pub empty-holds : Holds (memoryOf empty) empty
 empty-holds = record { bytes = refl; sound = empty-sound }
 
-start-holds : (m : List ℕ) {e : List ℕ} {r : ℕ} → length m ≡ memoryLength → Did (startOn m) r e → (r ≡ 0) × Holds e empty
+pub start-holds : (m : List ℕ) {e : List ℕ} {r : ℕ} → length m ≡ memoryLength → Did (startOn m) r e → (r ≡ 0) × Holds e empty
 unfolding startOn
 start-holds m l d =
     let t = eq-eqb (length m) memoryLength l in

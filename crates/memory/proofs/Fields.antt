@@ -10,7 +10,7 @@ use Rattle.wire.specs.declared.Order.the-variants.{Little}
 use Rattle.wire.proofs.Words.{word-length}
 use Rattle.tables.specs.Tables.{tableBytes, tableOf}
 use Rattle.wire.proofs.Parts.{part-put, part-nested}
-use Rattle.tables.proofs.Words.{word-front}
+use Rattle.tables.proofs.Words.{word-part, word-front}
 use Rattle.tables.proofs.Table.{table-length, table-count, table-again}
 use Rattle.policy.specs.Names.{cellOf, nameWidth}
 use Rattle.stream.specs.Tail.{Tail}
@@ -18,6 +18,7 @@ use Rattle.rules.specs.State.{Pending, Peer, free, peer, State, putSlot, withNa
 use Rattle.memory.specs.Layout.{slotLength, slotStart, gidsAt, gidWidth, gidRoom, pendingAt, callWidth}
 use Rattle.memory.specs.Layout.{callRoom, namesAt, nameRoom, takenAt, streamLength, restAt}
 use Rattle.memory.specs.Encoding.{pendingBytes, streamBytes, restBytes, peerBytes, slotBytes, memoryOf}
+use Rattle.memory.specs.Places.{countAt}
 use Rattle.memory.proofs.Frame.{head-length, put-memory, memory-at}
 
 -- ---- the table of xs in the bytes s, at b: `pre` before it, `post` after it
@@ -134,6 +135,15 @@ put-field s i p q new b c h e l f =
     let g : take slotLength (drop (slotStart i) (memoryOf s)) ≡ slotBytes (peer p) = memory-at s i h ∙ ap slotBytes e in
     put-memory s i (peer q) h
     ∙ rw (f, ← g) (part-nested (memoryOf s) new (slotStart i) b c slotLength l)
+
+-- ---- the count of pending calls, as it is stored
+
+pub count-stored : (s : State Tail) (i : ℕ) (p : Peer Tail) → i < length (s .slots) → getD (s .slots) i free ≡ peer p → length (p .pending) ≤ callRoom
+    → countAt (memoryOf s) i ≡ length (p .pending)
+count-stored s i p h e few =
+    sym (word-part (memoryOf s) (slotStart i) slotLength pendingAt (omega arith))
+    ∙ ap (λ (y : List ℕ). wordAt Little y pendingAt) (memory-at s i h ∙ ap slotBytes e)
+    ∙ table-counted (pending-in p) (omega arith)
 
 -- ---- the stream read off the bytes of a peer
 

@@ -34,6 +34,10 @@ peerFrom m a =
 abbrev pub numberAt : List ℕ → ℕ → ℕ
 numberAt m i = wordAt Little m (slotStart i)
 
+-- how many pending calls slot i has, as it is stored (rule 10.2)
+abbrev pub countAt : List ℕ → ℕ → ℕ
+countAt m i = wordAt Little m (slotStart i + pendingAt)
+
 -- ---- the slots in turn
 
 -- what was found: a slot, or 16

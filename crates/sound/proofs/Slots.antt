@@ -51,22 +51,22 @@ every-of t (x ∷ l) h = rw (h 0) (every-of t l (λ j. h (suc j)))
 -- ---- a slot set
 
 -- the slot that was set, or another
-pub put-cases : (P : Slot Tail → Type 0) (l : List (Slot Tail)) (i : ℕ) (x : Slot Tail) → i < length l
+pub put-cases : {S : Type 0} (P : Slot S → Type 0) (l : List (Slot S)) (i : ℕ) (x : Slot S) → i < length l
     → (j : ℕ) → (j ≡ i → P x) → ((j ≡ i → ⊥) → P (getD l j free)) → P (getD (set l i x) j free)
 put-cases P l i x h j a b =
     elim (ℕ-discrete j i) [ yes e ↦ rw (e, getD-set-same l i x free h) (a e) | no n ↦ rw (getD-set-other l i j x free n) (b n) ]
 
-pub put-passes : (t : Slot Tail → Bool) (l : List (Slot Tail)) (i : ℕ) (x : Slot Tail) → i < length l
+pub put-passes : {S : Type 0} (t : Slot S → Bool) (l : List (Slot S)) (i : ℕ) (x : Slot S) → i < length l
     → (j : ℕ) → t (getD (set l i x) j free) ≡ true → ((j ≡ i) × (t x ≡ true)) ⊎ ((j ≡ i → ⊥) × (t (getD l j free) ≡ true))
 put-passes t l i x h j =
     put-cases (λ y. t y ≡ true → ((j ≡ i) × (t x ≡ true)) ⊎ ((j ≡ i → ⊥) × (t (getD l j free) ≡ true))) l i x h j (λ e p. inl (e, p)) (λ n p. inr (n, p))
 
 -- ---- at most one slot passes
 
-abbrev pub Single : (Slot Tail → Bool) → List (Slot Tail) → Type 0
+abbrev pub Single : {S : Type 0} → (Slot S → Bool) → List (Slot S) → Type 0
 Single t l = (i j : ℕ) → t (getD l i free) ≡ true → t (getD l j free) ≡ true → i ≡ j
 
-pub single-set : (t : Slot Tail → Bool) (l : List (Slot Tail)) (i : ℕ) (x : Slot Tail) → i < length l → Single t l
+pub single-set : {S : Type 0} (t : Slot S → Bool) (l : List (Slot S)) (i : ℕ) (x : Slot S) → i < length l → Single t l
     → ((j : ℕ) → t x ≡ true → t (getD l j free) ≡ true → j ≡ i) → Single t (set l i x)
 single-set t l i x h s o a b p q = go (put-passes t l i x h a p) (put-passes t l i x h b q)
   where

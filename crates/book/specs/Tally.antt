@@ -1,0 +1,115 @@
+-- What a list of calls says of one peer's pending calls since it connected (rule 12.4): counted from the calls, the messages and the answers alone, and
+-- never from the pending calls that a state holds.
+use mathlib.Core.Bool.{Bool, true, false, cond, _&&_}
+use mathlib.Core.List.{List, [], _∷_}
+use Prim.Native.Nat.{ℕ, _+_, _-_}
+use lib.Dec.{eqb}
+use Rattle.header.specs.declared.Header.{Header}
+use Rattle.stream.specs.Stream.{Verdict, more, broken, whole, offer}
+use Rattle.rules.specs.State.{Slot, free, peer, State, isPeer, firstBy}
+use Rattle.rules.specs.Judge.{bit, expectsReply, isReply}
+use Rattle.rules.specs.Calls.{empty, slotAt}
+use Rattle.rules.specs.declared.Receiver.{Receiver}
+use Rattle.rules.specs.declared.Receiver.the-variants as to
+use Rattle.book.specs.Book.{books}
+use Rattle.book.specs.Lists.{Call, starts, connects, claims, releases, offers, leaves, Answer, plain, connected, taken, gone, numberOf, modelStep}
+
+pub record Tally : Type 0 where
+  -- its calls that passed to a peer and await a reply
+  pub admitted : ℕ
+  -- the replies that passed to it
+  pub replied : ℕ
+  -- its calls that ended without a reply
+  pub otherwise : ℕ
+  -- by callee, its calls that have ended in neither way
+  pub waiting : ℕ → ℕ
+
+-- of a peer that has just connected
+abbrev pub nothing : Tally
+nothing = record { admitted = 0; replied = 0; otherwise = 0; waiting = λ c. 0 }
+
+-- ---- what happens to a peer's calls
+
+-- a call to k begins to wait (rule 7.8)
+abbrev pub admits : ℕ → Tally → Tally
+admits k t = record { admitted = t .admitted + 1; replied = t .replied; otherwise = t .otherwise; waiting = λ c. t .waiting c + bit (eqb k c) }
+
+-- k replies (rule 7.9)
+abbrev pub replies : ℕ → Tally → Tally
+replies k t = record { admitted = t .admitted; replied = t .replied + 1; otherwise = t .otherwise; waiting = λ c. t .waiting c - bit (eqb k c) }
+
+-- k leaves, and what waits for it ends (rule 8.7)
+abbrev pub loses : ℕ → Tally → Tally
+loses k t =
+    record { admitted = t .admitted; replied = t .replied; otherwise = t .otherwise + t .waiting k; waiting = λ c. cond (eqb k c) 0 (t .waiting c) }
+
+-- ---- what a message is to peer n
+
+-- peer k's message x has passed: a call counts for its sender, and a reply for its receiver; what goes to the bus or to many is neither (rule 12.4)
+abbrev pub passes : ℕ → ℕ → Header → Receiver → Tally → Tally
+passes n k x to.Nobody t = t
+passes n k x to.Bus t = t
+passes n k x (to.Slots mask count) t = t
+passes n k x (to.Peer r) t =
+    cond (expectsReply x) (cond (eqb k n) (admits r t) t) (cond (isReply x) (cond (eqb r n) (replies k t) t) t)
+
+-- the message that bytes of the slot's peer end, if they do (rule 9.1)
+abbrev pub heard : Slot (List ℕ) → List ℕ → Verdict
+heard free bytes = more
+heard (peer p) bytes = offer books (p .stream) bytes .verdict
+
+-- no message, or one that passed
+abbrev pub passesOn : ℕ → ℕ → Verdict → Receiver → Tally → Tally
+passesOn n k more r t = t
+passesOn n k (broken a) r t = t
+passesOn n k (whole h x) r t = passes n k x r t
+
+-- ---- what a call is to peer n
+
+-- the number that a connect gave
+abbrev pub given : Answer → ℕ
+given (plain a) = 0
+given (connected r) = r .number
+given (taken r) = 0
+given (gone r) = 0
+
+abbrev pub receiverOf : Answer → Receiver
+receiverOf (plain a) = to.Nobody
+receiverOf (connected r) = to.Nobody
+receiverOf (taken r) = r .judgement .receiver
+receiverOf (gone r) = to.Nobody
+
+-- what is counted where a call is answered 0; any other answer is nothing to the tally (rule 12.4)
+abbrev pub granted : Answer → Tally → Tally → Tally
+granted a then t = cond (eqb (numberOf a) 0) then t
+
+unfoldable pub counted : ℕ → State (List ℕ) → Answer → Call → Tally → Tally
+counted n b a starts t = t
+counted n b a (connects image uid gids) t = t
+counted n b a (claims image k name) t = t
+counted n b a (releases k name) t = t
+counted n b a (offers image k bytes) t = granted a (passesOn n k (heard (slotAt b (firstBy (isPeer k) (b .slots))) bytes) (receiverOf a) t) t
+counted n b a (leaves k) t = granted a (loses k t) t
+
+-- a start takes every number back, and a connect gives one out (rule 12.4)
+unfoldable pub begins : ℕ → Answer → Call → Bool
+begins n a starts = true
+begins n a (connects image uid gids) = eqb (numberOf a) 0 && eqb (given a) n
+begins n a (claims image k name) = false
+begins n a (releases k name) = false
+begins n a (offers image k bytes) = false
+begins n a (leaves k) = false
+
+-- ---- what a list of calls is to peer n (rule 12.4)
+
+-- a call answered a: the tally begins anew with the peer's number
+abbrev pub tallyAfter : ℕ → State (List ℕ) → Answer → Call → Tally → Tally
+tallyAfter n b a c t = cond (begins n a c) nothing (counted n b a c t)
+
+unfoldable pub tallied : ℕ → State (List ℕ) → List Call → Tally → Tally
+tallied n b [] t = t
+tallied n b (c ∷ cs) t = tallied n (modelStep b c .state) cs (tallyAfter n b (modelStep b c .answer) c t)
+
+-- from an empty guard on
+abbrev pub since : ℕ → List Call → Tally
+since n cs = tallied n empty cs nothing
