@@ -29,8 +29,8 @@ use Rattle.sound.proofs.Kept.{Alone, sound-kept}
 use Rattle.book.specs.Book.{books, tailView}
 use Rattle.book.specs.Lists.{Call, starts, connects, claims, releases, offers, leaves, Answer, modelStep, after, Run, done, then, Reached}
 use Rattle.book.specs.Lists.{ran-start, since-start, since-empty, underImage}
-use Rattle.book.specs.Tally.{Tally, nothing, passesOn, heard, counted, begins, tallyAfter, tallied, since}
-use Rattle.book.proofs.Counts.{callsTo, isCallee, Right}
+use Rattle.book.specs.Tally.{Tally, nothing, passesOn, heard, counted, begins, tallyAfter, tallied, since, callsTo, isCallee}
+use Rattle.book.proofs.Counts.{Right}
 use Rattle.book.proofs.Tally.{RightAt, Counts, same-counts, judged-counts, owned-counts, released-counts, connected-counts, left-counts}
 use Rattle.book.proofs.List.{Holds, one, empty-holds, start-holds}
 use Rattle.book.proofs.Runs.{reached-holds, held-slot}

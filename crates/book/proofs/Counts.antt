@@ -13,20 +13,11 @@ use Rattle.rules.specs.Pending.{isCall, awaits, ended, endedAll}
 use Rattle.rules.specs.Judge.{bit}
 use Rattle.rules.proofs.Tests.{choice, by-test}
 use Rattle.rules.proofs.Waits.{call, call-callee}
-use Rattle.book.specs.Tally.{Tally, nothing, admits, replies, loses}
-
--- the pending calls whose callee passes
-abbrev pub callsTo : (ℕ → Bool) → List Pending → ℕ
-callsTo t [] = 0
-callsTo t (w ∷ ws) = bit (t (w .callee)) + callsTo t ws
+use Rattle.book.specs.Tally.{Tally, nothing, admits, replies, loses, callsTo, isCallee}
 
 pub calls-all : (ws : List Pending) → callsTo (λ c. true) ws ≡ length ws
 calls-all [] = refl
 calls-all (w ∷ ws) = let e = calls-all ws in omega arith
-
--- the test that k alone passes
-abbrev pub isCallee : ℕ → ℕ → Bool
-isCallee k c = eqb c k
 
 chosen-sum : (b c : Bool) (n : ℕ) → cond b (bit c + n) 0 ≡ bit (c && b) + cond b n 0
 chosen-sum true true n = refl

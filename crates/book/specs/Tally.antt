@@ -6,7 +6,7 @@ use Prim.Native.Nat.{ℕ, _+_, _-_}
 use lib.Dec.{eqb}
 use Rattle.header.specs.declared.Header.{Header}
 use Rattle.stream.specs.Stream.{Verdict, more, broken, whole, offer}
-use Rattle.rules.specs.State.{Slot, free, peer, State, isPeer, firstBy}
+use Rattle.rules.specs.State.{Pending, Slot, free, peer, State, isPeer, firstBy}
 use Rattle.rules.specs.Judge.{bit, expectsReply, isReply}
 use Rattle.rules.specs.Calls.{empty, slotAt}
 use Rattle.rules.specs.declared.Receiver.{Receiver}
@@ -113,3 +113,14 @@ tallied n b (c ∷ cs) t = tallied n (modelStep b c .state) cs (tallyAfter n b (
 -- from an empty guard on
 abbrev pub since : ℕ → List Call → Tally
 since n cs = tallied n empty cs nothing
+
+-- ---- what a state holds, to be held to a tally
+
+-- the pending calls whose callee passes a test
+abbrev pub callsTo : (ℕ → Bool) → List Pending → ℕ
+callsTo t [] = 0
+callsTo t (w ∷ ws) = bit (t (w .callee)) + callsTo t ws
+
+-- the test that k alone passes
+abbrev pub isCallee : ℕ → ℕ → Bool
+isCallee k c = eqb c k
