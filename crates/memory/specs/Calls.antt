@@ -63,3 +63,11 @@ disconnectOn m n = onMemory noGone m (disconnect tails (stateOf m) n)
 pub record Did {R : Type 0} (o : MemoryStep R) (r : R) (m : List ℕ) : Type 0 where
   pub result : r ≡ o .result
   pub memory : m ≡ o .memory
+
+-- m is refused: the calls that test memory answer 51 and leave every byte, those that take an image where it has no answer of its own (rules 8.1 and 10.6)
+pub record Refused (m : List ℕ) : Type 0 where
+  pub connects : (image : List ℕ) → imageAnswer image ≡ 0 → (uid : ℕ) (gids : List ℕ) → connectOn image m uid gids ≡ unchanged m (noConnect 51)
+  pub owns : (image : List ℕ) → imageAnswer image ≡ 0 → (n : ℕ) (name : List ℕ) → ownOn image m n name ≡ unchanged m 51
+  pub releases : (n : ℕ) (name : List ℕ) → releaseOn m n name ≡ unchanged m 51
+  pub pieces : (image : List ℕ) → imageAnswer image ≡ 0 → (n : ℕ) (bytes : List ℕ) → pieceOn image m n bytes ≡ unchanged m (noPiece 51)
+  pub disconnects : (n : ℕ) → disconnectOn m n ≡ unchanged m (noGone 51)
