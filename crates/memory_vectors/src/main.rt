@@ -1,7 +1,12 @@
 // Memory that is not good: each rule of good memory broken once at each place where it can be. The five calls that test memory all answer 51 and change
 // nothing; the first lines are memory that stays good.
+use memory::CALL_ROOM;
 use memory::MEMORY_LENGTH;
-ghost use Prim.Native.Nat.{_≤_};
+use memory::PENDING_AT;
+use memory::SLOT_LENGTH;
+use memory::SLOTS_AT;
+use wire::Order;
+ghost use Prim.Native.Nat.{_≤_, _<_};
 ghost use Rattle.memory.specs.Layout.{memoryLength};
 
 // One default allow of anything for connect, own, send and receive.
@@ -85,10 +90,14 @@ fn byte(memory: &[u8; MEMORY_LENGTH], label: &[u8], at: usize, x: u8) {
     line(label, is_refused(&m));
 }
 
-fn word(memory: &[u8; MEMORY_LENGTH], label: &[u8], at: usize, x: u32) {
+fn is_word_refused(memory: &[u8; MEMORY_LENGTH], at: usize, x: u32) -> bool {
     let mut m = *memory;
     put(&mut m, at, x);
-    line(label, is_refused(&m));
+    is_refused(&m)
+}
+
+fn word(memory: &[u8; MEMORY_LENGTH], label: &[u8], at: usize, x: u32) {
+    line(label, is_word_refused(memory, at, x));
 }
 
 fn is_refused_with(memory: &[u8; MEMORY_LENGTH], at: usize) -> bool {
@@ -264,6 +273,88 @@ fn free(m: &[u8; MEMORY_LENGTH]) {
     sweep(m, b"free slot 15", 49384, MEMORY_LENGTH);
 }
 
+// A call to peer 1.
+fn call(memory: &mut [u8; MEMORY_LENGTH], peer: u32, serial: u8) {
+    let mut to_1 = CALL;
+    to_1[8] = serial;
+    to_1[27] = b'1';
+    piece(memory, peer, &to_1);
+}
+
+// Calls to peer 1 with the serials 1 to n.
+fn calls(memory: &mut [u8; MEMORY_LENGTH], peer: u32, n: u8) {
+    let mut i: u8 = 0;
+    while i < n {
+        call(memory, peer, i + 1);
+        i += 1;
+    }
+}
+
+// A peer in every slot: none to 14 pending calls by turns, and in the last slot as many as there is room for.
+fn fill(memory: &mut [u8; MEMORY_LENGTH]) {
+    guard::start(memory);
+    let mut i: u8 = 0;
+    while i < 15 {
+        connect(memory, &[]);
+        calls(memory, i as u32 + 1, i);
+        i += 1;
+    }
+    connect(memory, &[]);
+    calls(memory, 16, 16);
+}
+
+// Each count from 0 to one above the room in the place of the one at `at`: how many are refused.
+fn count_refused(memory: &[u8; MEMORY_LENGTH], at: usize) -> usize {
+    let mut refused = 0;
+    let mut n: u32 = 0;
+    while n as usize <= CALL_ROOM + 1 {
+        refused = counted(refused, is_word_refused(memory, at, n));
+        n += 1;
+    }
+    refused
+}
+
+// Other counts of the pending calls of slot i: those from 0 to one above the room but its own, and the greatest.
+fn slot_count(memory: &[u8; MEMORY_LENGTH], label: &[u8], i: usize)
+    requires { ⌜ i < 16 ⌝ }
+{
+    let at = SLOTS_AT + SLOT_LENGTH * i + PENDING_AT;
+    let stored = wire::u32_at(Order::Little, memory, at);
+    let refused = counted(
+        count_refused(memory, at),
+        is_word_refused(memory, at, 4294967295),
+    );
+    io::write_all(1, label);
+    io::print_decimal(1, i as u64);
+    io::write_all(1, b" with a count of ");
+    io::print_decimal(1, stored as u64);
+    io::write_all(1, b": 51 for ");
+    io::print_decimal(1, refused as u64);
+    io::write_all(1, b" of 18 others\n");
+}
+
+fn slot_counts(memory: &[u8; MEMORY_LENGTH], label: &[u8]) {
+    let mut i = 0;
+    while i < 16 {
+        slot_count(memory, label, i);
+        i += 1;
+    }
+}
+
+fn used_counts() {
+    let mut memory = [0u8; MEMORY_LENGTH];
+    fill(&mut memory);
+    line(b"a peer in every slot", is_refused(&memory));
+    slot_counts(&memory, b"used slot ");
+}
+
+fn free_counts() {
+    let mut memory = [255u8; MEMORY_LENGTH];
+    guard::start(&mut memory);
+    line(b"no peer", is_refused(&memory));
+    slot_counts(&memory, b"free slot ");
+}
+
 // The bus's name in the place of peer 2's.
 fn bus_name(memory: &[u8; MEMORY_LENGTH]) {
     let mut m = *memory;
@@ -305,6 +396,8 @@ fn main() {
     bus_name(&memory);
     streams(&memory);
     free(&memory);
+    used_counts();
+    free_counts();
     shorter();
     longer();
 }
