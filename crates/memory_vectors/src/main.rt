@@ -17,6 +17,9 @@ const ALLOW: [u8; 136] =
 const CALL: [u8; 67] =
     *b"l\x01\0\x01\x03\0\0\0\x01\0\0\0*\0\0\0\x06\x01s\0\x04\0\0\0:1.2\0\0\0\0\x01\x01o\0\x01\0\0\0/\0\0\0\0\0\0\0\x03\x01s\0\x01\0\0\0M\0\0\0\0\0\0\0\0\0\0";
 
+// The counts of pending calls from 0 to one above the room.
+const COUNTS: u32 = CALL_ROOM as u32 + 2;
+
 fn set(memory: &mut [u8; MEMORY_LENGTH], at: usize, x: u8) {
     if at < MEMORY_LENGTH {
         memory[at] = x;
@@ -129,16 +132,20 @@ fn count(memory: &[u8; MEMORY_LENGTH], from: usize, to: usize) -> usize
     refused
 }
 
+fn tally(refused: usize, tried: usize, things: &[u8]) {
+    io::write_all(1, b": 51 for ");
+    io::print_decimal(1, refused as u64);
+    io::write_all(1, b" of ");
+    io::print_decimal(1, tried as u64);
+    io::write_all(1, things);
+}
+
 fn sweep(memory: &[u8; MEMORY_LENGTH], label: &[u8], from: usize, to: usize)
     requires { ⌜ (from ≤ to) × (to ≤ memoryLength) ⌝ }
 {
     let refused = count(memory, from, to);
     io::write_all(1, label);
-    io::write_all(1, b": 51 for ");
-    io::print_decimal(1, refused as u64);
-    io::write_all(1, b" of ");
-    io::print_decimal(1, (to - from) as u64);
-    io::write_all(1, b" bytes\n");
+    tally(refused, to - from, b" bytes\n");
 }
 
 fn connect(memory: &mut [u8; MEMORY_LENGTH], gids: &[u32]) {
@@ -273,53 +280,46 @@ fn free(m: &[u8; MEMORY_LENGTH]) {
     sweep(m, b"free slot 15", 49384, MEMORY_LENGTH);
 }
 
-// A call to peer 1.
-fn call(memory: &mut [u8; MEMORY_LENGTH], peer: u32, serial: u8) {
-    let mut to_1 = CALL;
-    to_1[8] = serial;
-    to_1[27] = b'1';
-    piece(memory, peer, &to_1);
-}
-
-// Calls to peer 1 with the serials 1 to n.
-fn calls(memory: &mut [u8; MEMORY_LENGTH], peer: u32, n: u8) {
+// Peer n calls peer 1, with the serials 1 to n.
+fn calls(memory: &mut [u8; MEMORY_LENGTH], n: u8) {
     let mut i: u8 = 0;
     while i < n {
-        call(memory, peer, i + 1);
+        let mut to_1 = CALL;
+        to_1[8] = i + 1;
+        to_1[27] = b'1';
+        piece(memory, n as u32, &to_1);
         i += 1;
     }
 }
 
-// A peer in every slot: none to 14 pending calls by turns, and in the last slot as many as there is room for.
+// A peer in every slot: peer 1 has no pending call, each other as many as its number, so that peer 16 has all that there is room for.
 fn fill(memory: &mut [u8; MEMORY_LENGTH]) {
     guard::start(memory);
-    let mut i: u8 = 0;
-    while i < 15 {
-        connect(memory, &[]);
-        calls(memory, i as u32 + 1, i);
-        i += 1;
-    }
     connect(memory, &[]);
-    calls(memory, 16, 16);
+    let mut i: u8 = 1;
+    while i < 16 {
+        i += 1;
+        connect(memory, &[]);
+        calls(memory, i);
+    }
 }
 
-// Each count from 0 to one above the room in the place of the one at `at`: how many are refused.
+// Each count from 0 to one above the room in the place of the word at `at`: how many are refused.
 fn count_refused(memory: &[u8; MEMORY_LENGTH], at: usize) -> usize {
     let mut refused = 0;
     let mut n: u32 = 0;
-    while n as usize <= CALL_ROOM + 1 {
+    while n < COUNTS {
         refused = counted(refused, is_word_refused(memory, at, n));
         n += 1;
     }
     refused
 }
 
-// Other counts of the pending calls of slot i: those from 0 to one above the room but its own, and the greatest.
+// The pending calls of slot i, and other counts of them: those from 0 to one above the room but its own, and the greatest.
 fn slot_count(memory: &[u8; MEMORY_LENGTH], label: &[u8], i: usize)
     requires { ⌜ i < 16 ⌝ }
 {
     let at = SLOTS_AT + SLOT_LENGTH * i + PENDING_AT;
-    let stored = wire::u32_at(Order::Little, memory, at);
     let refused = counted(
         count_refused(memory, at),
         is_word_refused(memory, at, 4294967295),
@@ -327,10 +327,8 @@ fn slot_count(memory: &[u8; MEMORY_LENGTH], label: &[u8], i: usize)
     io::write_all(1, label);
     io::print_decimal(1, i as u64);
     io::write_all(1, b" with a count of ");
-    io::print_decimal(1, stored as u64);
-    io::write_all(1, b": 51 for ");
-    io::print_decimal(1, refused as u64);
-    io::write_all(1, b" of 18 others\n");
+    io::print_decimal(1, wire::u32_at(Order::Little, memory, at) as u64);
+    tally(refused, COUNTS as usize, b" others\n");
 }
 
 fn slot_counts(memory: &[u8; MEMORY_LENGTH], label: &[u8]) {
@@ -341,18 +339,14 @@ fn slot_counts(memory: &[u8; MEMORY_LENGTH], label: &[u8]) {
     }
 }
 
-fn used_counts() {
-    let mut memory = [0u8; MEMORY_LENGTH];
-    fill(&mut memory);
-    line(b"a peer in every slot", is_refused(&memory));
-    slot_counts(&memory, b"used slot ");
-}
-
-fn free_counts() {
-    let mut memory = [255u8; MEMORY_LENGTH];
-    guard::start(&mut memory);
-    line(b"no peer", is_refused(&memory));
-    slot_counts(&memory, b"free slot ");
+// Every slot used, then every slot free.
+fn counts(memory: &mut [u8; MEMORY_LENGTH]) {
+    fill(memory);
+    line(b"a peer in every slot", is_refused(memory));
+    slot_counts(memory, b"used slot ");
+    guard::start(memory);
+    line(b"no peer", is_refused(memory));
+    slot_counts(memory, b"free slot ");
 }
 
 // The bus's name in the place of peer 2's.
@@ -396,8 +390,7 @@ fn main() {
     bus_name(&memory);
     streams(&memory);
     free(&memory);
-    used_counts();
-    free_counts();
+    counts(&mut memory);
     shorter();
     longer();
 }

@@ -5,10 +5,10 @@ use Rattle.memory_vectors.proofs.calls.Statement.{statement}
 use Rattle.memory_vectors.proofs.calls.Tie as tie
 
 abbrev Inv-loop : tie.InvT-loop
-Inv-loop memory₀ peer n i₀ memory i = i ≤ n
+Inv-loop memory₀ n i₀ memory i = i ≤ n
 
 abbrev μ-loop : tie.MeasureT-loop
-μ-loop memory₀ peer n i₀ memory i = n - i
+μ-loop memory₀ n i₀ memory i = n - i
 
 pub calls-spec : {M : Type 1} → statement M
 calls-spec =
@@ -16,6 +16,9 @@ calls-spec =
     (tie.spec
     Inv-loop
     μ-loop
+    (λ c. search needs)
+    (λ c. search needs)
+    (λ c. search needs)
     (λ c. search needs)
     (λ c. search needs)
     (λ c κs. search needs)

@@ -5,10 +5,10 @@ use Rattle.memory_vectors.proofs.fill.Statement.{statement}
 use Rattle.memory_vectors.proofs.fill.Tie as tie
 
 abbrev Inv-loop : tie.InvT-loop
-Inv-loop memory₀ i₀ t3 t4 memory i = i ≤ 15
+Inv-loop memory₀ i₀ t4 memory i = i ≤ 16
 
 abbrev μ-loop : tie.MeasureT-loop
-μ-loop memory₀ i₀ t3 t4 memory i = 15 - i
+μ-loop memory₀ i₀ t4 memory i = 16 - i
 
 pub fill-spec : {M : Type 1} → statement M
 fill-spec =
@@ -18,15 +18,12 @@ fill-spec =
     μ-loop
     (λ c κs. search needs)
     (λ c. search needs)
-    (λ c. search needs)
     (λ c κs. search needs)
-    (λ c. search needs)
-    (λ c. search needs)
-    (λ c κs. search needs)
-    (λ c. search needs)
     (λ c. search needs)
     (λ c. search needs)
     (λ c. search needs)
     (λ c κs. search needs)
     (λ c κs. search needs)
+    (λ c. search needs)
+    (λ c. search needs)
     (λ c. search needs))
