@@ -1,5 +1,5 @@
 // Memory that is not good: each rule of good memory broken once at each place where it can be. The five calls that test memory all answer 51 and change
-// nothing; the first lines are memory that stays good.
+// nothing; the first lines are memory that stays good. Counts of pending calls are tried in each slot, in two memories that are good as they are.
 use memory::CALL_ROOM;
 use memory::MEMORY_LENGTH;
 use memory::PENDING_AT;
