@@ -14,6 +14,7 @@ pub mod Sweep
 pub mod Removal
 pub mod Heads
 pub mod Held
+pub mod Counts
 pub mod Names
 pub mod Newcomer
 pub mod Puts

@@ -37,7 +37,7 @@ pub record Fits (p : Peer Tail) : Type 0 where
 -- ---- each field
 
 -- a number is read where its bytes stand
-word-found : (s t : List ℕ) (b n : ℕ) → drop b s ≡ wordBytes n ++ t → n < 4294967296 → wordAt Little s b ≡ n
+pub word-found : (s t : List ℕ) (b n : ℕ) → drop b s ≡ wordBytes n ++ t → n < 4294967296 → wordAt Little s b ≡ n
 word-found s t b n e h = sym (word-front s b) ∙ ap (λ (z : List ℕ). wordAt Little z 0) e ∙ word-again n t h
 
 pub number-back : (p : Peer Tail) → p .number < 4294967296 → wordAt Little (slotBytes (peer p)) 0 ≡ p .number

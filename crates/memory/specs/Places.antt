@@ -4,13 +4,13 @@ use mathlib.Core.List.{List, _++_, map}
 use mathlib.Core.Path.{_≡_}
 use Prim.Native.Nat.{ℕ, _+_, _≤_, min}
 use lib.ListN.{take, drop}
-use Rattle.wire.specs.Words.{wordAt}
+use Rattle.wire.specs.Words.{wordAt, wordBytes}
 use Rattle.wire.specs.declared.Order.the-variants.{Little}
-use Rattle.tables.specs.Tables.{tableOf}
+use Rattle.tables.specs.Tables.{parts, tableOf, used}
 use Rattle.policy.specs.Names.{nameOf, nameWidth}
 use Rattle.stream.specs.Tail.{Tail}
 use Rattle.rules.specs.State.{Peer, Slot, State, firstBy}
-use Rattle.memory.specs.Layout.{slotLength, slotStart, gidsAt, gidWidth, gidRoom, pendingAt, callWidth, callRoom}
+use Rattle.memory.specs.Layout.{slotLength, slotStart, gidsAt, gidWidth, gidRoom, pendingAt, firstCallee, callWidth, callRoom}
 use Rattle.memory.specs.Layout.{namesAt, nameRoom, takenAt, headAt, firstByte, headRoom, uidAt}
 use Rattle.memory.specs.Encoding.{wordOf, pendingOf, slotBytes, slotOf, stateOf}
 
@@ -34,9 +34,19 @@ peerFrom m a =
 abbrev pub numberAt : List ℕ → ℕ → ℕ
 numberAt m i = wordAt Little m (slotStart i)
 
--- how many pending calls slot i has, as it is stored (rule 10.2)
+-- ---- the pending calls of slot i, used or free
+
+-- its stored count of them (rule 10.2)
 abbrev pub countAt : List ℕ → ℕ → ℕ
 countAt m i = wordAt Little m (slotStart i + pendingAt)
+
+-- the records that stand behind the count, all zeros being none (rule 10.2)
+abbrev pub recordsAt : List ℕ → ℕ → ℕ
+recordsAt m i = used (parts callWidth callRoom (drop (slotStart i + firstCallee) m))
+
+-- m with n for the count of slot i
+abbrev pub countPut : List ℕ → ℕ → ℕ → List ℕ
+countPut m i n = take (slotStart i + pendingAt) m ++ (wordBytes n ++ drop (slotStart i + firstCallee) m)
 
 -- ---- the slots in turn
 

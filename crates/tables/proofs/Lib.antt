@@ -3,6 +3,7 @@ pub mod Cells
 pub mod Sweep
 pub mod Table
 pub mod Same
+pub mod Count
 pub mod Change
 pub mod Written
 mod Cutting

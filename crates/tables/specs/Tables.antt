@@ -1,6 +1,6 @@
 -- Things of one width in bytes, one after the other; and tables of them (rule 10.2). A table is as long whatever it holds, so that putting one changes
 -- nothing else.
-use mathlib.Core.Bool.{Bool, _&&_}
+use mathlib.Core.Bool.{Bool, true, false, _&&_}
 use mathlib.Core.List.{List, [], _∷_, _++_, map}
 use Prim.Native.Nat.{ℕ, zero, suc, _*_, min}
 use lib.ListN.{length, take, drop}
@@ -29,3 +29,8 @@ tableOf w k dec b = map dec (parts w (min (wordAt Little b 0) k) (drop 4 b))
 unfoldable pub plainCells : {A : Type 0} → (A → List ℕ) → (List ℕ → A) → ℕ → ℕ → List ℕ → Bool
 plainCells enc dec w zero d = allZero d
 plainCells enc dec w (suc n) d = same (enc (dec (take w d))) (take w d) && plainCells enc dec w n (drop w d)
+
+-- how many of the parts are not all zero
+unfoldable pub used : List (List ℕ) → ℕ
+used [] = 0
+used (b ∷ r) = elim (allZero b) [ true ↦ used r | false ↦ suc (used r) ]
