@@ -5,10 +5,10 @@
 // With `--waits` before the file's name, and where the capture is not broken, a line for each peer that is connected at the end stands behind those of the calls:
 // its number, the count of its waiting calls in the guard's memory and, from the calls and answers since it connected, how many of its calls that expect a reply
 // passed to a peer, how many of those were replied to, and how many ended because the callee disconnected.
+mod counts;
 mod feed;
 mod ledger;
 mod reader;
-mod waits;
 mod writer;
 
 use ledger::LEDGER_LENGTH;
@@ -306,7 +306,7 @@ fn end(
         return writer::line(out, run.used, b"bad capture", &[]);
     }
     if shows_waits {
-        return waits::show(ledger, memory, out, run.used);
+        return counts::show(ledger, memory, out, run.used);
     }
     run.used
 }

@@ -1,9 +1,9 @@
--- `replay::waits::show` meets its contract.
+-- `replay::counts::show` meets its contract.
 use Prim.Native.Nat.{_-_}
 use borrow.Author.Needs.{needs}
 use Rattle.replay.proofs.Loops.{One}
-use Rattle.replay.proofs.waits.show.Statement.{statement}
-use Rattle.replay.proofs.waits.show.Tie as tie
+use Rattle.replay.proofs.counts.show.Statement.{statement}
+use Rattle.replay.proofs.counts.show.Tie as tie
 
 abbrev Inv-loop : tie.InvT-loop
 Inv-loop ledger memory out₀ used now₀ slot₀ out now slot = One out₀ out slot 16
