@@ -11,6 +11,7 @@ mod ledger;
 mod reader;
 mod writer;
 
+use feed::Feeding;
 use ledger::LEDGER_LENGTH;
 use libc::STDOUT_FILENO;
 use memory::MEMORY_LENGTH;
@@ -90,6 +91,23 @@ fn connect(
     Run { reader, used }
 }
 
+fn show_piece(fed: Feeding, out: &mut [u8], used: usize) -> usize {
+    let receiver = fed.receiver;
+    let shown = feed::show(receiver);
+    writer::line(
+        out,
+        used,
+        b"piece",
+        &[
+            fed.answer as u64,
+            fed.taken,
+            shown.kind,
+            shown.value,
+            shown.count,
+        ],
+    )
+}
+
 fn piece(
     run: Run,
     length: u32,
@@ -114,20 +132,7 @@ fn piece(
     if !reader.is_sound {
         return Run { reader, used };
     }
-    let receiver = fed.receiver;
-    let shown = feed::show(receiver);
-    let used = writer::line(
-        out,
-        used,
-        b"piece",
-        &[
-            fed.answer as u64,
-            fed.taken,
-            shown.kind,
-            shown.value,
-            shown.count,
-        ],
-    );
+    let used = show_piece(fed, out, used);
     Run { reader, used }
 }
 
