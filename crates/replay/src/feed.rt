@@ -1,4 +1,5 @@
 // A piece of any length, fed to the guard in the parts in which it is read.
+use crate::ledger::LEDGER_LENGTH;
 use crate::reader::Reader;
 use rules::Receiver;
 
@@ -56,13 +57,14 @@ fn feed_part(
     buffer: &mut [u8],
     image: &[u8],
     memory: &mut [u8],
+    ledger: &mut [u64; LEDGER_LENGTH],
     peer: u32,
     left: usize,
 ) -> Part {
     let filled = crate::reader::fill(reader, buffer);
     let n = crate::reader::ready(filled, left);
     let at = filled.at;
-    let taken = offer(buffer, at, n, image, memory, peer);
+    let taken = offer(buffer, at, n, image, memory, ledger, peer);
     let judgement = taken.judgement;
     let receiver = judgement.receiver;
     Part {
@@ -80,15 +82,28 @@ fn offer(
     n: usize,
     image: &[u8],
     memory: &mut [u8],
+    ledger: &mut [u64; LEDGER_LENGTH],
     peer: u32,
 ) -> rules::Taken {
     if n <= buffer.len() {
         if at <= buffer.len() - n {
             let end = at + n;
-            return guard::piece(image, memory, peer, &buffer[at..end]);
+            return ask(image, memory, ledger, peer, &buffer[at..end]);
         }
     }
-    guard::piece(image, memory, peer, &buffer[0..0])
+    ask(image, memory, ledger, peer, &buffer[0..0])
+}
+
+fn ask(
+    image: &[u8],
+    memory: &mut [u8],
+    ledger: &mut [u64; LEDGER_LENGTH],
+    peer: u32,
+    bytes: &[u8],
+) -> rules::Taken {
+    let part = guard::piece(image, memory, peer, bytes);
+    crate::ledger::offered(ledger, peer, bytes, part);
+    part
 }
 
 // The last part, with the sum of those before it. What it left of the piece is read past.
@@ -109,12 +124,13 @@ pub fn feed(
     buffer: &mut [u8],
     image: &[u8],
     memory: &mut [u8],
+    ledger: &mut [u64; LEDGER_LENGTH],
     peer: u32,
     length: usize,
 ) -> Feeding {
     let mut left = length;
     let mut taken = 0;
-    let mut now = feed_part(reader, buffer, image, memory, peer, left);
+    let mut now = feed_part(reader, buffer, image, memory, ledger, peer, left);
     while now.answer == 10 {
         if now.offered == 0 {
             break;
@@ -124,7 +140,7 @@ pub fn feed(
         }
         left -= now.offered;
         taken = std::num::wrapping_add_u64(taken, now.taken as u64);
-        now = feed_part(now.reader, buffer, image, memory, peer, left);
+        now = feed_part(now.reader, buffer, image, memory, ledger, peer, left);
     }
     finish(now, buffer, taken, left)
 }

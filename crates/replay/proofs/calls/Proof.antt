@@ -5,10 +5,10 @@ use Rattle.replay.proofs.calls.Statement.{statement}
 use Rattle.replay.proofs.calls.Tie as tie
 
 abbrev Inv-loop : tie.InvT-loop
-Inv-loop buffer₀ image memory₀ out₀ reader₀ used₀ turns₀ buffer memory out reader used turns = Three buffer₀ buffer memory₀ memory out₀ out
+Inv-loop buffer₀ image memory₀ ledger₀ out₀ reader₀ used₀ turns₀ buffer memory ledger out reader used turns = Three buffer₀ buffer memory₀ memory out₀ out
 
 abbrev μ-loop : tie.MeasureT-loop
-μ-loop buffer₀ image memory₀ out₀ reader₀ used₀ turns₀ buffer memory out reader used turns = turns
+μ-loop buffer₀ image memory₀ ledger₀ out₀ reader₀ used₀ turns₀ buffer memory ledger out reader used turns = turns
 
 pub calls-spec : {M : Type 1} → statement M
 calls-spec =

@@ -1,0 +1,28 @@
+-- `replay::ledger::end_calls` meets its contract.
+use Prim.Native.Nat.{_-_, _≤_}
+use borrow.Author.Needs.{needs}
+use Rattle.replay.proofs.ledger.end_calls.Statement.{statement}
+use Rattle.replay.proofs.ledger.end_calls.Tie as tie
+
+abbrev Inv-loop : tie.InvT-loop
+Inv-loop ledger₀ callee slot₀ ledger slot = slot ≤ 16
+
+abbrev μ-loop : tie.MeasureT-loop
+μ-loop ledger₀ callee slot₀ ledger slot = 16 - slot
+
+pub end-calls-spec : {M : Type 1} → statement M
+end-calls-spec =
+    tie.close
+    (tie.spec
+    Inv-loop
+    μ-loop
+    (λ c. search needs)
+    (λ c. search needs)
+    (λ c κs. search needs)
+    (λ c κs. search needs)
+    (λ c. search needs)
+    (λ c κs. search needs)
+    (λ c. search needs)
+    (λ c. search needs)
+    (λ c. search needs)
+    (λ c. search needs))
