@@ -25,4 +25,5 @@ pub mod signature;
 pub mod stream;
 pub mod tally;
 pub mod tool;
+pub mod wait_cases;
 pub mod wire;

@@ -21,11 +21,18 @@ pub struct Counts {
     pub otherwise: u64,
 }
 
+impl Counts {
+    /// How many of the calls must still be waiting.
+    pub fn open(&self) -> u64 {
+        self.admitted - self.replied - self.otherwise
+    }
+}
+
 /// The counts of the peer in one slot; all zero while the slot is free, number 0.
 #[derive(Clone, Copy, Debug, Default)]
-struct Sheet {
-    number: u32,
-    counts: Counts,
+pub struct Sheet {
+    pub number: u32,
+    pub counts: Counts,
 }
 
 #[derive(Clone, Debug, Default)]
@@ -36,10 +43,20 @@ pub struct Tally {
 }
 
 impl Tally {
+    /// The connected peers, each with its slot.
+    pub fn peers(&self) -> impl Iterator<Item = (usize, &Sheet)> {
+        self.sheets.iter().enumerate().filter(|(_, sheet)| sheet.number != 0)
+    }
+
     /// The counts of a connected peer.
     pub fn of(&self, number: u32) -> Counts {
         let sheet = self.sheets.iter().find(|sheet| sheet.number == number);
         sheet.map_or(Counts::default(), |sheet| sheet.counts)
+    }
+
+    /// How many calls of one peer to another must still be waiting.
+    pub fn open_between(&self, caller: u32, callee: u32) -> u64 {
+        self.open.get(&(caller, callee)).copied().unwrap_or(0)
     }
 
     /// Sees a call on the guard with what came back.
@@ -83,8 +100,7 @@ impl Tally {
         for sheet in &mut self.sheets {
             if sheet.number == number {
                 *sheet = Sheet::default();
-            } else {
-                let ended = self.open.get(&(sheet.number, number)).copied().unwrap_or(0);
+            } else if let Some(ended) = self.open.get(&(sheet.number, number)) {
                 sheet.counts.otherwise += ended;
             }
         }

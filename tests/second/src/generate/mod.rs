@@ -8,6 +8,7 @@ mod messages;
 mod policies;
 pub mod random;
 mod split;
+mod talks;
 mod vocabulary;
 mod world;
 
@@ -69,6 +70,9 @@ pub fn generate(seed: u64, calls: usize, mode: Mode) -> Vec<u8> {
         if let Some(peer) = world.step() {
             world.send_piece(peer);
         }
+    }
+    if matches!(mode, Mode::Mixed | Mode::Full) && world.random.chance(80) {
+        talks::last_talk(&mut world);
     }
     let file = capture::write(&Capture { image, calls: world.calls });
     match mode {
