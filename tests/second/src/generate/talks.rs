@@ -6,7 +6,7 @@ use super::messages;
 use super::random::Random;
 use super::world::World;
 use crate::capture::Call;
-use crate::guard::Wait;
+use crate::guard::{Wait, MAX_WAITS};
 use crate::message::Message;
 use crate::names::unique_name_of;
 use crate::policy::{Gid, Uid};
@@ -18,7 +18,8 @@ pub fn talk(world: &mut World) {
     gather(world, 3);
     let Some(callee) = exchange(world) else { return };
     match world.random.below(10) {
-        0..=3 => start_again(world),
+        0..=2 => start_again(world),
+        3 => talk_between_starts(world),
         4..=7 => replace(world, callee),
         _ => return,
     }
@@ -32,6 +33,9 @@ pub fn talk(world: &mut World) {
 
 /// Talks with which a capture ends, so that those who stay have calls of every fate.
 pub fn last_talk(world: &mut World) {
+    if world.random.chance(30) {
+        talk_between_starts(world);
+    }
     gather(world, 8);
     for _ in 0..2 {
         if let Some(callee) = exchange(world) {
@@ -73,6 +77,15 @@ fn start_again(world: &mut World) {
     }
 }
 
+/// Behind the second start the same numbers mean the same peers as before it, so that whatever
+/// outlives a start meets its like.
+fn talk_between_starts(world: &mut World) {
+    start_again(world);
+    gather(world, 3);
+    exchange(world);
+    start_again(world);
+}
+
 /// Somebody leaves, and his like takes the lowest free slot.
 fn replace(world: &mut World, peer: u32) {
     let left = world.guard.peer(peer).map(|peer| (peer.uid, peer.gids.clone()));
@@ -91,9 +104,11 @@ fn exchange(world: &mut World) -> Option<u32> {
     let callee = world.random.pick(&peers);
     for caller in peers.into_iter().take(8) {
         let first = messages::serial(&mut world.random).min(1_000_000);
-        for more in 0..world.random.between(2, 4) as u32 {
+        // A few try one call more than may wait.
+        let calls = if world.random.chance(4) { MAX_WAITS + 1 } else { world.random.between(2, 4) };
+        for more in 0..calls as u32 {
             // The same serial comes twice now and then.
-            let serial = first + if world.random.chance(15) { 0 } else { more };
+            let serial = first + if world.random.chance(10) { 0 } else { more };
             send_call(world, caller, callee, serial);
         }
         for _ in 0..world.random.pick(&[0, 1, 1, 2]) {
