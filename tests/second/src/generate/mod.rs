@@ -76,13 +76,7 @@ pub fn generate(seed: u64, calls: usize, mode: Mode) -> Vec<u8> {
     }
     let file = capture::write(&Capture { image, calls: world.calls });
     match mode {
-        Mode::BadLayout => loop {
-            // A file that is cut just between two calls is whole.
-            let broken = break_layout(&mut world.random, file.clone());
-            if !capture::read(&broken).is_whole {
-                break broken;
-            }
-        },
+        Mode::BadLayout => with_broken_layout(&mut world.random, &file),
         Mode::Mixed | Mode::Full | Mode::BadImage => file,
     }
 }
@@ -94,6 +88,16 @@ pub fn generate_pair(seed: u64, calls: usize) -> (Vec<u8>, Vec<u8>) {
     let pair = split::generate(random, &policy, calls);
     let file = |calls| capture::write(&Capture { image: image.clone(), calls });
     (file(pair.whole), file(pair.split))
+}
+
+fn with_broken_layout(random: &mut Random, file: &[u8]) -> Vec<u8> {
+    loop {
+        // A file that is cut just between two calls is whole.
+        let broken = break_layout(random, file.to_vec());
+        if !capture::read(&broken).is_whole {
+            return broken;
+        }
+    }
 }
 
 /// Breaks the layout: a file cut short, or a call that no capture may have.

@@ -101,14 +101,10 @@ fn exchange(world: &mut World) -> Option<u32> {
     if peers.is_empty() {
         return None;
     }
-    let callee = world.random.pick(&peers);
+    // Often the first one, so that the same two meet again after a start.
+    let callee = if world.random.chance(40) { peers[0] } else { world.random.pick(&peers) };
     for caller in peers.into_iter().take(8) {
-        let first = messages::serial(&mut world.random).min(1_000_000);
-        // A few try one call more than may wait.
-        let calls = if world.random.chance(4) { MAX_WAITS + 1 } else { world.random.between(2, 4) };
-        for more in 0..calls as u32 {
-            // The same serial comes twice now and then.
-            let serial = first + if world.random.chance(10) { 0 } else { more };
+        for serial in serials(&mut world.random) {
             send_call(world, caller, callee, serial);
         }
         for _ in 0..world.random.pick(&[0, 1, 1, 2]) {
@@ -116,6 +112,19 @@ fn exchange(world: &mut World) -> Option<u32> {
         }
     }
     Some(callee)
+}
+
+/// The serials of one peer's calls. Some come twice, and a few peers try more than may wait.
+fn serials(random: &mut Random) -> Vec<u32> {
+    let first = messages::serial(random).min(1_000_000);
+    let too_many = random.chance(4);
+    let count = if too_many { MAX_WAITS + 1 } else { random.between(2, 4) };
+    let mut serials: Vec<u32> = (first..).take(count).collect();
+    if too_many || random.chance(20) {
+        let again = random.pick(&serials);
+        serials.push(again);
+    }
+    serials
 }
 
 fn send_call(world: &mut World, caller: u32, callee: u32, serial: u32) {
