@@ -1,5 +1,5 @@
-//! Counting what a set of captures reaches: answers by call, the cases of 7, 8, 9 and 50, and
-//! what rules that name an interface did.
+//! Counting what a set of captures reaches: answers by call, the cases of 7, 8, 9 and 50,
+//! what rules that name an interface did, and what became of waiting calls.
 
 use crate::answer::{Receiver, ANSWERS_OF_CALLS};
 use crate::capture::{self, Call};
@@ -9,6 +9,7 @@ use crate::image::{self, Breach};
 use crate::interface_cases;
 use crate::replay::{run, Outcome};
 use crate::stream::Step;
+use crate::wait_cases::{self, WaitCases};
 use std::collections::BTreeMap;
 
 #[derive(Default)]
@@ -54,6 +55,7 @@ fn wanted_cases() -> Vec<String> {
     wanted.extend(waits.iter().map(|what| format!("wait {what}")));
     wanted.push("bad capture".to_string());
     wanted.extend(interface_cases::CASES.iter().map(|case| case.to_string()));
+    wanted.extend(wait_cases::CASES.iter().map(|case| case.to_string()));
     wanted
 }
 
@@ -80,6 +82,10 @@ impl Coverage {
         *self.cases.entry(case).or_default() += 1;
     }
 
+    fn count_cases(&mut self, cases: Vec<&'static str>) {
+        cases.into_iter().for_each(|case| self.count_case(case.to_string()));
+    }
+
     /// Adds the calls of a capture file.
     pub fn add(&mut self, file: &[u8]) {
         let reading = capture::read(file);
@@ -91,15 +97,21 @@ impl Coverage {
             self.count_case("bad capture".to_string());
         }
         let mut guard = Guard::default();
+        let mut wait_cases = WaitCases::default();
         for call in &reading.capture.calls {
             let waits = guard.waits().len();
             let message = ended_by(&guard, call);
             let outcome = run(&mut guard, policy.as_ref().ok(), call);
             self.count(outcome);
             self.count_waits(outcome, waits, guard.waits().len());
+            self.count_cases(wait_cases.see(call, &outcome));
             if let Some((sender, header)) = message {
                 self.count_interfaces(&guard, policy.as_ref().ok(), sender, &header, outcome);
             }
+        }
+        // Only a whole capture's end is shown and compared.
+        if reading.is_whole {
+            self.count_cases(wait_cases.at_end());
         }
         self.captures += 1;
     }

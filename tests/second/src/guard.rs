@@ -5,6 +5,7 @@ use crate::header::{HeadFault, Header, ERROR, METHOD_CALL, METHOD_RETURN, SIGNAL
 use crate::names::{is_well_known, unique_name_of, BUS_NAME};
 use crate::policy::{Credentials, Gid, Policy, Uid};
 use crate::stream::{Step, Stream};
+use crate::wire::FixedPart;
 
 pub const SLOTS: usize = 16;
 pub const MAX_GIDS: usize = 16;
@@ -47,18 +48,20 @@ pub struct Disconnected {
     pub bytes: u64,
 }
 
-/// What a piece call says. The fault tells why 1 to 9 came, for people and tests.
+/// What a piece call says. For people and tests: why 1 to 9 came, and how the message began
+/// that the piece ended.
 #[derive(Clone, Copy, Debug, PartialEq, Eq)]
 pub struct Judged {
     pub answer: Answer,
     pub taken: usize,
     pub receiver: Receiver,
     pub fault: Option<HeadFault>,
+    pub message: Option<FixedPart>,
 }
 
 impl Judged {
     fn refused(answer: Answer, taken: usize) -> Judged {
-        Judged { answer, taken, receiver: Receiver::Nobody, fault: None }
+        Judged { answer, taken, receiver: Receiver::Nobody, fault: None, message: None }
     }
 }
 
@@ -209,10 +212,11 @@ impl Guard {
     }
 
     fn judged(&mut self, policy: &Policy, sender: u32, message: &Header, taken: usize) -> Judged {
-        match self.judge(policy, sender, message) {
-            Ok(receiver) => Judged { answer: Answer::Done, taken, receiver, fault: None },
-            Err(answer) => Judged::refused(answer, taken),
-        }
+        let (answer, receiver) = match self.judge(policy, sender, message) {
+            Ok(receiver) => (Answer::Done, receiver),
+            Err(answer) => (answer, Receiver::Nobody),
+        };
+        Judged { answer, taken, receiver, fault: None, message: Some(message.fixed) }
     }
 
     /// Judges a whole message by the peers, names and waits of this moment.

@@ -23,5 +23,7 @@ pub mod script;
 pub mod script_show;
 pub mod signature;
 pub mod stream;
+pub mod tally;
 pub mod tool;
+pub mod wait_cases;
 pub mod wire;

@@ -1,10 +1,11 @@
-//! Running calls on a guard, and the one line that each of them prints.
+//! Running calls on a guard, the one line that each of them prints, and what its waits come to.
 
 use crate::answer::{Answer, Receiver};
 use crate::capture::{self, Call};
 use crate::guard::{Connected, Disconnected, Guard, Judged, LentPolicy};
 use crate::image;
 use crate::policy::Policy;
+use crate::tally::{Counts, Tally};
 
 /// What one call came back with.
 #[derive(Clone, Copy, Debug, PartialEq, Eq)]
@@ -81,17 +82,39 @@ pub fn lent_policy(image: &[u8]) -> Option<Policy> {
 
 /// All lines for a capture file's bytes.
 pub fn replay(file: &[u8]) -> String {
+    let (lines, _) = both_parts(file);
+    lines
+}
+
+/// The same lines and behind them, unless the capture is broken, one for each peer that is
+/// connected at its end: its number, its waits, and what its tally says of them.
+pub fn replay_with_waits(file: &[u8]) -> String {
+    let (lines, waits) = both_parts(file);
+    lines + &waits
+}
+
+/// The lines of the calls, and the lines about waits.
+fn both_parts(file: &[u8]) -> (String, String) {
     let reading = capture::read(file);
     let policy = lent_policy(&reading.capture.image);
     let mut guard = Guard::default();
+    let mut tally = Tally::default();
     let mut lines = String::new();
     for call in &reading.capture.calls {
-        lines.push_str(&run(&mut guard, policy.as_ref(), call).line());
+        let outcome = run(&mut guard, policy.as_ref(), call);
+        tally.see(call, &outcome);
+        lines.push_str(&outcome.line());
         lines.push('\n');
     }
     if !reading.is_whole {
-        lines.push_str(BAD_CAPTURE);
-        lines.push('\n');
+        return (lines + BAD_CAPTURE + "\n", String::new());
     }
-    lines
+    let waits = guard.peers().map(|peer| waits_line(&guard, &tally, peer.number)).collect();
+    (lines, waits)
+}
+
+fn waits_line(guard: &Guard, tally: &Tally, number: u32) -> String {
+    let count = guard.waits().iter().filter(|wait| wait.caller == number).count();
+    let Counts { admitted, replied, otherwise } = tally.of(number);
+    format!("waits {number} {count} {admitted} {replied} {otherwise}\n")
 }

@@ -64,7 +64,7 @@ fn stray_reply(random: &mut Random, guard: &Guard) -> Message {
     addressed(random, guard, message, 10)
 }
 
-fn reply(random: &mut Random, reply_serial: u32) -> Message {
+pub fn reply(random: &mut Random, reply_serial: u32) -> Message {
     match random.chance(65) {
         true => Message::method_return(serial(random), reply_serial),
         false => Message::error(serial(random), reply_serial, &vocabulary::error_name(random)),

@@ -8,6 +8,7 @@ mod messages;
 mod policies;
 pub mod random;
 mod split;
+mod talks;
 mod vocabulary;
 mod world;
 
@@ -70,15 +71,12 @@ pub fn generate(seed: u64, calls: usize, mode: Mode) -> Vec<u8> {
             world.send_piece(peer);
         }
     }
+    if matches!(mode, Mode::Mixed | Mode::Full) && world.random.chance(80) {
+        talks::last_talk(&mut world);
+    }
     let file = capture::write(&Capture { image, calls: world.calls });
     match mode {
-        Mode::BadLayout => loop {
-            // A file that is cut just between two calls is whole.
-            let broken = break_layout(&mut world.random, file.clone());
-            if !capture::read(&broken).is_whole {
-                break broken;
-            }
-        },
+        Mode::BadLayout => with_broken_layout(&mut world.random, &file),
         Mode::Mixed | Mode::Full | Mode::BadImage => file,
     }
 }
@@ -90,6 +88,16 @@ pub fn generate_pair(seed: u64, calls: usize) -> (Vec<u8>, Vec<u8>) {
     let pair = split::generate(random, &policy, calls);
     let file = |calls| capture::write(&Capture { image: image.clone(), calls });
     (file(pair.whole), file(pair.split))
+}
+
+fn with_broken_layout(random: &mut Random, file: &[u8]) -> Vec<u8> {
+    loop {
+        // A file that is cut just between two calls is whole.
+        let broken = break_layout(random, file.to_vec());
+        if !capture::read(&broken).is_whole {
+            return broken;
+        }
+    }
 }
 
 /// Breaks the layout: a file cut short, or a call that no capture may have.

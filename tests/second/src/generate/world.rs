@@ -1,7 +1,7 @@
 //! The peers of a generated capture: what they do next, and what they still have to send.
 
 use super::random::Random;
-use super::{faults, interfaces, messages, vocabulary};
+use super::{faults, interfaces, messages, talks, vocabulary};
 use crate::capture::Call;
 use crate::guard::Guard;
 use crate::message::Message;
@@ -52,7 +52,7 @@ impl World {
         outcome
     }
 
-    /// One step of the world: a call that is not a piece, or a peer to send something.
+    /// One step of the world: calls that are made at once, or a peer to send something.
     pub fn step(&mut self) -> Option<u32> {
         if self.random.chance(1) {
             self.phase = new_phase(&mut self.random);
@@ -65,6 +65,7 @@ impl World {
             1..=15 => self.call_for_a_stranger(),
             16..=75 => self.own_or_release(),
             76..=77 => self.own_too_much(),
+            78..=81 => talks::talk(self),
             _ if peers == 0 && self.random.chance(30) => self.call_for_a_stranger(),
             _ if peers == 0 || self.random.chance(connect) => self.connect(),
             _ if self.random.chance(disconnect) => self.disconnect_someone(),
@@ -73,12 +74,12 @@ impl World {
         None
     }
 
-    fn start(&mut self) {
+    pub fn start(&mut self) {
         self.unsent.clear();
         self.call(Call::Start);
     }
 
-    fn connect(&mut self) {
+    pub fn connect(&mut self) {
         let count = match self.random.below(20) {
             0 => 16,
             1 => 17,
@@ -90,7 +91,7 @@ impl World {
         self.call(Call::Connect { uid, gids });
     }
 
-    fn disconnect(&mut self, peer: u32) {
+    pub fn disconnect(&mut self, peer: u32) {
         self.unsent.remove(&peer);
         self.call(Call::Disconnect { peer });
     }
