@@ -28,9 +28,9 @@ use Rattle.rules.specs.Judge.{maskOf, countOf, judged}
 use Rattle.rules.specs.Calls.{connect, own, piece, disconnect}
 use Rattle.book.specs.Book.{cutOff}
 use Rattle.book.specs.Lists.{modelStep, answers}
-use Rattle.book.specs.Tally.{counted, begins, tallied}
+use Rattle.book.specs.Tally.{callTallied, begins, tallied}
 use Rattle.book.specs.Bench.{workedAnswer, workedTable, furtherRows}
-use Rattle.book.specs.Waits.{tallyShown, tallyTable}
+use Rattle.book.specs.Table.{tallyShown, tallyTable}
 
 all-agree : (agrees workedAnswer same workedTable ≡ true) × (agrees workedAnswer same furtherRows ≡ true) × (agrees tallyShown same tallyTable ≡ true)
 unfolding allZero same wordAt wordBytes startsWith wellKnown unique validName inNamespace headOf closedBy one row validSignature orderOf headLength
@@ -38,7 +38,7 @@ unfolding allZero same wordAt wordBytes startsWith wellKnown unique validName in
     judgedHead readHead readHeader goodCounts goodSections goodHeader goodString goodOrAny goodOwned goodConnectRule goodOwnRule goodStrings
     goodTransactionRule goodRule goodImage outcomeOf imageAnswer inGroups subjectFits owns deciding connectFits ownedFits ownFits messageOf partFits
     interfaceFits partsFit nameFits transactionFits transactionMatches decidesIn mayConnect mayOwn mayTransact offer firstBy digits uniqueName answersTo
-    resolve dropFirst awaits ended endedAll maskOf countOf judged connect own piece disconnect cutOff modelStep answers counted begins tallied
+    resolve dropFirst awaits ended endedAll maskOf countOf judged connect own piece disconnect cutOff modelStep answers callTallied begins tallied
 all-agree = (refl, refl, refl)
 
 pub table-agrees : agrees workedAnswer same workedTable ≡ true

@@ -29,7 +29,7 @@ use Rattle.sound.proofs.Kept.{Alone, sound-kept}
 use Rattle.book.specs.Book.{books, tailView}
 use Rattle.book.specs.Lists.{Call, starts, connects, claims, releases, offers, leaves, Answer, modelStep, after, Run, done, then, Reached}
 use Rattle.book.specs.Lists.{ran-start, since-start, since-empty, underImage}
-use Rattle.book.specs.Tally.{Tally, nothing, passesOn, heard, counted, begins, tallyAfter, tallied, since, callsTo, isCallee}
+use Rattle.book.specs.Tally.{Tally, noCalls, piecePassed, verdictOn, callTallied, begins, tallyAfter, tallied, since, callsTo, isCallee}
 use Rattle.book.proofs.Counts.{Right}
 use Rattle.book.proofs.Tally.{RightAt, Counts, same-counts, judged-counts, owned-counts, released-counts, connected-counts, left-counts}
 use Rattle.book.proofs.List.{Holds, one, empty-holds, start-holds}
@@ -54,7 +54,7 @@ module _ (n : ℕ) (t : Tally) (image : List ℕ) (b : State (List ℕ)) (k : �
     (single : Single (isPeer n) (b .slots)) (c : Counts n t b) where
   -- the tally after a piece that heard v
   abbrev Heard : Verdict → Step (List ℕ) Taken → Type 0
-  Heard v z = Counts n (cond (eqb (z .result .judgement .answer) 0) (passesOn n k v (z .result .judgement .receiver) t) t) (z .state)
+  Heard v z = Counts n (cond (eqb (z .result .judgement .answer) 0) (piecePassed n k v (z .result .judgement .receiver) t) t) (z .state)
 
   offered-counts : (i taken : ℕ) (q : Peer (List ℕ)) (v : Verdict) (s : State (List ℕ)) → Single (isPeer n) (s .slots) → Counts n t s → slotAt s i ≡ peer q
       → q .number ≡ k
@@ -63,7 +63,7 @@ module _ (n : ℕ) (t : Tally) (image : List ℕ) (b : State (List ℕ)) (k : �
   offered-counts i taken q (broken a) s u d e f = choice (λ (y : Tally). Counts n y s) (eqb a 0) t t (λ z. d) (λ z. d)
   offered-counts i taken q (whole h x) s u d e f = rw (← f) (judged-counts n s t u d image i q e x h)
 
-  piece-at : (i : ℕ) (y : Slot (List ℕ)) → slotAt b i ≡ y → ((p : Peer (List ℕ)) → y ≡ peer p → p .number ≡ k) → Heard (heard y bytes) (pieceAt books image b i y bytes)
+  piece-at : (i : ℕ) (y : Slot (List ℕ)) → slotAt b i ≡ y → ((p : Peer (List ℕ)) → y ≡ peer p → p .number ≡ k) → Heard (verdictOn y bytes) (pieceAt books image b i y bytes)
   piece-at i free e f = c
   piece-at i (peer p) e f =
       let o = offer books (p .stream) bytes in
@@ -74,11 +74,11 @@ module _ (n : ℕ) (t : Tally) (image : List ℕ) (b : State (List ℕ)) (k : �
       (single-set (isPeer n) (b .slots) i (peer q) l single (λ j g h. single j i h (ap (isPeer n) e ∙ g)))
       (same-counts n b t single c i p q e refl refl) (getD-set-same (b .slots) i (peer q) free l) (f p refl))
 
-  pub piece-counts : Heard (heard (slotAt b (firstBy (isPeer k) (b .slots))) bytes) (underImage noPiece image b (piece books image b k bytes))
+  pub piece-counts : Heard (verdictOn (slotAt b (firstBy (isPeer k) (b .slots))) bytes) (underImage noPiece image b (piece books image b k bytes))
   unfolding piece
   piece-counts =
       let i = firstBy (isPeer k) (b .slots) in
-      choice (Heard (heard (slotAt b i) bytes)) (eqb (imageAnswer image) 0) _ _ (λ a. piece-at i (slotAt b i) refl (number-found (b .slots) k))
+      choice (Heard (verdictOn (slotAt b i) bytes)) (eqb (imageAnswer image) 0) _ _ (λ a. piece-at i (slotAt b i) refl (number-found (b .slots) k))
       (λ a. rw a c)
 
 -- ---- every call
@@ -92,10 +92,10 @@ module _ (n : ℕ) where
 
   step-counts : {m : List ℕ} (b : State (List ℕ)) (t : Tally) → Holds m b → Counts n t b
       → (x : Call) → Counts n (tallyAfter n b (modelStep b x .answer) x t) (modelStep b x .state)
-  unfolding modelStep begins counted
-  step-counts b t h c starts = empty-counts nothing
+  unfolding modelStep begins callTallied
+  step-counts b t h c starts = empty-counts noCalls
   step-counts b t h c (connects image uid gids) =
-      choice (λ (z : Step (List ℕ) Connected). Counts n (cond (eqb (z .result .answer) 0 && eqb (z .result .number) n) nothing t) (z .state))
+      choice (λ (z : Step (List ℕ) Connected). Counts n (cond (eqb (z .result .answer) 0 && eqb (z .result .number) n) noCalls t) (z .state))
       (eqb (imageAnswer image) 0) _ _ (λ a. connected-counts n b t (one-slot h n) c books uid gids (low-number h) image) (λ a. rw a c)
   step-counts b t h c (claims image k name) =
       choice (λ (z : Step (List ℕ) ℕ). Counts n t (z .state)) (eqb (imageAnswer image) 0) _ _ (λ a. owned-counts n b t (one-slot h n) c image k name) (λ a. c)
@@ -111,8 +111,8 @@ module _ (n : ℕ) where
 
   pub reached-counts : {m : List ℕ} {cs : List Call} → Reached m cs → Counts n (since n cs) (after empty cs)
   unfolding modelStep begins tallied after
-  reached-counts (since-start {k = k} l (then (ran-start d) rs)) = run-counts empty nothing rs (start-holds k l d .1) (empty-counts nothing)
-  reached-counts (since-empty r) = run-counts empty nothing r empty-holds (empty-counts nothing)
+  reached-counts (since-start {k = k} l (then (ran-start d) rs)) = run-counts empty noCalls rs (start-holds k l d .1) (empty-counts noCalls)
+  reached-counts (since-empty r) = run-counts empty noCalls r empty-holds (empty-counts noCalls)
 
 -- ---- what memory says
 

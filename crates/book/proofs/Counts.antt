@@ -13,7 +13,7 @@ use Rattle.rules.specs.Pending.{isCall, awaits, ended, endedAll}
 use Rattle.rules.specs.Judge.{bit}
 use Rattle.rules.proofs.Tests.{choice, by-test}
 use Rattle.rules.proofs.Waits.{call, call-callee}
-use Rattle.book.specs.Tally.{Tally, nothing, admits, replies, loses, callsTo, isCallee}
+use Rattle.book.specs.Tally.{Tally, noCalls, callAdmitted, callReplied, calleeLeft, callsTo, isCallee}
 
 pub calls-all : (ws : List Pending) → callsTo (λ c. true) ws ≡ length ws
 calls-all [] = refl
@@ -56,30 +56,30 @@ pub record Right (t : Tally) (ws : List Pending) : Type 0 where
   pub sum : length ws + (t .replied + t .otherwise) ≡ t .admitted
   pub each : (c : ℕ) → callsTo (isCallee c) ws ≡ t .waiting c
 
-pub right-nothing : Right nothing []
-right-nothing = record { sum = refl; each = λ c. refl }
+pub right-none : Right noCalls []
+right-none = record { sum = refl; each = λ c. refl }
 
 -- all of them, as what a test that everybody passes counts
 all-are : (ws : List Pending) → length ws ≡ callsTo (λ c. true) ws
 all-are ws = sym (calls-all ws)
 
 module _ (t : Tally) (k : ℕ) (ws : List Pending) (r : Right t ws) where
-  pub right-admits : (s : ℕ) → Right (admits k t) (ws ++ (call k s ∷ []))
-  right-admits s =
+  pub right-admitted : (s : ℕ) → Right (callAdmitted k t) (ws ++ (call k s ∷ []))
+  right-admitted s =
       record {
         sum = omega (arith, r .sum, all-are ws, all-are (ws ++ (call k s ∷ [])), calls-snoc (λ c. true) ws k s);
         each = λ c. calls-snoc (isCallee c) ws k s ∙ ap (λ (n : ℕ). n + bit (eqb k c)) (r .each c);
       }
 
-  pub right-replies : (s : ℕ) → awaits k s ws ≡ true → Right (replies k t) (ended k s ws)
-  right-replies s h =
+  pub right-replied : (s : ℕ) → awaits k s ws ≡ true → Right (callReplied k t) (ended k s ws)
+  right-replied s h =
       record {
         sum = omega (arith, r .sum, all-are ws, all-are (ended k s ws), calls-ended (λ c. true) k s ws h);
         each = λ c. omega (arith, calls-ended (isCallee c) k s ws h, r .each c);
       }
 
-  pub right-loses : Right (loses k t) (endedAll k ws)
-  right-loses =
+  pub right-left : Right (calleeLeft k t) (endedAll k ws)
+  right-left =
       record {
         sum = omega (arith, r .sum, r .each k, all-are ws, all-are (endedAll k ws), calls-left (λ c. true) k ws);
         each = λ c. left-each c;

@@ -22,8 +22,8 @@ use Rattle.rules.proofs.Tests.{choice, by-test}
 use Rattle.rules.proofs.First.{taken-below, number-found}
 use Rattle.sound.proofs.Slots.{put-cases, Single}
 use Rattle.sound.proofs.Judged.{judged-any}
-use Rattle.book.specs.Tally.{Tally, nothing, loses, passes}
-use Rattle.book.proofs.Counts.{Right, right-nothing, right-admits, right-replies, right-loses}
+use Rattle.book.specs.Tally.{Tally, noCalls, calleeLeft, messagePassed}
+use Rattle.book.proofs.Counts.{Right, right-none, right-admitted, right-replied, right-left}
 
 -- peer n, if the slot is its, has the pending calls that the tally says
 abbrev pub RightAt : {S : Type 0} → ℕ → Tally → Slot S → Type 0
@@ -76,15 +76,15 @@ module _ {S : Type 0} (n : ℕ) where
     module _ (image : List ℕ) (i : ℕ) (sender : Peer S) (e : slotAt s i ≡ peer sender) (x : Header) where
       -- what it is to the tally, as it was answered
       abbrev Kept : Judged S → Type 0
-      Kept z = Counts n (cond (eqb (z .judgement .answer) 0) (passes n (sender .number) x (z .judgement .receiver) t) t) (z .state)
+      Kept z = Counts n (cond (eqb (z .judgement .answer) 0) (messagePassed n (sender .number) x (z .judgement .receiver) t) t) (z .state)
 
       pub judged-counts : (h : List ℕ) → Kept (judged image s i sender h x)
       judged-counts =
           judged-any image s i sender x Kept (λ a p q. choice (λ (u : Tally). Counts n u s) (eqb a 0) t t (λ z. c) (λ z. c)) (λ l. c) c (λ m k. c)
           (λ j q y r w. rw (w, r) c)
-          (λ j q y w a l. rw w (own-counts i sender _ _ e (λ r. right-admits t (q .number) (sender .pending) r (x .serial))))
+          (λ j q y w a l. rw w (own-counts i sender _ _ e (λ r. right-admitted t (q .number) (sender .pending) r (x .serial))))
           (λ j q y r a. rw (reply-only x r, r)
-          (own-counts j q _ _ y (λ z. right-replies t (sender .number) (q .pending) z (x .«reply_serial») a)))
+          (own-counts j q _ _ y (λ z. right-replied t (sender .number) (q .pending) z (x .«reply_serial») a)))
 
     -- ---- own and release
 
@@ -109,7 +109,7 @@ module _ {S : Type 0} (n : ℕ) where
     module _ (O : Streams S) (uid : ℕ) (gids : List ℕ) (low : (j : ℕ) (p : Peer S) → slotAt s j ≡ peer p → p .number ≤ s .last) where
       -- the tally after it: the newcomer's begins anew
       abbrev After : Step S Connected → Type 0
-      After z = Counts n (cond (eqb (z .result .answer) 0 && eqb (z .result .number) n) nothing t) (z .state)
+      After z = Counts n (cond (eqb (z .result .answer) 0 && eqb (z .result .number) n) noCalls t) (z .state)
 
       old-right : (y : Slot S) (u : Tally) (j : ℕ) → slotAt s j ≡ y → s .last + 1 ≡ n → RightAt n u y
       old-right free u j e k = tt
@@ -118,8 +118,8 @@ module _ {S : Type 0} (n : ℕ) where
       seated-after : (i : ℕ) → i < length (s .slots) → After (seated O s i uid gids)
       seated-after i h =
           choice (λ (u : Tally). Counts n u (seated O s i uid gids .state)) (eqb (s .last + 1) n) _ _
-          (λ k j. put-cases (RightAt n nothing) (s .slots) i _ h j (λ z q. right-nothing)
-          (λ z. old-right (slotAt s j) nothing j refl (eqb-true (s .last + 1) n k)))
+          (λ k j. put-cases (RightAt n noCalls) (s .slots) i _ h j (λ z q. right-none)
+          (λ z. old-right (slotAt s j) noCalls j refl (eqb-true (s .last + 1) n k)))
           (λ k j. put-cases (RightAt n t) (s .slots) i _ h j (λ z q. absurd (false≢true (sym k ∙ eq-eqb (s .last + 1) n q))) (λ z. c j))
 
       pub connected-counts : (image : List ℕ) → After (connect O image s uid gids)
@@ -128,17 +128,17 @@ module _ {S : Type 0} (n : ℕ) where
 
     -- ---- disconnect
 
-    loses-right : (k : ℕ) (y : Slot S) → RightAt n t y → RightAt n (loses k t) (removeCallsTo k y)
-    loses-right k free r = tt
-    loses-right k (peer p) r = λ e. right-loses t k (p .pending) (r e)
+    left-right : (k : ℕ) (y : Slot S) → RightAt n t y → RightAt n (calleeLeft k t) (removeCallsTo k y)
+    left-right k free r = tt
+    left-right k (peer p) r = λ e. right-left t k (p .pending) (r e)
 
     left-at : (O : Streams S) (k i : ℕ) (y : Slot S) → slotAt s i ≡ y → ((p : Peer S) → y ≡ peer p → p .number ≡ k)
-        → Counts n (cond (eqb (disconnectAt O s i y .result .answer) 0) (loses k t) t) (disconnectAt O s i y .state)
+        → Counts n (cond (eqb (disconnectAt O s i y .result .answer) 0) (calleeLeft k t) t) (disconnectAt O s i y .state)
     left-at O k i free e f = c
     left-at O k i (peer p) e f =
         λ j. rw (List·getD-map (removeCallsTo (p .number)) (set (s .slots) i free) j free, f p refl)
-        (loses-right k (getD (set (s .slots) i free) j free) (put-cases (RightAt n t) (s .slots) i free (taken-below (s .slots) i p e) j (λ z. tt) (λ z. c j)))
+        (left-right k (getD (set (s .slots) i free) j free) (put-cases (RightAt n t) (s .slots) i free (taken-below (s .slots) i p e) j (λ z. tt) (λ z. c j)))
 
-    pub left-counts : (O : Streams S) (k : ℕ) → Counts n (cond (eqb (disconnect O s k .result .answer) 0) (loses k t) t) (disconnect O s k .state)
+    pub left-counts : (O : Streams S) (k : ℕ) → Counts n (cond (eqb (disconnect O s k .result .answer) 0) (calleeLeft k t) t) (disconnect O s k .state)
     unfolding disconnect
     left-counts O k = let i = firstBy (isPeer k) (s .slots) in left-at O k i (slotAt s i) refl (number-found (s .slots) k)

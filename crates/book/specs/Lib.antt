@@ -4,4 +4,4 @@ pub mod Split
 pub mod Messages
 pub mod Tally
 pub mod Bench
-pub mod Waits
+pub mod Table

@@ -25,53 +25,53 @@ pub record Tally : Type 0 where
   pub waiting : ℕ → ℕ
 
 -- of a peer that has just connected
-abbrev pub nothing : Tally
-nothing = record { admitted = 0; replied = 0; otherwise = 0; waiting = λ c. 0 }
+abbrev pub noCalls : Tally
+noCalls = record { admitted = 0; replied = 0; otherwise = 0; waiting = λ c. 0 }
 
 -- ---- what happens to a peer's calls
 
 -- a call to k begins to wait (rule 7.8)
-abbrev pub admits : ℕ → Tally → Tally
-admits k t = record { admitted = t .admitted + 1; replied = t .replied; otherwise = t .otherwise; waiting = λ c. t .waiting c + bit (eqb k c) }
+abbrev pub callAdmitted : ℕ → Tally → Tally
+callAdmitted k t = record { admitted = t .admitted + 1; replied = t .replied; otherwise = t .otherwise; waiting = λ c. t .waiting c + bit (eqb k c) }
 
 -- k replies (rule 7.9)
-abbrev pub replies : ℕ → Tally → Tally
-replies k t = record { admitted = t .admitted; replied = t .replied + 1; otherwise = t .otherwise; waiting = λ c. t .waiting c - bit (eqb k c) }
+abbrev pub callReplied : ℕ → Tally → Tally
+callReplied k t = record { admitted = t .admitted; replied = t .replied + 1; otherwise = t .otherwise; waiting = λ c. t .waiting c - bit (eqb k c) }
 
 -- k leaves, and what waits for it ends (rule 8.7)
-abbrev pub loses : ℕ → Tally → Tally
-loses k t =
+abbrev pub calleeLeft : ℕ → Tally → Tally
+calleeLeft k t =
     record { admitted = t .admitted; replied = t .replied; otherwise = t .otherwise + t .waiting k; waiting = λ c. cond (eqb k c) 0 (t .waiting c) }
 
 -- ---- what a message is to peer n
 
 -- peer k's message x has passed: a call counts for its sender, and a reply for its receiver; what goes to the bus or to many is neither (rule 12.4)
-abbrev pub passes : ℕ → ℕ → Header → Receiver → Tally → Tally
-passes n k x to.Nobody t = t
-passes n k x to.Bus t = t
-passes n k x (to.Slots mask count) t = t
-passes n k x (to.Peer r) t =
-    cond (expectsReply x) (cond (eqb k n) (admits r t) t) (cond (isReply x) (cond (eqb r n) (replies k t) t) t)
+abbrev pub messagePassed : ℕ → ℕ → Header → Receiver → Tally → Tally
+messagePassed n k x to.Nobody t = t
+messagePassed n k x to.Bus t = t
+messagePassed n k x (to.Slots mask count) t = t
+messagePassed n k x (to.Peer r) t =
+    cond (expectsReply x) (cond (eqb k n) (callAdmitted r t) t) (cond (isReply x) (cond (eqb r n) (callReplied k t) t) t)
 
 -- the message that bytes of the slot's peer end, if they do (rule 9.1)
-abbrev pub heard : Slot (List ℕ) → List ℕ → Verdict
-heard free bytes = more
-heard (peer p) bytes = offer books (p .stream) bytes .verdict
+abbrev pub verdictOn : Slot (List ℕ) → List ℕ → Verdict
+verdictOn free bytes = more
+verdictOn (peer p) bytes = offer books (p .stream) bytes .verdict
 
 -- no message, or one that passed
-abbrev pub passesOn : ℕ → ℕ → Verdict → Receiver → Tally → Tally
-passesOn n k more r t = t
-passesOn n k (broken a) r t = t
-passesOn n k (whole h x) r t = passes n k x r t
+abbrev pub piecePassed : ℕ → ℕ → Verdict → Receiver → Tally → Tally
+piecePassed n k more r t = t
+piecePassed n k (broken a) r t = t
+piecePassed n k (whole h x) r t = messagePassed n k x r t
 
 -- ---- what a call is to peer n
 
 -- the number that a connect gave
-abbrev pub given : Answer → ℕ
-given (plain a) = 0
-given (connected r) = r .number
-given (taken r) = 0
-given (gone r) = 0
+abbrev pub numberGiven : Answer → ℕ
+numberGiven (plain a) = 0
+numberGiven (connected r) = r .number
+numberGiven (taken r) = 0
+numberGiven (gone r) = 0
 
 abbrev pub receiverOf : Answer → Receiver
 receiverOf (plain a) = to.Nobody
@@ -80,21 +80,21 @@ receiverOf (taken r) = r .judgement .receiver
 receiverOf (gone r) = to.Nobody
 
 -- what is counted where a call is answered 0; any other answer is nothing to the tally (rule 12.4)
-abbrev pub granted : Answer → Tally → Tally → Tally
-granted a then t = cond (eqb (numberOf a) 0) then t
+abbrev pub whereDone : Answer → Tally → Tally → Tally
+whereDone a then t = cond (eqb (numberOf a) 0) then t
 
-unfoldable pub counted : ℕ → State (List ℕ) → Answer → Call → Tally → Tally
-counted n b a starts t = t
-counted n b a (connects image uid gids) t = t
-counted n b a (claims image k name) t = t
-counted n b a (releases k name) t = t
-counted n b a (offers image k bytes) t = granted a (passesOn n k (heard (slotAt b (firstBy (isPeer k) (b .slots))) bytes) (receiverOf a) t) t
-counted n b a (leaves k) t = granted a (loses k t) t
+unfoldable pub callTallied : ℕ → State (List ℕ) → Answer → Call → Tally → Tally
+callTallied n b a starts t = t
+callTallied n b a (connects image uid gids) t = t
+callTallied n b a (claims image k name) t = t
+callTallied n b a (releases k name) t = t
+callTallied n b a (offers image k bytes) t = whereDone a (piecePassed n k (verdictOn (slotAt b (firstBy (isPeer k) (b .slots))) bytes) (receiverOf a) t) t
+callTallied n b a (leaves k) t = whereDone a (calleeLeft k t) t
 
 -- a start takes every number back, and a connect gives one out (rule 12.4)
 unfoldable pub begins : ℕ → Answer → Call → Bool
 begins n a starts = true
-begins n a (connects image uid gids) = eqb (numberOf a) 0 && eqb (given a) n
+begins n a (connects image uid gids) = eqb (numberOf a) 0 && eqb (numberGiven a) n
 begins n a (claims image k name) = false
 begins n a (releases k name) = false
 begins n a (offers image k bytes) = false
@@ -104,7 +104,7 @@ begins n a (leaves k) = false
 
 -- a call answered a: the tally begins anew with the peer's number
 abbrev pub tallyAfter : ℕ → State (List ℕ) → Answer → Call → Tally → Tally
-tallyAfter n b a c t = cond (begins n a c) nothing (counted n b a c t)
+tallyAfter n b a c t = cond (begins n a c) noCalls (callTallied n b a c t)
 
 unfoldable pub tallied : ℕ → State (List ℕ) → List Call → Tally → Tally
 tallied n b [] t = t
@@ -112,7 +112,7 @@ tallied n b (c ∷ cs) t = tallied n (modelStep b c .state) cs (tallyAfter n b (
 
 -- from an empty guard on
 abbrev pub since : ℕ → List Call → Tally
-since n cs = tallied n empty cs nothing
+since n cs = tallied n empty cs noCalls
 
 -- ---- what a state holds, to be held to a tally
 

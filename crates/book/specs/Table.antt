@@ -19,12 +19,12 @@ abbrev pub toNumber : ℕ → List ℕ
 toNumber n = 6 ∷ 1 ∷ byte "s" ∷ 0 ∷ (wordBytes 4 ++ (bytes ":1." ++ ((byte "0" + n) ∷ 0 ∷ 0 ∷ 0 ∷ 0 ∷ [])))
 
 -- a call of these flags and this serial, with the path and member of C
-abbrev pub callOf : ℕ → ℕ → ℕ → List ℕ
-callOf flags serial n = fixedOf 1 flags serial 45 ++ (drop 16 callC ++ toNumber n)
+abbrev pub callMessage : ℕ → ℕ → ℕ → List ℕ
+callMessage flags serial n = fixedOf 1 flags serial 45 ++ (drop 16 callC ++ toNumber n)
 
 -- a return to that serial
-abbrev pub returnOf : ℕ → ℕ → List ℕ
-returnOf serial n = fixedOf 2 0 1 21 ++ ((5 ∷ 1 ∷ byte "u" ∷ 0 ∷ wordBytes serial) ++ toNumber n)
+abbrev pub returnMessage : ℕ → ℕ → List ℕ
+returnMessage serial n = fixedOf 2 0 1 21 ++ ((5 ∷ 1 ∷ byte "u" ∷ 0 ∷ wordBytes serial) ++ toNumber n)
 
 -- ---- calls
 
@@ -46,15 +46,15 @@ tallyShown q = let t = since (q .0) (starts ∷ joins ∷ joins ∷ q .1) in t .
 
 abbrev pub tallyTable : List ((ℕ × List Call) × List ℕ)
 tallyTable =
-    ((1, says 1 (callOf 1 1 2) ∷ []), 0 ∷ 0 ∷ 0 ∷ [])  -- no reply is expected
-    ∷ ((1, says 1 (take 20 (callOf 2 1 2)) ∷ says 1 (drop 20 (callOf 2 1 2)) ∷ []), 1 ∷ 0 ∷ 0 ∷ [])  -- one is, and a message counts, not its pieces
-    ∷ ((1, says 1 (callOf 0 1 2) ∷ says 1 (callOf 0 1 2) ∷ []), 1 ∷ 0 ∷ 0 ∷ [])  -- the second is 25
-    ∷ ((1, says 1 (callOf 0 1 2) ∷ says 2 (returnOf 1 1) ∷ []), 1 ∷ 1 ∷ 0 ∷ [])
-    ∷ ((2, says 1 (callOf 0 1 2) ∷ says 2 (returnOf 1 1) ∷ []), 0 ∷ 0 ∷ 0 ∷ [])  -- neither is the callee's
-    ∷ ((1, says 1 (callOf 0 1 1) ∷ says 1 (returnOf 1 1) ∷ []), 1 ∷ 1 ∷ 0 ∷ [])  -- a call to oneself is one
-    ∷ ((1, says 1 (callOf 0 1 2) ∷ leaves 2 ∷ []), 1 ∷ 0 ∷ 1 ∷ [])  -- its callee leaves
-    ∷ ((1, says 1 (callOf 0 1 2) ∷ says 1 (callOf 0 2 2) ∷ says 2 (returnOf 1 1) ∷ leaves 2 ∷ []), 2 ∷ 1 ∷ 1 ∷ [])  -- after one reply
-    ∷ ((1, says 1 (callOf 0 1 1) ∷ leaves 2 ∷ []), 1 ∷ 0 ∷ 0 ∷ [])  -- another leaves
-    ∷ ((1, says 1 (callOf 0 1 2) ∷ starts ∷ joins ∷ []), 0 ∷ 0 ∷ 0 ∷ [])  -- a start begins anew
-    ∷ ((3, says 1 (callOf 0 1 2) ∷ leaves 1 ∷ joins ∷ []), 0 ∷ 0 ∷ 0 ∷ [])  -- so does a newcomer, in the same slot
+    ((1, says 1 (callMessage 1 1 2) ∷ []), 0 ∷ 0 ∷ 0 ∷ [])  -- no reply is expected
+    ∷ ((1, says 1 (take 20 (callMessage 2 1 2)) ∷ says 1 (drop 20 (callMessage 2 1 2)) ∷ []), 1 ∷ 0 ∷ 0 ∷ [])  -- one is, and a message counts, not its pieces
+    ∷ ((1, says 1 (callMessage 0 1 2) ∷ says 1 (callMessage 0 1 2) ∷ []), 1 ∷ 0 ∷ 0 ∷ [])  -- the second is 25
+    ∷ ((1, says 1 (callMessage 0 1 2) ∷ says 2 (returnMessage 1 1) ∷ []), 1 ∷ 1 ∷ 0 ∷ [])
+    ∷ ((2, says 1 (callMessage 0 1 2) ∷ says 2 (returnMessage 1 1) ∷ []), 0 ∷ 0 ∷ 0 ∷ [])  -- neither is the callee's
+    ∷ ((1, says 1 (callMessage 0 1 1) ∷ says 1 (returnMessage 1 1) ∷ []), 1 ∷ 1 ∷ 0 ∷ [])  -- a call to oneself is one
+    ∷ ((1, says 1 (callMessage 0 1 2) ∷ leaves 2 ∷ []), 1 ∷ 0 ∷ 1 ∷ [])  -- its callee leaves
+    ∷ ((1, says 1 (callMessage 0 1 2) ∷ says 1 (callMessage 0 2 2) ∷ says 2 (returnMessage 1 1) ∷ leaves 2 ∷ []), 2 ∷ 1 ∷ 1 ∷ [])  -- after one reply
+    ∷ ((1, says 1 (callMessage 0 1 1) ∷ leaves 2 ∷ []), 1 ∷ 0 ∷ 0 ∷ [])  -- another leaves
+    ∷ ((1, says 1 (callMessage 0 1 2) ∷ starts ∷ joins ∷ []), 0 ∷ 0 ∷ 0 ∷ [])  -- a start begins anew
+    ∷ ((3, says 1 (callMessage 0 1 2) ∷ leaves 1 ∷ joins ∷ []), 0 ∷ 0 ∷ 0 ∷ [])  -- so does a newcomer, in the same slot
     ∷ []
