@@ -21,6 +21,7 @@ pub record Waits (m : List ℕ) (i callee serial : ℕ) (r : Judgement) (m′ : 
   pub left : (receiver : Peer Tail) (x : Header) → receiver .number ≡ callee → x .serial ≡ serial
       → JudgementLeft (waits (stateOf m) i (peerAt m i) receiver x) r m′
 
+-- a reply of slot i's peer to the peer of slot j
 pub record RepliesTo (m : List ℕ) (i j : ℕ) (x : Header) (r : Judgement) (m′ : List ℕ) : Type 0 where
   pub left : JudgementLeft (replyTo (stateOf m) j (peerAt m i) (peer (peerAt m j)) x) r m′
 

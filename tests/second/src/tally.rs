@@ -2,7 +2,7 @@
 //! the messages that they ended and their answers alone.
 //!
 //! The guard's own list of waits is never looked at, so that its length can be held against
-//! these counts: calls admitted, less replies, less waits ended otherwise.
+//! what these counts leave open.
 
 use crate::answer::{Answer, Receiver};
 use crate::capture::Call;
