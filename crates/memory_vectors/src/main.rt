@@ -1,12 +1,9 @@
 // Memory that is not good: each rule of good memory broken once at each place where it can be. The five calls that test memory all answer 51 and change
-// nothing; the first lines are memory that stays good. Counts of pending calls are tried in each slot, in two memories that are good as they are.
-use memory::CALL_ROOM;
+// nothing; the first lines are memory that stays good.
+mod counts;
+
 use memory::MEMORY_LENGTH;
-use memory::PENDING_AT;
-use memory::SLOT_LENGTH;
-use memory::SLOTS_AT;
-use wire::Order;
-ghost use Prim.Native.Nat.{_≤_, _<_};
+ghost use Prim.Native.Nat.{_≤_};
 ghost use Rattle.memory.specs.Layout.{memoryLength};
 
 // One default allow of anything for connect, own, send and receive.
@@ -14,11 +11,8 @@ const ALLOW: [u8; 136] =
     *b"\x88\0\0\0\x01\0\0\0\x20\0\0\0\x01\0\0\0(\0\0\0\x02\0\0\08\0\0\0\x88\0\0\0\0\x01\0\0\0\0\0\0\0\x01\0\0\0\0\0\0\0\0\0\0\0\0\0\0\0\x01\0\0\0\0\0\0\0\0\0\0\0\0\0\0\0\0\0\0\0\0\0\0\0\0\0\0\0\0\0\0\0\0\0\0\0\0\0\0\0\x01\x01\0\0\0\0\0\0\0\0\0\0\0\0\0\0\0\0\0\0\0\0\0\0\0\0\0\0\0\0\0\0\0\0\0\0\0\0\0";
 
 // A call to `:1.2` (the digit is byte 27) with a head of 64 bytes and a body of 3.
-const CALL: [u8; 67] =
+pub const CALL: [u8; 67] =
     *b"l\x01\0\x01\x03\0\0\0\x01\0\0\0*\0\0\0\x06\x01s\0\x04\0\0\0:1.2\0\0\0\0\x01\x01o\0\x01\0\0\0/\0\0\0\0\0\0\0\x03\x01s\0\x01\0\0\0M\0\0\0\0\0\0\0\0\0\0";
-
-// The counts of pending calls from 0 to one above the room.
-const COUNTS: u32 = CALL_ROOM as u32 + 2;
 
 fn set(memory: &mut [u8; MEMORY_LENGTH], at: usize, x: u8) {
     if at < MEMORY_LENGTH {
@@ -27,7 +21,7 @@ fn set(memory: &mut [u8; MEMORY_LENGTH], at: usize, x: u8) {
 }
 
 fn put(memory: &mut [u8; MEMORY_LENGTH], at: usize, x: u32) {
-    if at < 52673 {
+    if at < MEMORY_LENGTH - 3 {
         wire::put_u32(memory, at, x);
     }
 }
@@ -71,13 +65,13 @@ fn is_same(a: &[u8; MEMORY_LENGTH], b: &[u8; MEMORY_LENGTH]) -> bool {
 }
 
 // Each of them answers 51, and no byte changes.
-fn is_refused(memory: &[u8; MEMORY_LENGTH]) -> bool {
+pub fn is_refused(memory: &[u8; MEMORY_LENGTH]) -> bool {
     let mut after = *memory;
     let refused = are_refused(&mut after);
     refused & is_same(memory, &after)
 }
 
-fn line(label: &[u8], refused: bool) {
+pub fn line(label: &[u8], refused: bool) {
     io::write_all(1, label);
     if refused {
         io::write_all(1, b": 51\n");
@@ -93,7 +87,7 @@ fn byte(memory: &[u8; MEMORY_LENGTH], label: &[u8], at: usize, x: u8) {
     line(label, is_refused(&m));
 }
 
-fn is_word_refused(memory: &[u8; MEMORY_LENGTH], at: usize, x: u32) -> bool {
+pub fn is_word_refused(memory: &[u8; MEMORY_LENGTH], at: usize, x: u32) -> bool {
     let mut m = *memory;
     put(&mut m, at, x);
     is_refused(&m)
@@ -110,7 +104,7 @@ fn is_refused_with(memory: &[u8; MEMORY_LENGTH], at: usize) -> bool {
 }
 
 // One more, where it is so.
-fn counted(count: usize, so: bool) -> usize {
+pub fn counted(count: usize, so: bool) -> usize {
     if so {
         if count < 65536 {
             return count + 1;
@@ -132,7 +126,7 @@ fn count(memory: &[u8; MEMORY_LENGTH], from: usize, to: usize) -> usize
     refused
 }
 
-fn tally(refused: usize, tried: usize, things: &[u8]) {
+pub fn tally(refused: usize, tried: usize, things: &[u8]) {
     io::write_all(1, b": 51 for ");
     io::print_decimal(1, refused as u64);
     io::write_all(1, b" of ");
@@ -148,11 +142,11 @@ fn sweep(memory: &[u8; MEMORY_LENGTH], label: &[u8], from: usize, to: usize)
     tally(refused, to - from, b" bytes\n");
 }
 
-fn connect(memory: &mut [u8; MEMORY_LENGTH], gids: &[u32]) {
+pub fn connect(memory: &mut [u8; MEMORY_LENGTH], gids: &[u32]) {
     guard::connect(&ALLOW, memory, 7, gids);
 }
 
-fn piece(memory: &mut [u8; MEMORY_LENGTH], peer: u32, bytes: &[u8]) {
+pub fn piece(memory: &mut [u8; MEMORY_LENGTH], peer: u32, bytes: &[u8]) {
     guard::piece(&ALLOW, memory, peer, bytes);
 }
 
@@ -280,75 +274,6 @@ fn free(m: &[u8; MEMORY_LENGTH]) {
     sweep(m, b"free slot 15", 49384, MEMORY_LENGTH);
 }
 
-// Peer n calls peer 1, with the serials 1 to n.
-fn calls(memory: &mut [u8; MEMORY_LENGTH], n: u8) {
-    let mut i: u8 = 0;
-    while i < n {
-        let mut to_1 = CALL;
-        to_1[8] = i + 1;
-        to_1[27] = b'1';
-        piece(memory, n as u32, &to_1);
-        i += 1;
-    }
-}
-
-// A peer in every slot: peer 1 has no pending call, each other as many as its number, so that peer 16 has all that there is room for.
-fn fill(memory: &mut [u8; MEMORY_LENGTH]) {
-    guard::start(memory);
-    connect(memory, &[]);
-    let mut i: u8 = 1;
-    while i < 16 {
-        i += 1;
-        connect(memory, &[]);
-        calls(memory, i);
-    }
-}
-
-// Each count from 0 to one above the room in the place of the word at `at`: how many are refused.
-fn count_refused(memory: &[u8; MEMORY_LENGTH], at: usize) -> usize {
-    let mut refused = 0;
-    let mut n: u32 = 0;
-    while n < COUNTS {
-        refused = counted(refused, is_word_refused(memory, at, n));
-        n += 1;
-    }
-    refused
-}
-
-// The pending calls of slot i, and other counts of them: those from 0 to one above the room but its own, and the greatest.
-fn slot_count(memory: &[u8; MEMORY_LENGTH], label: &[u8], i: usize)
-    requires { ⌜ i < 16 ⌝ }
-{
-    let at = SLOTS_AT + SLOT_LENGTH * i + PENDING_AT;
-    let refused = counted(
-        count_refused(memory, at),
-        is_word_refused(memory, at, 4294967295),
-    );
-    io::write_all(1, label);
-    io::print_decimal(1, i as u64);
-    io::write_all(1, b" with a count of ");
-    io::print_decimal(1, wire::u32_at(Order::Little, memory, at) as u64);
-    tally(refused, COUNTS as usize, b" others\n");
-}
-
-fn slot_counts(memory: &[u8; MEMORY_LENGTH], label: &[u8]) {
-    let mut i = 0;
-    while i < 16 {
-        slot_count(memory, label, i);
-        i += 1;
-    }
-}
-
-// Every slot used, then every slot free.
-fn counts(memory: &mut [u8; MEMORY_LENGTH]) {
-    fill(memory);
-    line(b"a peer in every slot", is_refused(memory));
-    slot_counts(memory, b"used slot ");
-    guard::start(memory);
-    line(b"no peer", is_refused(memory));
-    slot_counts(memory, b"free slot ");
-}
-
 // The bus's name in the place of peer 2's.
 fn bus_name(memory: &[u8; MEMORY_LENGTH]) {
     let mut m = *memory;
@@ -390,7 +315,7 @@ fn main() {
     bus_name(&memory);
     streams(&memory);
     free(&memory);
-    counts(&mut memory);
+    counts::show(&mut memory);
     shorter();
     longer();
 }

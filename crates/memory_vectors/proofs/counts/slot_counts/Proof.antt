@@ -1,8 +1,8 @@
--- `memory_vectors::slot_counts` meets its contract.
+-- `memory_vectors::counts::slot_counts` meets its contract.
 use borrow.Author.Needs.{needs}
 use Prim.Native.Nat.{_-_, _≤_}
-use Rattle.memory_vectors.proofs.slot_counts.Statement.{statement}
-use Rattle.memory_vectors.proofs.slot_counts.Tie as tie
+use Rattle.memory_vectors.proofs.counts.slot_counts.Statement.{statement}
+use Rattle.memory_vectors.proofs.counts.slot_counts.Tie as tie
 
 abbrev Inv-loop : tie.InvT-loop
 Inv-loop memory label i₀ i = i ≤ 16

@@ -1,8 +1,8 @@
--- `memory_vectors::calls` meets its contract.
+-- `memory_vectors::counts::calls` meets its contract.
 use borrow.Author.Needs.{needs}
 use Prim.Native.Nat.{_-_, _≤_}
-use Rattle.memory_vectors.proofs.calls.Statement.{statement}
-use Rattle.memory_vectors.proofs.calls.Tie as tie
+use Rattle.memory_vectors.proofs.counts.calls.Statement.{statement}
+use Rattle.memory_vectors.proofs.counts.calls.Tie as tie
 
 abbrev Inv-loop : tie.InvT-loop
 Inv-loop memory₀ n i₀ memory i = i ≤ n

@@ -1,8 +1,8 @@
--- `memory_vectors::fill` meets its contract.
+-- `memory_vectors::counts::fill` meets its contract.
 use borrow.Author.Needs.{needs}
 use Prim.Native.Nat.{_-_, _≤_}
-use Rattle.memory_vectors.proofs.fill.Statement.{statement}
-use Rattle.memory_vectors.proofs.fill.Tie as tie
+use Rattle.memory_vectors.proofs.counts.fill.Statement.{statement}
+use Rattle.memory_vectors.proofs.counts.fill.Tie as tie
 
 abbrev Inv-loop : tie.InvT-loop
 Inv-loop memory₀ i₀ t4 memory i = i ≤ 16

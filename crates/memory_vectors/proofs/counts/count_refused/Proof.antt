@@ -1,8 +1,8 @@
--- `memory_vectors::count_refused` meets its contract.
+-- `memory_vectors::counts::count_refused` meets its contract.
 use borrow.Author.Needs.{needs}
 use Prim.Native.Nat.{_-_, _≤_}
-use Rattle.memory_vectors.proofs.count_refused.Statement.{statement}
-use Rattle.memory_vectors.proofs.count_refused.Tie as tie
+use Rattle.memory_vectors.proofs.counts.count_refused.Statement.{statement}
+use Rattle.memory_vectors.proofs.counts.count_refused.Tie as tie
 
 abbrev Inv-loop : tie.InvT-loop
 Inv-loop memory at refused₀ n₀ refused n = n ≤ 18
