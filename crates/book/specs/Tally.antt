@@ -15,11 +15,11 @@ use Rattle.book.specs.Book.{books}
 use Rattle.book.specs.Lists.{Call, starts, connects, claims, releases, offers, leaves, Answer, plain, connected, taken, gone, numberOf, modelStep}
 
 pub record Tally : Type 0 where
-  -- its calls that passed to a peer and await a reply
+  -- its calls that passed to a peer and began to wait for the reply
   pub admitted : ℕ
   -- the replies that passed to it
   pub replied : ℕ
-  -- its calls that ended without a reply
+  -- its calls that ended without one
   pub otherwise : ℕ
   -- by callee, its calls that have ended in neither way
   pub waiting : ℕ → ℕ
@@ -83,6 +83,7 @@ receiverOf (gone r) = to.Nobody
 abbrev pub whereDone : Answer → Tally → Tally → Tally
 whereDone a then t = cond (eqb (numberOf a) 0) then t
 
+-- a piece may end a message, and a disconnect calls; the other calls are nothing to it (rule 12.4)
 unfoldable pub callTallied : ℕ → State (List ℕ) → Answer → Call → Tally → Tally
 callTallied n b a starts t = t
 callTallied n b a (connects image uid gids) t = t
