@@ -19,6 +19,7 @@ use Rattle.rules.specs.View.{seen, seenSlot, seenPeer}
 use Rattle.rules.proofs.View.{slot-seen}
 use Rattle.rules.proofs.First.{number-found}
 use Rattle.rules.proofs.Tests.{clash}
+use Rattle.rules.proofs.Replies.{reply-only}
 use Rattle.sound.proofs.Judged.{judged-any}
 use Rattle.sound.proofs.Put.{peer-fine}
 use Rattle.book.specs.Book.{books, tailView}
@@ -30,7 +31,7 @@ use Rattle.book.proofs.Runs.{reached-holds}
 use Rattle.book.proofs.Pieces.{pieceUnder, consumed, ends-is}
 use Rattle.book.proofs.Counts.{Right}
 use Rattle.book.proofs.Counted.{reached-counts}
-use Rattle.book.proofs.Tally.{RightAt, reply-only}
+use Rattle.book.proofs.Tally.{RightAt}
 use Rattle.book.proofs.Consequences.{message-ended}
 
 -- ---- a judgement

@@ -1,7 +1,6 @@
 -- Each call keeps a peer's pending calls what the tally says of them, whatever streams are made of.
 use mathlib.Core.Path.{_≡_, refl, sym, ap, _∙_, subst}
-use mathlib.Core.Logic.{inl, inr}
-use mathlib.Core.Bool.{true, false, cond, _&&_, false≢true}
+use mathlib.Core.Bool.{false, cond, _&&_, false≢true}
 use mathlib.Core.List.{List}
 use Prim.Native.Nat.{ℕ, _+_, _≤_, _<_}
 use native.Mathlib.Omega.{arith}
@@ -9,16 +8,15 @@ use native.Mathlib.Decide.{ℕ-discrete}
 use lib.Dec.{eqb}
 use lib.ListN.{length, getD, set, List·getD-map}
 use borrow.Author.Tests.{eqb-true, eq-eqb, ne-eqb, ltb-true}
-use Rattle.header.specs.Codes.{return, error}
 use Rattle.header.specs.declared.Header.{Header}
-use Rattle.wire.proofs.Texts.{either}
 use Rattle.stream.specs.Stream.{Streams}
 use Rattle.rules.specs.State.{Pending, Slot, free, peer, Peer, State, isPeer, firstBy, putSlot, withPending}
 use Rattle.rules.specs.Pending.{removeCallsTo}
-use Rattle.rules.specs.Judge.{Judged, expectsReply, isReply, judged}
+use Rattle.rules.specs.Judge.{Judged, judged}
 use Rattle.rules.specs.Calls.{Step, seated, connect, slotAt, ownAt, own, releaseAt, release, disconnectAt, disconnect}
 use Rattle.rules.specs.declared.Connected.{Connected}
-use Rattle.rules.proofs.Tests.{choice, by-test}
+use Rattle.rules.proofs.Tests.{choice, refute}
+use Rattle.rules.proofs.Replies.{reply-only}
 use Rattle.rules.proofs.First.{taken-below, number-found}
 use Rattle.sound.proofs.Slots.{put-cases, Single}
 use Rattle.sound.proofs.Judged.{judged-any}
@@ -32,12 +30,6 @@ RightAt n t (peer p) = p .number ≡ n → Right t (p .pending)
 
 abbrev pub Counts : {S : Type 0} → ℕ → Tally → State S → Type 0
 Counts n t s = (j : ℕ) → RightAt n t (slotAt s j)
-
--- a reply awaits none
-pub reply-only : (x : Header) → isReply x ≡ true → expectsReply x ≡ false
-reply-only x r =
-    elim (either (eqb (x .kind) return) (eqb (x .kind) error) r)
-    [ inl e ↦ rw (eqb-true (x .kind) return e) | inr e ↦ rw (eqb-true (x .kind) error e) ]
 
 module _ {S : Type 0} (n : ℕ) where
   -- another peer's slot says nothing
@@ -56,8 +48,7 @@ module _ {S : Type 0} (n : ℕ) where
         put-cases (RightAt n u) (s .slots) i (peer q) (taken-below (s .slots) i p e) j
         (λ z m. f (sym k ∙ m) (subst (RightAt n t) e (c i) (sym k ∙ m)))
         (λ z. elim (ℕ-discrete (p .number) n) [
-          | yes m ↦ other-right u (slotAt s j) (by-test (isPeer n (slotAt s j))
-              (λ h. absurd (z (single j i h (ap (isPeer n) e ∙ eq-eqb (p .number) n m)))) (λ h. h))
+          | yes m ↦ other-right u (slotAt s j) (refute (isPeer n (slotAt s j)) (λ h. z (single j i h (ap (isPeer n) e ∙ eq-eqb (p .number) n m))))
           | no m ↦ subst (λ (v : Tally). RightAt n v (slotAt s j)) (sym (g m)) (c j)
         ])
 

@@ -1,13 +1,13 @@
 -- What a list of calls says of one peer's pending calls since it connected (rule 12.4): counted from the calls, the messages and the answers alone, and
 -- never from the pending calls that a state holds.
 use mathlib.Core.Bool.{Bool, true, false, cond, _&&_}
-use mathlib.Core.List.{List, [], _∷_}
+use mathlib.Core.List.{List, [], _∷_, map}
 use Prim.Native.Nat.{ℕ, _+_, _-_}
 use lib.Dec.{eqb}
 use Rattle.header.specs.declared.Header.{Header}
 use Rattle.stream.specs.Stream.{Verdict, more, broken, whole, offer}
 use Rattle.rules.specs.State.{Pending, Slot, free, peer, State, isPeer, firstBy}
-use Rattle.rules.specs.Judge.{bit, expectsReply, isReply}
+use Rattle.rules.specs.Judge.{bit, countOf, expectsReply, isReply}
 use Rattle.rules.specs.Calls.{empty, slotAt}
 use Rattle.rules.specs.declared.Receiver.{Receiver}
 use Rattle.rules.specs.declared.Receiver.the-variants as to
@@ -119,8 +119,7 @@ since n cs = tallied n empty cs noCalls
 
 -- the pending calls whose callee passes a test
 abbrev pub callsTo : (ℕ → Bool) → List Pending → ℕ
-callsTo t [] = 0
-callsTo t (w ∷ ws) = bit (t (w .callee)) + callsTo t ws
+callsTo t ws = countOf (map (λ w. t (w .callee)) ws)
 
 -- the test that k alone passes
 abbrev pub isCallee : ℕ → ℕ → Bool

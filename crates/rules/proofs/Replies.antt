@@ -21,7 +21,7 @@ use Rattle.rules.specs.State.{Slot, free, peer, Peer, Pending, State, is
 use Rattle.rules.specs.Addresses.{Address, undirected, bus, slot, unknown, answersTo, found, resolve}
 use Rattle.rules.specs.Pending.{ended, removeCallsTo}
 use Rattle.rules.specs.Awaited.{isWaiting, awaited}
-use Rattle.rules.specs.Judge.{Judged, replyTo, reply, isReply, judged}
+use Rattle.rules.specs.Judge.{Judged, expectsReply, replyTo, reply, isReply, judged}
 use Rattle.rules.specs.Calls.{slotAt, disconnectAt, disconnect}
 use Rattle.rules.specs.declared.Receiver.the-variants as to
 use Rattle.rules.proofs.First.{first-set, taken-below, number-found}
@@ -34,6 +34,12 @@ reply-low x r =
     le-ltb 4 (x .kind)
     (elim (either (eqb (x .kind) return) (eqb (x .kind) error) r)
     [ inl e ↦ omega (arith, eqb-true (x .kind) return e) | inr e ↦ omega (arith, eqb-true (x .kind) error e) ])
+
+-- a reply awaits none
+pub reply-only : (x : Header) → isReply x ≡ true → expectsReply x ≡ false
+reply-only x r =
+    elim (either (eqb (x .kind) return) (eqb (x .kind) error) r)
+    [ inl e ↦ rw (eqb-true (x .kind) return e) | inr e ↦ rw (eqb-true (x .kind) error e) ]
 
 module _ {S : Type 0} (image : List ℕ) (s : State S) (i : ℕ) (sender : Peer S) (h : List ℕ) (x : Header) (r : isReply x ≡ true) where
   abbrev pub address : Address

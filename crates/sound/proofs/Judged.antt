@@ -26,7 +26,8 @@ use Rattle.sound.proofs.Renew.{waits-sound, ended-sound}
 -- what holds of every outcome holds of the judgement: of a refusal, of one for want of room, of a message passed aside from any wait, of a wait begun and
 -- of a wait ended
 module _ {S : Type 0} (image : List ℕ) (s : State S) (i : ℕ) (sender : Peer S) (x : Header) (P : Judged S → Type 0)
-    (refuses : (a : ℕ) → isJudged a ≡ true → eqb a 26 ≡ false → P (refused s a)) (full : 16 ≤ length (sender .pending) → P (refused s 26)) (to-bus : P (passed s to.Bus)) (to-all : (mask count : ℕ) → P (passed s (to.Slots mask count)))
+    (refuses : (a : ℕ) → isJudged a ≡ true → eqb a 26 ≡ false → P (refused s a)) (full : 16 ≤ length (sender .pending) → P (refused s 26))
+    (to-bus : P (passed s to.Bus)) (to-all : (mask count : ℕ) → P (passed s (to.Slots mask count)))
     (aside : (j : ℕ) (q : Peer S) → getD (s .slots) j free ≡ peer q → isReply x ≡ false → expectsReply x ≡ false → P (passed s (to.Peer (q .number))))
     (begins : (j : ℕ) (q : Peer S) → getD (s .slots) j free ≡ peer q → expectsReply x ≡ true → awaits (q .number) (x .serial) (sender .pending) ≡ false
     → length (sender .pending) < 16
