@@ -1,12 +1,15 @@
-//! Counting what a set of captures reaches: answers by call, the cases of 7, 8, 9 and 50,
-//! what rules that name an interface did, and what became of waiting calls.
+//! Counting what a set of captures reaches: answers by call, the cases of 7, 8, 9 and 50, what
+//! names were refused for, what rules that name an interface did, and what became of waiting
+//! calls.
 
-use crate::answer::{Receiver, ANSWERS_OF_CALLS};
+use crate::answer::{Answer, Receiver, ANSWERS_OF_CALLS};
 use crate::capture::{self, Call};
 use crate::guard::{Guard, LentPolicy};
-use crate::header::{required_fields, HeadFault, Header, Malformed};
+use crate::header::{self, required_fields, HeadFault, Header, Malformed};
 use crate::image::{self, Breach};
 use crate::interface_cases;
+use crate::name_cases;
+use crate::name_forms::Form;
 use crate::replay::{run, Outcome};
 use crate::stream::Step;
 use crate::wait_cases::{self, WaitCases};
@@ -54,9 +57,24 @@ fn wanted_cases() -> Vec<String> {
     let waits = ["begins", "ends by a reply", "ends by a disconnect"];
     wanted.extend(waits.iter().map(|what| format!("wait {what}")));
     wanted.push("bad capture".to_string());
+    wanted.extend(name_cases::cases());
     wanted.extend(interface_cases::CASES.iter().map(|case| case.to_string()));
     wanted.extend(wait_cases::CASES.iter().map(|case| case.to_string()));
     wanted
+}
+
+/// What a name was refused for, in a head or in a call about a name.
+fn case_of_name(guard: &Guard, call: &Call, outcome: Outcome) -> Option<String> {
+    match (call, outcome.answer()) {
+        (Call::Piece { peer, .. }, Answer::BadValue) => {
+            let (code, text) = header::bad_text(guard.peer(*peer)?.stream.head())?;
+            name_cases::of_text(8, Form::of_field(code, &text)?, &text)
+        }
+        (Call::Own { name, .. } | Call::Release { name, .. }, Answer::NotAName) => {
+            name_cases::of_text(31, Form::WellKnown, name)
+        }
+        _ => None,
+    }
 }
 
 /// The message that a call is about to end, with its sender. It is read here as well, because
@@ -82,7 +100,7 @@ impl Coverage {
         *self.cases.entry(case).or_default() += 1;
     }
 
-    fn count_cases(&mut self, cases: Vec<&'static str>) {
+    fn count_cases(&mut self, cases: impl IntoIterator<Item = impl ToString>) {
         cases.into_iter().for_each(|case| self.count_case(case.to_string()));
     }
 
@@ -92,6 +110,7 @@ impl Coverage {
         let policy = image::read(&reading.capture.image);
         if let Err(bad) = &policy {
             self.count_case(format!("50 {:?}", bad.breach));
+            self.count_cases(name_cases::of_image(&reading.capture.image, bad.breach));
         }
         if !reading.is_whole {
             self.count_case("bad capture".to_string());
@@ -105,6 +124,7 @@ impl Coverage {
             self.count(outcome);
             self.count_waits(outcome, waits, guard.waits().len());
             self.count_cases(wait_cases.see(call, &outcome));
+            self.count_cases(case_of_name(&guard, call, outcome));
             if let Some((sender, header)) = message {
                 self.count_interfaces(&guard, policy.as_ref().ok(), sender, &header, outcome);
             }

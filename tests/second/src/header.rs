@@ -156,6 +156,18 @@ impl Header {
     }
 }
 
+/// The text that broke a head with answer 8, and the code of its field. None where the value
+/// was a number, or where nothing breaks its rule.
+pub fn bad_text(head: &[u8]) -> Option<(u8, Vec<u8>)> {
+    let fixed = FixedPart::read(head).ok()?;
+    let elements = read_array(head, &fixed).ok()?;
+    let bad = elements.into_iter().find(|element| !obeys_its_rule(element))?;
+    match bad.value {
+        Value::Text(text) => Some((bad.code, text)),
+        Value::Number(_) => None,
+    }
+}
+
 fn read_array(head: &[u8], fixed: &FixedPart) -> Result<Vec<Element>, Malformed> {
     let end = FIXED_LENGTH + fixed.array_length as usize;
     let array = &head[..end];

@@ -15,6 +15,8 @@ pub mod image;
 pub mod image_write;
 pub mod interface_cases;
 pub mod message;
+pub mod name_cases;
+pub mod name_forms;
 pub mod names;
 pub mod policy;
 pub mod policy_text;

@@ -34,6 +34,11 @@ impl Stream {
         self.count
     }
 
+    /// The head bytes of the unfinished or broken message.
+    pub fn head(&self) -> &[u8] {
+        &self.head
+    }
+
     /// How many bytes the current message still needs, if its fixed part is there.
     pub fn wanted(&self) -> Option<u64> {
         let fixed = FixedPart::read(self.head.get(..FIXED_LENGTH)?).ok()?;

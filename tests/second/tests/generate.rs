@@ -2,7 +2,10 @@
 
 use second::capture;
 use second::coverage::Coverage;
-use second::generate::{generate, generate_pair, Mode};
+use second::generate::random::Random;
+use second::generate::{generate, generate_pair, spelling, Mode};
+use second::name_cases;
+use second::name_forms::Form;
 use second::replay::replay;
 
 #[test]
@@ -69,13 +72,38 @@ fn a_full_guard() {
     }
 }
 
+/// Good names use every character of their form, and the bad ones of all forms every byte; of
+/// a bad name only one kind of thing is wrong.
+#[test]
+fn spelled_names() {
+    let mut random = Random::new(1);
+    let mut in_bad = [false; 256];
+    for form in Form::ALL {
+        let mut in_good = [false; 256];
+        for _ in 0..3000 {
+            let good = spelling::good(&mut random, form);
+            assert!(form.is_kept_by(good.as_bytes()), "{good}");
+            good.bytes().for_each(|byte| in_good[usize::from(byte)] = true);
+            let bad = spelling::bad(&mut random, form);
+            let text = String::from_utf8_lossy(&bad);
+            assert!(name_cases::of_text(8, form, &bad).is_some(), "{form:?} {text}");
+            bad.iter().for_each(|byte| in_bad[usize::from(*byte)] = true);
+        }
+        for byte in 0..=255 {
+            let may_stand = [form.mark(), form.separator()].contains(&Some(byte)) || form.is_character(byte);
+            assert_eq!(in_good[usize::from(byte)], may_stand, "{form:?} {byte}");
+        }
+    }
+    assert_eq!(in_bad, [true; 256]);
+}
+
 #[test]
 fn every_answer_is_reached() {
     let mut coverage = Coverage::default();
     for seed in 1..=60 {
         coverage.add(&generate(seed, 1200, Mode::Mixed));
     }
-    for seed in 1..=400 {
+    for seed in 1..=500 {
         coverage.add(&generate(seed, 20, Mode::BadImage));
     }
     coverage.add(&generate(1, 100, Mode::BadLayout));

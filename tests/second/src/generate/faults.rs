@@ -8,7 +8,7 @@ use crate::wire::{ByteOrder, MAX_MESSAGE_LENGTH};
 
 /// The bytes of `message` with one fault or several.
 pub fn broken(random: &mut Random, message: &Message) -> Vec<u8> {
-    match random.below(24) {
+    match random.below(27) {
         0..=4 => {
             let mut bytes = message.bytes();
             let faults = if random.chance(60) { 1 } else { random.between(2, 4) };
@@ -18,16 +18,16 @@ pub fn broken(random: &mut Random, message: &Message) -> Vec<u8> {
             bytes
         }
         5..=12 => break_array(random, message).bytes,
-        13..=16 => with_bad_value(random, message.clone()).bytes(),
-        17 => with_zero_inside(random, message),
-        18 => with_length_into_padding(random, message),
-        19..=20 => without_required_field(random, message.clone()).bytes(),
-        21 => {
+        13..=19 => with_bad_value(random, message.clone()).bytes(),
+        20 => with_zero_inside(random, message),
+        21 => with_length_into_padding(random, message),
+        22..=23 => without_required_field(random, message.clone()).bytes(),
+        24 => {
             let incomplete = without_required_field(random, message.clone());
             let spoiled = with_bad_value(random, incomplete);
             break_array(random, &spoiled).bytes
         }
-        22 => {
+        25 => {
             let incomplete = without_required_field(random, message.clone());
             with_bad_value(random, incomplete).bytes()
         }
@@ -139,7 +139,7 @@ fn with_bad_value(random: &mut Random, mut message: Message) -> Message {
         REPLY_SERIAL => message.number(code, 0),
         _ => {
             let value = vocabulary::bad_value(random, code);
-            message.text(code, &value)
+            message.bytes_field(code, &value)
         }
     };
     // The field was written last; it goes back to where the good one stood.

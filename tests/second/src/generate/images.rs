@@ -2,6 +2,7 @@
 
 use super::random::Random;
 use super::vocabulary;
+use crate::header::{INTERFACE, MEMBER, PATH};
 use crate::image::{self, CONNECT_SIZE, HEADER_LENGTH, MAX_LENGTH, OWN_SIZE, TRANSACTION_SIZE};
 use crate::image_write;
 use crate::policy::{Context, Direction, Gid, NameMatcher, OwnRule, Policy, TransactionRule, Verdict};
@@ -10,10 +11,10 @@ use crate::wire::ByteOrder;
 /// An image that breaks a rule, or in a few cases one that only looks as if it did.
 pub fn broken(random: &mut Random) -> Vec<u8> {
     let good = sample(random);
-    match random.below(10) {
-        0..=1 => with_bad_string(random),
-        2..=3 => break_header(random, good),
-        4..=8 => break_rule(random, good),
+    match random.below(12) {
+        0..=3 => with_bad_string(random),
+        4..=5 => break_header(random, good),
+        6..=10 => break_rule(random, good),
         _ => with_random_bytes(random, good),
     }
 }
@@ -63,31 +64,41 @@ fn full_rule(random: &mut Random) -> TransactionRule {
 fn with_bad_string(random: &mut Random) -> Vec<u8> {
     let mut policy = Policy::default();
     let mut rule = full_rule(random);
-    let bad_name = loop {
-        let text = vocabulary::not_well_known(random);
-        if !text.is_empty() {
-            break text;
-        }
-    };
-    let mut bad = |code: u8| loop {
-        let text = vocabulary::bad_value(random, code);
-        if !text.is_empty() {
-            break Some(text);
-        }
-    };
-    let (path, interface, member) = (bad(1), bad(2), bad(3));
     let mut matcher = NameMatcher::Name("a.b".to_string());
-    match random.below(6) {
-        0 => rule.name = Some(bad_name),
-        1 => rule.path = path,
-        2 => rule.interface = interface,
-        3 => rule.member = member,
-        4 => matcher = NameMatcher::Name(bad_name),
-        _ => matcher = NameMatcher::Prefix(bad_name),
+    let place = random.below(6);
+    let bad = bad_text(random, place);
+    // A bad text may be no string at all, so another of its length is written first.
+    let stand_in = "*".repeat(bad.len());
+    match place {
+        0 => rule.name = Some(stand_in),
+        1 => rule.path = Some(stand_in),
+        2 => rule.interface = Some(stand_in),
+        3 => rule.member = Some(stand_in),
+        4 => matcher = NameMatcher::Name(stand_in),
+        _ => matcher = NameMatcher::Prefix(stand_in),
     }
     policy.own.push(OwnRule { context: Context::Default, verdict: Verdict::Deny, name: matcher });
     policy.transaction.push(rule);
-    image_write::write(&policy).unwrap_or_default()
+    let mut image = image_write::write(&policy).unwrap_or_default();
+    let strings = places(&image).strings;
+    let stars = image[strings..].iter_mut().filter(|byte| **byte == b'*');
+    stars.zip(bad).for_each(|(star, byte)| *star = byte);
+    image
+}
+
+/// A text for one of the six places in which rules have one.
+fn bad_text(random: &mut Random, place: usize) -> Vec<u8> {
+    loop {
+        let text = match place {
+            1 => vocabulary::bad_value(random, PATH),
+            2 => vocabulary::bad_value(random, INTERFACE),
+            3 => vocabulary::bad_value(random, MEMBER),
+            _ => vocabulary::not_well_known(random),
+        };
+        if !text.is_empty() {
+            return text;
+        }
+    }
 }
 
 fn break_header(random: &mut Random, mut image: Vec<u8>) -> Vec<u8> {

@@ -1,12 +1,13 @@
 //! Random messages from one peer to the others, most of them good.
 
 use super::random::Random;
-use super::vocabulary;
+use super::{spelling, vocabulary};
 use crate::guard::{Guard, Wait};
 use crate::header::{
     DESTINATION, ERROR, ERROR_NAME, INTERFACE, MEMBER, METHOD_CALL, METHOD_RETURN, PATH, REPLY_SERIAL, SIGNAL,
 };
 use crate::message::Message;
+use crate::name_forms::Form;
 use crate::names::{unique_name_of, BUS_NAME};
 use crate::wire::{ByteOrder, MAX_ARRAY_LENGTH, NO_REPLY_EXPECTED};
 
@@ -95,6 +96,22 @@ fn a_name_of(random: &mut Random, guard: &Guard, number: u32) -> String {
     }
 }
 
+fn nobodys(random: &mut Random) -> String {
+    match random.chance(30) {
+        true => spelling::good(random, Form::Unique),
+        false => random.pick(&NOBODYS).to_string(),
+    }
+}
+
+/// Whatever a message says of its sender is read and then ignored.
+fn sender(random: &mut Random) -> String {
+    match random.below(10) {
+        0..=1 => spelling::good(random, Form::Unique),
+        2 => spelling::good(random, Form::WellKnown),
+        _ => random.pick(&[":1.1", ":9.9", "org.a.x", "a.b"]).to_string(),
+    }
+}
+
 pub fn addressed(random: &mut Random, guard: &Guard, message: Message, absent: usize) -> Message {
     if random.chance(absent) {
         return message;
@@ -102,7 +119,7 @@ pub fn addressed(random: &mut Random, guard: &Guard, message: Message, absent: u
     let peers: Vec<u32> = guard.peers().map(|peer| peer.number).collect();
     let destination = match random.below(20) {
         0..=1 => BUS_NAME.to_string(),
-        2 => random.pick(&NOBODYS).to_string(),
+        2 => nobodys(random),
         3 => unique_name_of(random.between(1, guard.last_number() as usize + 1) as u32),
         4..=6 => vocabulary::name(random),
         _ if peers.is_empty() => ":1.1".to_string(),
@@ -117,7 +134,7 @@ pub fn addressed(random: &mut Random, guard: &Guard, message: Message, absent: u
 /// Optional fields, flags, a body, either byte order, and fields in any order.
 pub fn dress(random: &mut Random, mut message: Message) -> Message {
     if random.chance(15) {
-        message = message.sender(random.pick(&[":1.1", ":9.9", "org.a.x", "a.b"]));
+        message = message.sender(&sender(random));
     }
     if random.chance(25) {
         message = message.signature(&vocabulary::signature(random));

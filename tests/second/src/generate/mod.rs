@@ -7,6 +7,7 @@ mod interfaces;
 mod messages;
 mod policies;
 pub mod random;
+pub mod spelling;
 mod split;
 mod talks;
 mod vocabulary;

@@ -1,7 +1,9 @@
 //! Few distinct ids, names and paths, so that rules, owners and replies really meet.
 
 use super::random::Random;
+use super::spelling;
 use crate::header::{ERROR_NAME, INTERFACE, MEMBER, PATH, SIGNATURE};
+use crate::name_forms::Form;
 use crate::names::BUS_NAME;
 
 /// Users and groups share their numbers on purpose: they must not be mixed up.
@@ -80,6 +82,7 @@ pub fn name(random: &mut Random) -> String {
     match random.below(40) {
         0 => longer("org.a.", 255),
         1 => BUS_NAME.to_string(),
+        2 => spelling::good(random, Form::WellKnown),
         _ => random.pick(&NAMES).to_string(),
     }
 }
@@ -88,6 +91,7 @@ pub fn path(random: &mut Random) -> String {
     match random.below(40) {
         0 => longer("/a/", 256),
         1 => longer("/", 300),
+        2 => spelling::good(random, Form::Path),
         _ => random.pick(&PATHS).to_string(),
     }
 }
@@ -95,6 +99,7 @@ pub fn path(random: &mut Random) -> String {
 pub fn interface(random: &mut Random) -> String {
     match random.below(40) {
         0 => longer("a.b", 255),
+        1 => spelling::good(random, Form::Interface),
         _ => random.pick(&INTERFACES).to_string(),
     }
 }
@@ -102,6 +107,7 @@ pub fn interface(random: &mut Random) -> String {
 pub fn member(random: &mut Random) -> String {
     match random.below(40) {
         0 => longer("M", 255),
+        1 => spelling::good(random, Form::Member),
         _ => random.pick(&MEMBERS).to_string(),
     }
 }
@@ -109,6 +115,7 @@ pub fn member(random: &mut Random) -> String {
 pub fn error_name(random: &mut Random) -> String {
     match random.below(40) {
         0 => longer("a.b", 255),
+        1..=4 => spelling::good(random, Form::ErrorName),
         _ => random.pick(&ERRORS).to_string(),
     }
 }
@@ -137,16 +144,26 @@ fn bad_signature(random: &mut Random) -> String {
     }
 }
 
-pub fn not_well_known(random: &mut Random) -> String {
-    match random.below(15) {
-        0 => longer("org.a.", 256),
-        1 => longer("org.a.", 1000),
-        _ => random.pick(&NOT_WELL_KNOWN).to_string(),
+pub fn not_well_known(random: &mut Random) -> Vec<u8> {
+    match random.below(30) {
+        0..=1 => longer("org.a.", 256).into_bytes(),
+        2..=3 => longer("org.a.", 1000).into_bytes(),
+        4..=15 => random.pick(&NOT_WELL_KNOWN).into(),
+        _ => spelling::bad(random, Form::WellKnown),
     }
 }
 
 /// A value that breaks the rule of field `code`.
-pub fn bad_value(random: &mut Random, code: u8) -> String {
+pub fn bad_value(random: &mut Random, code: u8) -> Vec<u8> {
+    // One bus name in two is meant to be unique.
+    let front = random.pick(&[b":".as_slice(), b""]);
+    match Form::of_field(code, front) {
+        Some(form) if random.chance(70) => spelling::bad(random, form),
+        _ => known_bad_value(random, code).into_bytes(),
+    }
+}
+
+fn known_bad_value(random: &mut Random, code: u8) -> String {
     let one_too_long = random.chance(15);
     match code {
         PATH => random.pick(&NOT_PATHS).to_string(),

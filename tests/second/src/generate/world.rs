@@ -131,10 +131,9 @@ impl World {
         let held_again = if owns { 2 } else { 6 };
         let name = match self.random.below(10) {
             0 => vocabulary::not_well_known(&mut self.random),
-            choice if choice <= held_again && !held.is_empty() => self.random.pick(&held),
-            _ => vocabulary::name(&mut self.random),
+            choice if choice <= held_again && !held.is_empty() => self.random.pick(&held).into_bytes(),
+            _ => vocabulary::name(&mut self.random).into_bytes(),
         };
-        let name = name.into_bytes();
         let call = match owns {
             true => Call::Own { peer, name },
             false => Call::Release { peer, name },
