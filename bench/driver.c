@@ -318,6 +318,7 @@ static void all_jobs(void) {
     struct bytes long_head = head("head, 2,048 bytes", l, 2048);
     head("head, signal", (struct message){.kind = 4, .path = PATH, .interface = INTERFACE, .member = MEMBER}, 0);
     answer = head("head, return", (struct message){.kind = 2, .flags = 1, .destination = ":1.2", .reply_serial = 1}, 0);
+    names(14);
     names(30);
     names(255);
     texts("signature sa{sv}as", "sa{sv}as", -1, dbus_signature_validate, g_variant_is_signature);

@@ -47,8 +47,10 @@ def goal(work):
         return share("libdbus", 6)
     if work == "head, 2,048 bytes":
         return share("libdbus", 4)
-    if re.search(r" of (30|255) bytes$", work) and "memory" not in work:
+    if re.search(r" of 30 bytes$", work):
         return share("libdbus", 2)
+    if re.search(r" of 255 bytes$", work):
+        return "≤ 2/5 of libdbus", lambda by, k: 5 * by["ours"][k] <= 2 * by["libdbus"][k]
     if work.startswith("signature"):
         return share("GLib", 2)
     if work == "memory test, 16 idle peers":

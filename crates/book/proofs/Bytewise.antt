@@ -10,7 +10,7 @@ use Rattle.rules.specs.Judge.{refusal}
 use Rattle.rules.specs.Calls.{Step, stays, noPiece}
 use Rattle.rules.specs.declared.Judgement.{Judgement}
 use Rattle.rules.specs.declared.Taken.{Taken}
-use Rattle.rules.proofs.Tests.{by-test}
+use Rattle.wire.proofs.Tests.{by-test}
 use Rattle.rules.specs.Places.{isStop, goesOn}
 use Rattle.book.specs.Split.{said}
 

@@ -16,7 +16,7 @@ use Rattle.rules.specs.declared.Taken.{Taken}
 use Rattle.rules.specs.declared.Gone.{Gone}
 use Rattle.rules.specs.View.{seenPeer, seenSlot, seen}
 use Rattle.rules.proofs.View.{slot-seen}
-use Rattle.rules.proofs.Tests.{by-test}
+use Rattle.wire.proofs.Tests.{by-test}
 use Rattle.rules.proofs.First.{taken-below, number-found}
 use Rattle.rules.specs.Awaited.{isWaiting, isAwaited}
 use Rattle.rules.proofs.Replies.{gone-unawaited}

@@ -17,7 +17,7 @@ use Rattle.rules.specs.declared.Connected.{Connected}
 use Rattle.rules.specs.declared.Taken.{Taken}
 use Rattle.rules.specs.View.{seenSlot, seen}
 use Rattle.rules.proofs.View.{same-seen, slot-seen}
-use Rattle.rules.proofs.Tests.{choice}
+use Rattle.wire.proofs.Tests.{choice}
 use Rattle.rules.proofs.First.{taken-below, number-found}
 use Rattle.memory.specs.Layout.{slotStart}
 use Rattle.memory.specs.Places.{peerFrom, numberAt, countAt}

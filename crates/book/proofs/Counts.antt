@@ -11,7 +11,7 @@ use borrow.Author.Tests.{eqb-true}
 use Rattle.rules.specs.State.{Pending, dropFirst}
 use Rattle.rules.specs.Pending.{isCall, awaits, ended, endedAll}
 use Rattle.rules.specs.Judge.{bit, countOf}
-use Rattle.rules.proofs.Tests.{choice, by-test}
+use Rattle.wire.proofs.Tests.{choice, by-test}
 use Rattle.rules.proofs.Waits.{call, call-callee}
 use Rattle.book.specs.Tally.{Tally, noCalls, callAdmitted, callReplied, calleeLeft, callsTo, isCallee}
 

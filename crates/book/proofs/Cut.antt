@@ -18,7 +18,7 @@ use Rattle.header.specs.Header.{readHeader}
 use Rattle.header.proofs.Readings.{read-few, read-front, read-append, whole-fits}
 use Rattle.stream.specs.Stream.{Verdict, more, whole}
 use Rattle.stream.specs.Tail.{finished}
-use Rattle.rules.proofs.Tests.{clash, refute, choice, by-test}
+use Rattle.wire.proofs.Tests.{clash, refute, choice, by-test}
 use Rattle.book.specs.Book.{firstVerdict, isWhole, size, past, cutOff, current}
 
 -- one byte more

@@ -16,7 +16,7 @@ use Rattle.rules.specs.State.{Slot, free, peer, Peer, State, isPeer, firstBy}
 use Rattle.rules.specs.Calls.{Step, slotAt, offered, pieceAt, piece}
 use Rattle.rules.specs.declared.Judgement.{Judgement}
 use Rattle.rules.specs.declared.Taken.{Taken}
-use Rattle.rules.proofs.Tests.{choice, by-test}
+use Rattle.wire.proofs.Tests.{choice, by-test}
 use Rattle.memory.specs.Encoding.{stateOf}
 use Rattle.memory.specs.Good.{good}
 use Rattle.memory.specs.Calls.{MemoryStep, Did, pieceOn}

@@ -18,7 +18,7 @@ use Rattle.rules.specs.declared.Taken.{Taken}
 use Rattle.rules.specs.View.{seen, seenSlot, seenPeer}
 use Rattle.rules.proofs.View.{slot-seen}
 use Rattle.rules.proofs.First.{number-found}
-use Rattle.rules.proofs.Tests.{clash}
+use Rattle.wire.proofs.Tests.{clash}
 use Rattle.rules.proofs.Replies.{reply-only}
 use Rattle.sound.proofs.Judged.{judged-any}
 use Rattle.sound.proofs.Put.{peer-fine}

@@ -7,7 +7,7 @@ use native.Mathlib.Omega.{arith}
 use lib.Dec.{eqb}
 use Rattle.image.specs.Good.{goodImage, outcomeOf, outcomeAnswer, imageAnswer}
 use Rattle.image.specs.declared.Outcome.{Outcome}
-use Rattle.rules.proofs.Tests.{choice}
+use Rattle.wire.proofs.Tests.{choice}
 use Rattle.rules.specs.Places.{isStop}
 use Rattle.book.specs.Split.{isVerdict}
 

@@ -10,7 +10,7 @@ use Rattle.image.specs.Good.{imageAnswer}
 use Rattle.stream.specs.Tail.{Tail, tails}
 use Rattle.rules.specs.State.{State}
 use Rattle.rules.specs.Calls.{Step, empty, connect, own, release, piece, disconnect, noConnect, noPiece, noGone}
-use Rattle.rules.proofs.Tests.{choice}
+use Rattle.wire.proofs.Tests.{choice}
 use Rattle.rules.specs.View.{seen, seenStep}
 use Rattle.rules.proofs.View.{chosen}
 use Rattle.rules.proofs.Seen.{connect-seen, own-seen, release-seen, piece-seen, disconnect-seen}

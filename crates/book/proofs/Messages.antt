@@ -17,7 +17,7 @@ use Rattle.book.specs.Split.{joinedPieces}
 use Rattle.book.specs.Messages.{WholeMessage, Messages, Parted}
 use Rattle.book.proofs.Cut.{begins-whole, whole-begins, whole-append, whole-some, whole-reached, past-few, front-none, cut-step, cut-stops, cut-enough}
 use Rattle.book.proofs.Tails.{fresh-view}
-use Rattle.rules.proofs.Tests.{by-test}
+use Rattle.wire.proofs.Tests.{by-test}
 
 -- ---- messages one after the other
 

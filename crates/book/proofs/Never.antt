@@ -11,7 +11,7 @@ use Rattle.rules.specs.State.{State}
 use Rattle.rules.specs.Calls.{Step}
 use Rattle.rules.specs.declared.Connected.{Connected}
 use Rattle.rules.specs.declared.Taken.{Taken}
-use Rattle.rules.proofs.Tests.{choice}
+use Rattle.wire.proofs.Tests.{choice}
 use Rattle.sound.proofs.Numbers.{broken-number}
 use Rattle.sound.proofs.Answers.{connect-modest, own-modest, release-modest, piece-modest, disconnect-modest}
 use Rattle.book.specs.Book.{current, books}

@@ -19,7 +19,7 @@ use Rattle.rules.specs.declared.Taken.{Taken}
 use Rattle.book.specs.Lists.{underImage}
 use Rattle.book.specs.Messages.{Takes}
 use Rattle.rules.specs.Places.{isJudged}
-use Rattle.rules.proofs.Tests.{choice}
+use Rattle.wire.proofs.Tests.{choice}
 use Rattle.sound.proofs.Octets.{offer-judged}
 use Rattle.sound.proofs.Numbers.{judged-low, judged-few, judged-proper}
 use Rattle.book.proofs.Images.{image-refuses}

@@ -15,7 +15,7 @@ use Rattle.rules.specs.State.{State}
 use Rattle.rules.specs.Calls.{Step, stays, empty, piece, noPiece}
 use Rattle.rules.specs.declared.Judgement.{Judgement}
 use Rattle.rules.specs.declared.Taken.{Taken}
-use Rattle.rules.proofs.Tests.{choice, by-test}
+use Rattle.wire.proofs.Tests.{choice, by-test}
 use Rattle.rules.proofs.View.{chosen}
 use Rattle.rules.specs.View.{seen}
 use Rattle.memory.specs.Layout.{memoryLength}

@@ -18,7 +18,7 @@ use Rattle.header.proofs.Readings.{read-front, whole-fits}
 use Rattle.stream.specs.Stream.{Verdict, more, broken, whole}
 use Rattle.stream.specs.Tail.{Tail, finished, isBroken, headEnd, fresh, push, judge, closed, tails}
 use Rattle.stream.proofs.Good.{end-is, fresh-more}
-use Rattle.rules.proofs.Tests.{choice, by-test}
+use Rattle.wire.proofs.Tests.{choice, by-test}
 use Rattle.rules.proofs.View.{chosen}
 use Rattle.rules.proofs.Seen.{Simulates}
 use Rattle.book.specs.Book.{firstVerdict, isWhole, current, books, keptTail, tailView}

@@ -15,7 +15,7 @@ use Rattle.rules.specs.Pending.{removeCallsTo}
 use Rattle.rules.specs.Judge.{Judged, judged}
 use Rattle.rules.specs.Calls.{Step, seated, connect, slotAt, ownAt, own, releaseAt, release, disconnectAt, disconnect}
 use Rattle.rules.specs.declared.Connected.{Connected}
-use Rattle.rules.proofs.Tests.{choice, refute}
+use Rattle.wire.proofs.Tests.{choice, refute}
 use Rattle.rules.proofs.Replies.{reply-only}
 use Rattle.rules.proofs.First.{taken-below, number-found}
 use Rattle.sound.proofs.Slots.{put-cases, Single}

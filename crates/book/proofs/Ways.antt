@@ -16,7 +16,7 @@ use Rattle.rules.specs.State.{Slot, free, peer, Peer, State, isPeer, firstBy, p
 use Rattle.rules.specs.Judge.{refusal, judged}
 use Rattle.rules.specs.Calls.{Step, stays, slotAt, noPiece, offered, offeredTo, pieceAt, piece}
 use Rattle.rules.specs.declared.Taken.{Taken}
-use Rattle.rules.proofs.Tests.{by-test}
+use Rattle.wire.proofs.Tests.{by-test}
 use Rattle.rules.proofs.First.{first-set, taken-below}
 use Rattle.rules.specs.Places.{isStop, isJudged}
 use Rattle.book.specs.Split.{said}

@@ -12,7 +12,7 @@ use Rattle.wire.specs.Words.{wordAt}
 use Rattle.wire.specs.declared.Order.the-variants.{Little}
 use Rattle.wire.proofs.Texts.{both-first, both-second}
 use Rattle.wire.proofs.Words.{rest-at}
-use Rattle.rules.proofs.Tests.{choice, by-test}
+use Rattle.wire.proofs.Tests.{choice, by-test}
 use Rattle.book.specs.Lists.{Call}
 use Rattle.calls.specs.Script.{entryKind, sizeOf, argumentOf, wellSized, entrySize, layout, scriptCalls, callOf}
 use Rattle.calls.specs.Steps.{Sized, Entry, Counted}

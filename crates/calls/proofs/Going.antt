@@ -13,7 +13,7 @@ use Rattle.wire.specs.Words.{wordBytes}
 use Rattle.wire.proofs.Words.{word-length, rest-at, put-at}
 use Rattle.tables.specs.Tables.{cells}
 use Rattle.tables.proofs.Cells.{cells-length, cells-snoc}
-use Rattle.rules.proofs.Tests.{by-test}
+use Rattle.wire.proofs.Tests.{by-test}
 use Rattle.rules.specs.State.{State}
 use Rattle.rules.specs.Calls.{empty}
 use Rattle.rules.specs.declared.Receiver.{Receiver}

@@ -1,9 +1,11 @@
 // The policy image: whether a lent image is good, and the places of its rules and strings.
+use names::Form;
 ghost use mathlib.Core.Path.{_≡_};
 ghost use Prim.Native.Nat.{_+_, _*_, _≤_, _<_};
 ghost use lib.ListN.{length};
 ghost use Rattle.wire.specs.Words.{wordAt};
 ghost use Rattle.wire.specs.declared.Order.the-variants.{Little};
+ghost use Rattle.names.specs.Classes.{classTable};
 ghost use Rattle.image.specs.Image.{sectionsAt, ruleCountAt, subjectWord, spanWidth, nameSpan, ruleSize};
 ghost use Rattle.image.specs.Rules.{spanAt, textOf, ruleFrom};
 ghost use Rattle.image.specs.Good.{goodCounts, goodSections, goodHeader, goodString, goodOrAny, goodOwned, goodStrings, goodSubject, goodMatcher};
@@ -123,8 +125,8 @@ fn has_header(image: &[u8]) -> bool
 // ---- strings
 
 // The string whose offset and length stand at `at` lies inside the string area, which starts at `strings`, and is a name of the form.
-fn is_string(form: names::Form, image: &[u8], strings: usize, at: usize) -> bool
-    requires { ⌜ (at + spanWidth ≤ length (now image)) × Strings (now image) strings ⌝ }
+fn is_string(table: &[u8; 256], form: Form, image: &[u8], strings: usize, at: usize) -> bool
+    requires { ⌜ (at + spanWidth ≤ length (now image)) × Strings (now image) strings × (now table ≡ classTable) ⌝ }
     ensures { λ r. ⌜ r ≡ goodString form (now (image .entry)) (spanAt (now (image .entry)) at) ⌝ }
 {
     let from = strings + word(image, at);
@@ -132,29 +134,29 @@ fn is_string(form: names::Form, image: &[u8], strings: usize, at: usize) -> bool
     if image.len() < to {
         return false;
     }
-    names::is_valid(form, &image[from..to])
+    names::is_valid_by(table, form, &image[from..to])
 }
 
-fn is_string_or_any(form: names::Form, image: &[u8], strings: usize, at: usize) -> bool
-    requires { ⌜ (at + spanWidth ≤ length (now image)) × Strings (now image) strings ⌝ }
+fn is_string_or_any(table: &[u8; 256], form: Form, image: &[u8], strings: usize, at: usize) -> bool
+    requires { ⌜ (at + spanWidth ≤ length (now image)) × Strings (now image) strings × (now table ≡ classTable) ⌝ }
     ensures { λ r. ⌜ r ≡ goodOrAny form (now (image .entry)) (spanAt (now (image .entry)) at) ⌝ }
 {
     if word(image, at + LEN_OFFSET) == 0 {
         return word(image, at) == 0;
     }
-    is_string(form, image, strings, at)
+    is_string(table, form, image, strings, at)
 }
 
 // The own rule at `at` is about any name, or cites a name.
-fn is_owned(image: &[u8], strings: usize, at: usize) -> bool
-    requires { ⌜ (at + ruleSize Own ≤ length (now image)) × Strings (now image) strings ⌝ }
+fn is_owned(table: &[u8; 256], image: &[u8], strings: usize, at: usize) -> bool
+    requires { ⌜ (at + ruleSize Own ≤ length (now image)) × Strings (now image) strings × (now table ≡ classTable) ⌝ }
     ensures { λ r. ⌜ r ≡ goodOwned (now (image .entry)) (ruleFrom (now (image .entry)) at) ⌝ }
 {
     let name = at + NAME_SPAN;
     if image[at + MATCHER_BYTE] == 0 {
         return (word(image, name) == 0) & (word(image, name + LEN_OFFSET) == 0);
     }
-    is_string(names::Form::WellKnown, image, strings, name)
+    is_string(table, Form::WellKnown, image, strings, name)
 }
 
 // ---- rules
@@ -189,27 +191,27 @@ fn is_connect(image: &[u8], from: usize, i: usize) -> bool
         & ((1 <= image[at + MATCHER_BYTE]) | (word(image, at + SUBJECT_WORD) == 0))
 }
 
-fn is_own(image: &[u8], strings: usize, from: usize, i: usize) -> bool
-    requires { ⌜ RuleAt (now image) Own from i × Strings (now image) strings ⌝ }
+fn is_own(table: &[u8; 256], image: &[u8], strings: usize, from: usize, i: usize) -> bool
+    requires { ⌜ RuleAt (now image) Own from i × Strings (now image) strings × (now table ≡ classTable) ⌝ }
     ensures { λ r. ⌜ r ≡ goodRule Own (now (image .entry)) i ⌝ }
 {
     let at = from + OWN_SIZE * i;
-    is_subject(image, at) & is_matcher(image, at) & is_owned(image, strings, at)
+    is_subject(image, at) & is_matcher(image, at) & is_owned(table, image, strings, at)
 }
 
 // The four strings of the transaction rule at `at`: each means any, or is a name of its form.
-fn has_strings(image: &[u8], strings: usize, at: usize) -> bool
-    requires { ⌜ (at + ruleSize Transaction ≤ length (now image)) × Strings (now image) strings ⌝ }
+fn has_strings(table: &[u8; 256], image: &[u8], strings: usize, at: usize) -> bool
+    requires { ⌜ (at + ruleSize Transaction ≤ length (now image)) × Strings (now image) strings × (now table ≡ classTable) ⌝ }
     ensures { λ r. ⌜ r ≡ goodStrings (now (image .entry)) (ruleFrom (now (image .entry)) at) ⌝ }
 {
-    is_string_or_any(names::Form::WellKnown, image, strings, at + NAME_SPAN)
-        & is_string_or_any(names::Form::Path, image, strings, at + PATH_SPAN)
-        & is_string_or_any(names::Form::Interface, image, strings, at + INTERFACE_SPAN)
-        & is_string_or_any(names::Form::Member, image, strings, at + MEMBER_SPAN)
+    is_string_or_any(table, Form::WellKnown, image, strings, at + NAME_SPAN)
+        & is_string_or_any(table, Form::Path, image, strings, at + PATH_SPAN)
+        & is_string_or_any(table, Form::Interface, image, strings, at + INTERFACE_SPAN)
+        & is_string_or_any(table, Form::Member, image, strings, at + MEMBER_SPAN)
 }
 
-fn is_transaction(image: &[u8], strings: usize, from: usize, i: usize) -> bool
-    requires { ⌜ RuleAt (now image) Transaction from i × Strings (now image) strings ⌝ }
+fn is_transaction(table: &[u8; 256], image: &[u8], strings: usize, from: usize, i: usize) -> bool
+    requires { ⌜ RuleAt (now image) Transaction from i × Strings (now image) strings × (now table ≡ classTable) ⌝ }
     ensures { λ r. ⌜ r ≡ goodRule Transaction (now (image .entry)) i ⌝ }
 {
     let at = from + TRANSACTION_SIZE * i;
@@ -219,21 +221,28 @@ fn is_transaction(image: &[u8], strings: usize, from: usize, i: usize) -> bool
         & (image[at + DIRECTION_BYTE] <= 1)
         & ((of == 0) | (of == 1) | (of == 4))
     {
-        has_strings(image, strings, at)
+        has_strings(table, image, strings, at)
     } else {
         false
     }
 }
 
 // Rule i of the section, whose rules stand from `from` on.
-fn is_rule(section: Section, image: &[u8], strings: usize, from: usize, i: usize) -> bool
-    requires { ⌜ RuleAt (now image) section from i × Strings (now image) strings ⌝ }
+fn is_rule(
+    table: &[u8; 256],
+    section: Section,
+    image: &[u8],
+    strings: usize,
+    from: usize,
+    i: usize,
+) -> bool
+    requires { ⌜ RuleAt (now image) section from i × Strings (now image) strings × (now table ≡ classTable) ⌝ }
     ensures { λ r. ⌜ r ≡ goodRule section (now (image .entry)) i ⌝ }
 {
     match section {
         Section::Connect => is_connect(image, from, i),
-        Section::Own => is_own(image, strings, from, i),
-        Section::Transaction => is_transaction(image, strings, from, i),
+        Section::Own => is_own(table, image, strings, from, i),
+        Section::Transaction => is_transaction(table, image, strings, from, i),
     }
 }
 
@@ -261,8 +270,8 @@ fn count_at(section: Section) -> usize
 }
 
 // Every rule of the section.
-fn are_rules(section: Section, image: &[u8]) -> bool
-    requires { ⌜ GoodImageHeader (now image) ⌝ }
+fn are_rules(table: &[u8; 256], section: Section, image: &[u8]) -> bool
+    requires { ⌜ GoodImageHeader (now image) × (now table ≡ classTable) ⌝ }
     ensures { λ r. ⌜ r ≡ goodSection section (now (image .entry)) ⌝ }
 {
     let strings = word(image, STRING_OFFSET);
@@ -271,23 +280,24 @@ fn are_rules(section: Section, image: &[u8]) -> bool
     let mut i = word(image, at);
     while 0 < i {
         i -= 1;
-        if !is_rule(section, image, strings, from, i) {
+        if !is_rule(table, section, image, strings, from, i) {
             return false;
         }
     }
     true
 }
 
-// The whole image is tested, whatever its caller goes on to read.
+// The whole image is tested, whatever its caller goes on to read. The table of classes is built once and lent for each string.
 pub fn check(image: &[u8]) -> Outcome
     ensures { λ r. ⌜ r ≡ outcomeOf (now (image .entry)) ⌝ }
 {
     if !has_header(image) {
         return Outcome::Bad;
     }
-    if are_rules(Section::Connect, image)
-        & are_rules(Section::Own, image)
-        & are_rules(Section::Transaction, image)
+    let table = names::class_table();
+    if are_rules(&table, Section::Connect, image)
+        & are_rules(&table, Section::Own, image)
+        & are_rules(&table, Section::Transaction, image)
     {
         Outcome::Good
     } else {

@@ -23,7 +23,7 @@ use Rattle.tables.proofs.Count.{zeros-word, table-used}
 use Rattle.stream.specs.Tail.{Tail}
 use Rattle.rules.specs.State.{Pending, Slot, free, peer, isPeer}
 use Rattle.rules.specs.Pending.{sameCall}
-use Rattle.rules.proofs.Tests.{clash, refute, by-test}
+use Rattle.wire.proofs.Tests.{clash, refute, by-test}
 use Rattle.memory.specs.Layout.{memoryLength, slotLength, slotStart, pendingAt, pendingLength, firstCallee, callWidth, callRoom, serialOffset}
 use Rattle.memory.specs.Encoding.{pendingBytes, pendingOf, slotBytes, peerOf, slotOf, stateOf}
 use Rattle.memory.specs.Good.{goodPending, goodPeer, goodSlot, goodSlots, good}

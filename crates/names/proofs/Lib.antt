@@ -1,6 +1,12 @@
-mod Namespace
-mod Forms
-mod Scan
+mod Bits
+mod Told
+pub mod Lookup
+mod Follow
 mod Near
-mod Blocks
+mod Runs
+mod Walk
+mod Scanned
+mod Several
+mod Forms
+mod Namespace
 pub mod Table

@@ -1,40 +1,46 @@
--- The rule of elements, as a rule of neighbours: once for every separator and form.
-use mathlib.Core.Path.{_≡_, refl, sym, ap, _∙_}
-use mathlib.Core.Bool.{Bool, true, false, cond, not, _&&_, _||_, and-true, and-false, and-assoc, or-false}
+-- The rule of elements, as a rule of neighbours and as what a scan asks: once for every form.
+use mathlib.Core.Path.{_≡_, refl, sym, _∙_}
+use mathlib.Core.Bool.{Bool, true, false, cond, not, _&&_, _||_, and-false, or-false}
 use mathlib.Core.List.{List, [], _∷_}
-use Prim.Native.Nat.{ℕ, zero, suc, _+_, _-_, _<_}
+use Prim.Native.Nat.{ℕ, suc}
 use native.Mathlib.Omega.{arith}
-use native.Mathlib.Nat.{add-zero, zero-add, suc-add, add-suc}
-use native.Mathlib.Numerals.{add-one}
 use lib.Dec.{eqb}
-use lib.ListN.{length, getD}
+use lib.ListN.{length}
 use borrow.Author.Tests.{eq-eqb, eqb-true, ne-eqb}
-use Rattle.wire.proofs.Ranges.{Divides}
 use Rattle.wire.specs.Lists.{every}
-use Rattle.names.specs.declared.Shape.{Shape}
-use Rattle.names.specs.Names.{digit, word, cut, element}
-use Rattle.names.specs.Near.{near, pairs, listed}
-use Rattle.names.proofs.Scan.{present}
+use Rattle.names.specs.declared.Form.{Form}
+use Rattle.names.specs.declared.Form.the-variants.{Interface, WellKnown, Unique, BusName, Member, Path}
+use Rattle.names.specs.Names.{digit, leads, separator, character, cut, pieces, element, elements}
+use Rattle.names.specs.Scan.{spaced}
+use Rattle.names.proofs.Follow.{many, near, highOf, cleared, pair-right}
 
--- ---- the rule, from the byte before on
+-- s is elements, and one alone where there may not be `many`
+unfoldable pub listed : Form → List ℕ → Bool
+listed form s = elements form s && (many form || eqb (length (pieces (separator form) s)) 1)
 
 -- each byte may follow the one before it, and the last is no separator
-unfoldable pub steps : Shape → ℕ → List ℕ → Bool
-steps shape p [] = not (eqb p (shape .separator))
-steps shape p (b ∷ s) = near shape p b && steps shape b s
+unfoldable pub steps : Form → ℕ → List ℕ → Bool
+steps form p [] = not (eqb p (separator form))
+steps form p (b ∷ s) = near form p b && steps form b s
 
--- q: the byte before is a separator. What is left of the present element and of the rest says what `steps` says
-at-end : (q many : Bool) (shape : Shape) → not q ≡ present q shape [] && true && (many || true)
-at-end true many shape = refl
-at-end false true shape = refl
-at-end false false shape = refl
+-- ---- elements are steps
 
-at-separator : (q many : Bool) (shape : Shape) (r z : Bool)
-    → many && true && not q && (r && (many || z)) ≡ present q shape [] && r && many
-at-separator true true shape r z = refl
-at-separator true false shape r z = refl
-at-separator false true shape r z = refl
-at-separator false false shape r z = sym (and-false r)
+-- the present element is good so far; q: it is empty yet
+abbrev present : Bool → Form → List ℕ → Bool
+present true form e = element form e
+present false form e = every (character form) e
+
+at-end : (q many : Bool) (form : Form) → not q ≡ present q form [] && true && (many || true)
+at-end true many form = refl
+at-end false true form = refl
+at-end false false form = refl
+
+at-separator : (q many : Bool) (form : Form) (r z : Bool)
+    → many && true && not q && (r && (many || z)) ≡ present q form [] && r && many
+at-separator true true form r z = refl
+at-separator true false form r z = refl
+at-separator false true form r z = refl
+at-separator false false form r z = sym (and-false r)
 
 at-other : (w q lead d a r m : Bool)
     → w && (lead || not q || not d) && (a && r && m) ≡ cond q ((lead || not d) && (w && a)) (w && a) && r && m
@@ -48,91 +54,76 @@ at-other false true false true a r m = refl
 at-other false true false false a r m = refl
 at-other false false lead d a r m = refl
 
-module _ (shape : Shape) where
+-- a separator is no character
+pub apart : (form : Form) → character form (separator form) ≡ false
+apart Interface = refl
+apart WellKnown = refl
+apart Unique = refl
+apart BusName = refl
+apart Member = refl
+apart Path = refl
+
+module _ (form : Form) where
   -- what the elements ask, where p stands before s
   abbrev asked : ℕ → List ℕ → Bool
   asked p s =
-      present (eqb p (shape .separator)) shape (cut (shape .separator) s .0)
-      && every (element shape) (cut (shape .separator) s .1)
-      && (shape .many || eqb (suc (length (cut (shape .separator) s .1))) 1)
+      present (eqb p (separator form)) form (cut (separator form) s .0)
+      && every (element form) (cut (separator form) s .1)
+      && (many form || eqb (suc (length (cut (separator form) s .1))) 1)
 
   other : (q : Bool) (b : ℕ) (e : List ℕ) (r m : Bool)
-      → word (shape .dash) b && (shape .lead || not q || not (digit b)) && (every (word (shape .dash)) e && r && m) ≡ present q shape (b ∷ e) && r && m
-  other true b e r m = at-other (word (shape .dash) b) true (shape .lead) (digit b) (every (word (shape .dash)) e) r m
-  other false b e r m = at-other (word (shape .dash) b) false (shape .lead) (digit b) (every (word (shape .dash)) e) r m
+      → character form b && (leads form || not q || not (digit b)) && (every (character form) e && r && m) ≡ present q form (b ∷ e) && r && m
+  other true b e r m = at-other (character form b) true (leads form) (digit b) (every (character form) e) r m
+  other false b e r m = at-other (character form b) false (leads form) (digit b) (every (character form) e) r m
 
-  module _ (none : word (shape .dash) (shape .separator) ≡ false) where
-    step : (p b : ℕ) (s : List ℕ) (t : Bool) → eqb b (shape .separator) ≡ t → steps shape b s ≡ asked b s
-        → near shape p b && steps shape b s ≡ asked p (b ∷ s)
-    unfolding near
-    step p b s true e ih =
-        let c = cut (shape .separator) s in
-        let f : word (shape .dash) b ≡ false = rw (eqb-true b (shape .separator) e) none in
-        let g : eqb (suc (suc (length (c .1)))) 1 ≡ false = ne-eqb (suc (suc (length (c .1)))) 1 (λ z. omega arith) in
-        simp (ih, e, f, g, or-false)
-        (at-separator (eqb p (shape .separator)) (shape .many) shape (element shape (c .0) && every (element shape) (c .1)) (eqb (suc (length (c .1))) 1))
-    step p b s false e ih =
-        let c = cut (shape .separator) s in
-        simp (ih, e, and-false) (other (eqb p (shape .separator)) b (c .0) (every (element shape) (c .1)) (shape .many || eqb (suc (length (c .1))) 1))
+  step : (p b : ℕ) (s : List ℕ) (t : Bool) → eqb b (separator form) ≡ t → steps form b s ≡ asked b s
+      → near form p b && steps form b s ≡ asked p (b ∷ s)
+  unfolding near
+  step p b s true e ih =
+      let c = cut (separator form) s in
+      let f : character form b ≡ false = rw (eqb-true b (separator form) e) (apart form) in
+      let g : eqb (suc (suc (length (c .1)))) 1 ≡ false = ne-eqb (suc (suc (length (c .1)))) 1 (λ z. omega arith) in
+      simp (ih, e, f, g, or-false)
+      (at-separator (eqb p (separator form)) (many form) form (element form (c .0) && every (element form) (c .1)) (eqb (suc (length (c .1))) 1))
+  step p b s false e ih =
+      let c = cut (separator form) s in
+      simp (ih, e, and-false) (other (eqb p (separator form)) b (c .0) (every (element form) (c .1)) (many form || eqb (suc (length (c .1))) 1))
 
-    steps-asked : (p : ℕ) (s : List ℕ) → steps shape p s ≡ asked p s
-    unfolding steps
-    steps-asked p [] = at-end (eqb p (shape .separator)) (shape .many) shape
-    steps-asked p (b ∷ s) = step p b s (eqb b (shape .separator)) refl (steps-asked b s)
-
-    pub listed-steps : (s : List ℕ) → listed shape s ≡ steps shape (shape .separator) s
-    unfolding listed
-    listed-steps s = sym (steps-asked (shape .separator) s ∙ rw (eq-eqb (shape .separator) (shape .separator) refl))
-
--- ---- the rule, by indexes
-
-module _ (shape : Shape) where
-  shifted : (x : ℕ) (s : List ℕ) (a n : ℕ) → pairs shape (x ∷ s) (suc a) n ≡ pairs shape s a n
-  unfolding pairs
-  shifted x s a zero = refl
-  shifted x s a (suc n) = ap (λ (t : Bool). near shape (getD s a 0) (getD s (suc a) 0) && t) (shifted x s (suc a) n)
-
-  steps-pairs : (x : ℕ) (s : List ℕ)
-      → steps shape x s ≡ pairs shape (x ∷ s) 0 (length s) && not (eqb (getD (x ∷ s) (length s) 0) (shape .separator))
-  unfolding steps pairs
-  steps-pairs x [] = refl
-  steps-pairs x (b ∷ s) =
-      let last = not (eqb (getD (b ∷ s) (length s) 0) (shape .separator)) in
-      rw (steps-pairs b s, shifted x (b ∷ s) 0 (length s), and-assoc (near shape x b) (pairs shape (b ∷ s) 0 (length s)) last)
-
-  -- the tests of the code: the last byte, the first, and each pair
-  pub listed-pairs : word (shape .dash) (shape .separator) ≡ false → (s : List ℕ) → 0 < length s
-      → not (eqb (getD s (length s - 1) 0) (shape .separator)) && near shape (shape .separator) (getD s 0 0) && pairs shape s 0 (length s - 1)
-      ≡ listed shape s
+  steps-asked : (p : ℕ) (s : List ℕ) → steps form p s ≡ asked p s
   unfolding steps
-  listed-pairs none [] h = absurd (omega arith)
-  listed-pairs none (x ∷ s) h =
-      let e : length (x ∷ s) - 1 ≡ length s = omega arith in
-      rw (e, listed-steps shape none (x ∷ s), steps-pairs x s)
-      (turned (not (eqb (getD (x ∷ s) (length s) 0) (shape .separator))) (near shape (shape .separator) x) (pairs shape (x ∷ s) 0 (length s)))
-    where
-      turned : (l n p : Bool) → l && n && p ≡ n && (p && l)
-      turned true n p = rw (and-true p)
-      turned false true p = sym (and-false p)
-      turned false false p = refl
+  steps-asked p [] = at-end (eqb p (separator form)) (many form) form
+  steps-asked p (b ∷ s) = step p b s (eqb b (separator form)) refl (steps-asked b s)
 
-  -- ---- blocks
+  pub listed-steps : (s : List ℕ) → listed form s ≡ steps form (separator form) s
+  unfolding listed
+  listed-steps s = sym (steps-asked (separator form) s ∙ rw (eq-eqb (separator form) (separator form) refl))
 
-  added : (s : List ℕ) (a n m : ℕ) → pairs shape s a (n + m) ≡ pairs shape s a n && pairs shape s (a + n) m
-  unfolding pairs
-  added s a zero m = rw (zero-add m, add-zero a)
-  added s a (suc n) m =
-      let x = near shape (getD s a 0) (getD s (suc a) 0) in
-      rw (suc-add n m, added s (suc a) n m, suc-add a n, add-suc a n, and-assoc x (pairs shape s (suc a) n) (pairs shape s (suc (a + n)) m))
+-- ---- steps are what a scan asks
 
-  -- one pair more
-  pub pairs-more : (s : List ℕ) (a n : ℕ)
-      → pairs shape s a (n + 1) ≡ pairs shape s a n && near shape (getD s (a + n) 0) (getD s (a + n + 1) 0)
-  unfolding pairs
-  pairs-more s a n = added s a n 1 ∙ rw (add-one (a + n), and-true)
+-- no byte from `.` to `high` follows a separator, where p stands before s
+unfoldable pub follow : ℕ → ℕ → List ℕ → Bool
+follow high p [] = true
+follow high p (b ∷ s) = spaced high p b && follow high b s
 
-  pub pairs-divide : (s : List ℕ) → Divides (λ a b. pairs shape s a (b - a))
-  pairs-divide s a b c h k =
-      let e : c - a ≡ (b - a) + (c - b) = omega arith in
-      let f : a + (b - a) ≡ b = omega arith in
-      rw (e, added s a (b - a) (c - b), f)
+-- the last byte, where p stands before s
+abbrev pub lastOf : ℕ → List ℕ → ℕ
+lastOf p [] = p
+lastOf p (b ∷ s) = lastOf b s
+
+-- the class and the separator of one byte, and what is asked of those behind it
+joined : (c sp st f e l : Bool) → (c ≡ true → st ≡ f && e && l) → c && sp && st ≡ sp && f && (c && e) && l
+joined true true st f e l h = h refl
+joined true false st f e l h = refl
+joined false true st true e l h = refl
+joined false true st false e l h = refl
+joined false false st f e l h = refl
+
+module _ (form : Form) where
+  pub steps-scan : (p : ℕ) (s : List ℕ) → cleared form p ≡ true
+      → steps form p s ≡ follow (highOf form) p s && every (cleared form) s && not (eqb (lastOf p s) (separator form))
+  unfolding steps follow
+  steps-scan p [] h = refl
+  steps-scan p (b ∷ s) h =
+      rw (pair-right form p b h)
+      (joined (cleared form b) (spaced (highOf form) p b) (steps form b s) (follow (highOf form) b s) (every (cleared form) s)
+      (not (eqb (lastOf b s) (separator form))) (steps-scan b s))

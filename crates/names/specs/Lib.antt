@@ -1,4 +1,5 @@
 pub mod Names
-pub mod Near
+pub mod Classes
+pub mod Scan
 pub mod Namespace
 pub mod Table

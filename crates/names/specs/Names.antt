@@ -6,7 +6,6 @@ use lib.Dec.{leb, eqb}
 use lib.ListN.{length, drop}
 use Rattle.wire.specs.Lists.{every}
 use Rattle.wire.specs.Bytes.{byte, between}
-use Rattle.names.specs.declared.Shape.{Shape}
 use Rattle.names.specs.declared.Form.{Form}
 use Rattle.names.specs.declared.Form.the-variants.{Interface, WellKnown, Unique, BusName, Member, Path}
 
@@ -15,9 +14,41 @@ use Rattle.names.specs.declared.Form.the-variants.{Interface, WellKnown,
 abbrev pub digit : ℕ → Bool
 digit b = between "0" "9" b
 
--- A-Z a-z 0-9 _ (rule 3.2), and - where `dash` (rule 3.3)
-abbrev pub word : Bool → ℕ → Bool
-word dash b = between "A" "Z" b || between "a" "z" b || digit b || eqb b (byte "_") || dash && eqb b (byte "-")
+abbrev pub alphabetic : ℕ → Bool
+alphabetic b = between "A" "Z" b || between "a" "z" b || eqb b (byte "_")
+
+-- ---- forms
+
+-- `-` may stand in the elements of a bus's names, at any place (rules 3.3, 3.4 and 3.5)
+abbrev pub dashed : Form → Bool
+dashed Interface = false
+dashed WellKnown = true
+dashed Unique = true
+dashed BusName = true
+dashed Member = false
+dashed Path = false
+
+-- a digit may begin an element of a unique name or of a path (rules 3.4 and 3.7)
+abbrev pub leads : Form → Bool
+leads Interface = false
+leads WellKnown = false
+leads Unique = true
+leads BusName = true
+leads Member = false
+leads Path = true
+
+-- what stands between two elements (rules 3.2 and 3.7)
+abbrev pub separator : Form → ℕ
+separator Interface = byte "."
+separator WellKnown = byte "."
+separator Unique = byte "."
+separator BusName = byte "."
+separator Member = byte "."
+separator Path = byte "/"
+
+-- the characters of a form's elements: A-Z a-z _ 0-9 (rules 3.2, 3.6 and 3.7), and - where `dashed`. A separator is none
+abbrev pub character : Form → ℕ → Bool
+character form b = alphabetic b || digit b || dashed form && eqb b (byte "-")
 
 -- ---- elements
 
@@ -30,10 +61,10 @@ cut sep (b ∷ s) = let p = cut sep s in cond (eqb b sep) ([], p .0 ∷ p .1) (b
 abbrev pub pieces : ℕ → List ℕ → List (List ℕ)
 pieces sep s = cut sep s .0 ∷ cut sep s .1
 
--- an element is not empty, is made of words' bytes (rule 3.2), and starts with a digit only where `lead` (rules 3.4 and 3.7)
-abbrev pub element : Shape → List ℕ → Bool
-element shape [] = false
-element shape (b ∷ e) = (shape .lead || not (digit b)) && every (word (shape .dash)) (b ∷ e)
+-- an element is not empty, is made of the form's characters, and starts with a digit only where one `leads` (rule 3.2)
+abbrev pub element : Form → List ℕ → Bool
+element form [] = false
+element form (b ∷ e) = (leads form || not (digit b)) && every (character form) (b ∷ e)
 
 -- ---- names
 
@@ -48,53 +79,29 @@ unfoldable pub startsWith : ℕ → List ℕ → Bool
 startsWith b [] = false
 startsWith b (x ∷ s) = eqb x b
 
--- s is elements with the shape's separator between them
-abbrev pub elements : Shape → List ℕ → Bool
-elements shape s = every (element shape) (pieces (shape .separator) s)
+-- s is elements with the form's separator between them
+abbrev pub elements : Form → List ℕ → Bool
+elements form s = every (element form) (pieces (separator form) s)
 
-abbrev pub twoOrMore : Shape → List ℕ → Bool
-twoOrMore shape s = elements shape s && leb 2 (length (pieces (shape .separator) s))
+abbrev pub twoOrMore : Form → List ℕ → Bool
+twoOrMore form s = elements form s && leb 2 (length (pieces (separator form) s))
 
--- an interface name, and with dashes a well-known one (rules 3.2 and 3.3)
-abbrev pub dotted : Shape → List ℕ → Bool
-dotted shape s = short s && twoOrMore shape s
-
--- an interface name (rule 3.2)
-abbrev pub interfaceShape : Shape
-interfaceShape = record { separator = byte "."; dash = false; lead = false; many = true }
-
--- `-` may stand at any place of an element (rule 3.3)
-abbrev pub wellKnownShape : Shape
-wellKnownShape = record { separator = byte "."; dash = true; lead = false; many = true }
-
--- the same, and a digit may begin an element (rule 3.4)
-abbrev pub uniqueShape : Shape
-uniqueShape = record { separator = byte "."; dash = true; lead = true; many = true }
-
--- one element of an interface name (rule 3.6)
-abbrev pub memberShape : Shape
-memberShape = record { separator = byte "."; dash = false; lead = false; many = false }
-
--- what follows a path's first slash (rule 3.7)
-abbrev pub pathShape : Shape
-pathShape = record { separator = byte "/"; dash = false; lead = true; many = true }
+-- an interface name, or a well-known one (rules 3.2 and 3.3)
+abbrev pub dotted : Form → List ℕ → Bool
+dotted form s = short s && twoOrMore form s
 
 unfoldable pub wellKnown : List ℕ → Bool
-wellKnown s = dotted wellKnownShape s
+wellKnown s = dotted WellKnown s
 
 -- the colon counts towards the limit, and is no part of an element (rules 3.1 and 3.4)
 unfoldable pub unique : List ℕ → Bool
-unique s = short s && startsWith (byte ":") s && twoOrMore uniqueShape (drop 1 s)
+unique s = short s && startsWith (byte ":") s && twoOrMore Unique (drop 1 s)
 
 -- an error name is an interface name (rule 3.2); bus names, members and paths are by rules 3.5, 3.6 and 3.7
 unfoldable pub validName : Form → List ℕ → Bool
-validName Interface s = dotted interfaceShape s
+validName Interface s = dotted Interface s
 validName WellKnown s = wellKnown s
 validName Unique s = unique s
 validName BusName s = unique s || wellKnown s
-validName Member s = short s && (elements memberShape s && eqb (length (pieces (byte ".") s)) 1)
-validName Path s = startsWith (byte "/") s && (eqb (length s) 1 || elements pathShape (drop 1 s))
-
--- what the scanner counts: the elements, or 0 where one is bad
-unfoldable pub counted : Shape → List ℕ → ℕ
-counted shape s = cond (elements shape s) (length (pieces (shape .separator) s)) 0
+validName Member s = short s && (elements Member s && eqb (length (pieces (separator Member) s)) 1)
+validName Path s = startsWith (byte "/") s && (eqb (length s) 1 || elements Path (drop 1 s))

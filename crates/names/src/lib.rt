@@ -1,10 +1,19 @@
-// The name rules of D-Bus: a short name byte by byte, a long one in blocks of pairs of neighbours.
+// The name rules of D-Bus: every byte is looked up in a table of classes, and a name is good by its bytes' classes and by what follows a separator.
+mod classes;
+mod scan;
+
+use crate::classes::CLASSES;
+use crate::classes::DIGIT;
+use crate::classes::DOT;
+use crate::classes::NOT_BUS_NAME;
+use crate::classes::NOT_INTERFACE;
+use crate::classes::NOT_PATH;
+use crate::classes::class;
+use crate::scan::walk;
 ghost use mathlib.Core.Path.{_≡_};
-ghost use mathlib.Core.Bool.{true, false};
-ghost use Prim.Native.Nat.{_+_, _≤_, _<_};
-ghost use lib.ListN.{length};
-ghost use Rattle.names.specs.Names.{dotted, validName, counted, digit, word, pathShape};
-ghost use Rattle.names.specs.Near.{shaped, dots, near, pairs, listed, parted, several};
+ghost use Rattle.names.specs.Names.{dotted, validName};
+ghost use Rattle.names.specs.Classes.{classTable, barred};
+ghost use Rattle.names.specs.Scan.{dottedForm};
 ghost use Rattle.names.specs.Namespace.{inNamespace};
 
 // How long a name may be; a path has no limit.
@@ -19,290 +28,178 @@ pub enum Form {
     Path,
 }
 
-// How the names of a form are made: the byte between two elements, whether `-` may stand in one, whether a digit may begin one, and whether there may
-// be more than one.
-pub struct Shape {
-    pub separator: u8,
-    pub dash: bool,
-    pub lead: bool,
-    pub many: bool,
+// How the names of a form are made: the byte between two elements, the classes of the bytes that stand nowhere in them, and the last of the bytes
+// from `.` on that may not follow a separator.
+struct Shape {
+    separator: u8,
+    barred: u8,
+    high: u8,
 }
 
 const INTERFACE: Shape = Shape {
     separator: b'.',
-    dash: false,
-    lead: false,
-    many: true,
+    barred: NOT_INTERFACE,
+    high: b'9',
 };
 
 const WELL_KNOWN: Shape = Shape {
     separator: b'.',
-    dash: true,
-    lead: false,
-    many: true,
+    barred: NOT_BUS_NAME,
+    high: b'9',
 };
 
 const UNIQUE: Shape = Shape {
     separator: b'.',
-    dash: true,
-    lead: true,
-    many: true,
+    barred: NOT_BUS_NAME,
+    high: b'/',
 };
 
 const MEMBER: Shape = Shape {
     separator: b'.',
-    dash: false,
-    lead: false,
-    many: false,
+    barred: NOT_INTERFACE | DOT,
+    high: b'9',
 };
 
 const PATH: Shape = Shape {
     separator: b'/',
-    dash: false,
-    lead: true,
-    many: true,
+    barred: NOT_PATH,
+    high: b'/',
 };
 
-fn is_digit(b: u8) -> bool
-    ensures { λ r. ⌜ r ≡ digit b ⌝ }
+fn barred_in(dashed: bool) -> u8
+    ensures { λ r. ⌜ r ≡ barred (dottedForm dashed) ⌝ }
 {
-    (b'0' <= b) & (b <= b'9')
-}
-
-fn is_word(b: u8, dash: bool) -> bool
-    ensures { λ r. ⌜ r ≡ word dash b ⌝ }
-{
-    ((b'A' <= b) & (b <= b'Z'))
-        | ((b'a' <= b) & (b <= b'z'))
-        | ((b'0' <= b) & (b <= b'9'))
-        | (b == b'_')
-        | (dash & (b == b'-'))
-}
-
-// How many elements s has, or 0 where one of them is bad.
-fn count(s: &[u8], shape: Shape) -> usize
-    ensures { λ r. ⌜ r ≡ counted shape (now (s .entry)) ⌝ }
-{
-    let mut n: usize = 1;
-    let mut fresh = true;
-    let mut i = 0;
-    while i < s.len() {
-        let b = s[i];
-        i += 1;
-        if b == shape.separator {
-            if fresh {
-                return 0;
-            }
-            n += 1;
-            fresh = true;
-        } else {
-            if !is_word(b, shape.dash) {
-                return 0;
-            }
-            if fresh & !shape.lead & is_digit(b) {
-                return 0;
-            }
-            fresh = false;
-        }
+    if dashed {
+        WELL_KNOWN.barred
+    } else {
+        INTERFACE.barred
     }
-    if fresh { 0 } else { n }
 }
 
-// b may follow p. Both tests are made whatever p and b are, so that the compiler takes many pairs at a time.
-fn pair(p: u8, b: u8, shape: Shape) -> bool
-    ensures { λ r. ⌜ r ≡ near shape p b ⌝ }
+// An interface name, or where `dashed` a well-known name.
+fn is_dotted(table: &[u8; 256], s: &[u8], dashed: bool) -> bool
+    requires { ⌜ now table ≡ classTable ⌝ }
+    ensures { λ r. ⌜ r ≡ dotted (dottedForm dashed) (now (s .entry)) ⌝ }
 {
-    let sep = shape.separator;
-    (shape.many & (b == sep) & !(p == sep))
-        | (is_word(b, shape.dash) & (shape.lead | !(p == sep) | !is_digit(b)))
-}
-
-// Each of the n bytes after the one at `at` may follow the one before it.
-fn pair_run(s: &[u8], at: usize, n: usize, shape: Shape) -> bool
-    requires { ⌜ at + n < length (now s) ⌝ }
-    ensures { λ r. ⌜ r ≡ pairs shape (now (s .entry)) at n ⌝ }
-{
-    let mut good = true;
-    let mut i = 0;
-    while i < n {
-        good = good & pair(s[at + i], s[at + i + 1], shape);
-        i += 1;
-    }
-    good
-}
-
-// Two blocks of 8 pairs, which may overlap.
-fn pair_halves(s: &[u8], n: usize, shape: Shape) -> bool
-    requires { ⌜ (8 ≤ n) × (n < 16) × (n < length (now s)) ⌝ }
-    ensures { λ r. ⌜ r ≡ pairs shape (now (s .entry)) 0 n ⌝ }
-{
-    let last = n - 8;
-    pair_run(s, 0, 8, shape) & pair_run(s, last, 8, shape)
-}
-
-// Blocks of 16 pairs with an exit between them; the last may overlap the one before it.
-fn pair_blocks(s: &[u8], n: usize, shape: Shape) -> bool
-    requires { ⌜ (8 ≤ n) × (n < length (now s)) ⌝ }
-    ensures { λ r. ⌜ r ≡ pairs shape (now (s .entry)) 0 n ⌝ }
-{
-    if n < 16 {
-        return pair_halves(s, n, shape);
-    }
-    let last = n - 16;
-    let mut i = 0;
-    while i < last {
-        if !pair_run(s, i, 16, shape) {
-            return false;
-        }
-        i += 16;
-    }
-    pair_run(s, last, 16, shape)
-}
-
-// The scan of a long text. The first byte stands as if after a separator. The shape comes in its parts, each in a register: as one word, taking it
-// apart costs a twentieth of a name of 30 bytes.
-fn is_scanned(s: &[u8], separator: u8, dash: bool, lead: bool, many: bool) -> bool
-    requires { ⌜ (9 ≤ length (now s)) × (word dash separator ≡ false) ⌝ }
-    ensures { λ r. ⌜ r ≡ listed (shaped separator dash lead many) (now (s .entry)) ⌝ }
-{
-    let shape = Shape {
-        separator,
-        dash,
-        lead,
-        many,
-    };
-    let last = s.len() - 1;
-    !(s[last] == separator) & pair(separator, s[0], shape) & pair_blocks(s, last, shape)
-}
-
-// s is elements with the separator between them, or one element where there may not be many.
-fn is_listed(s: &[u8], shape: Shape) -> bool
-    requires { ⌜ (9 ≤ length (now s)) × (word (shape .dash) (shape .separator) ≡ false) ⌝ }
-    ensures { λ r. ⌜ r ≡ listed shape (now (s .entry)) ⌝ }
-{
-    is_scanned(s, shape.separator, shape.dash, shape.lead, shape.many)
-}
-
-// `sep` stands in s; in a name it comes early.
-fn is_parted(s: &[u8], sep: u8) -> bool
-    ensures { λ r. ⌜ r ≡ parted sep (now (s .entry)) ⌝ }
-{
-    let mut i = 0;
-    while i < s.len() {
-        if s[i] == sep {
-            return true;
-        }
-        i += 1;
-    }
-    false
-}
-
-// Two elements or more, with dots between them. A dot comes early in a name, so it is looked for first.
-fn is_several(s: &[u8], dash: bool, lead: bool) -> bool
-    ensures { λ r. ⌜ r ≡ several dash lead (now (s .entry)) ⌝ }
-{
-    let shape = Shape {
-        separator: b'.',
-        dash,
-        lead,
-        many: true,
-    };
-    if s.len() < 9 {
-        return 2 <= count(s, shape);
-    }
-    if !is_parted(s, b'.') {
+    if s.len() == 0 {
         return false;
     }
-    is_listed(s, shape)
-}
-
-// An interface name, or with dashes a well-known name. No digit begins an element of either.
-fn is_dotted(s: &[u8], dash: bool) -> bool
-    ensures { λ r. ⌜ r ≡ dotted (dots dash false) (now (s .entry)) ⌝ }
-{
     if NAME_LIMIT < s.len() {
         return false;
     }
-    is_several(s, dash, INTERFACE.lead)
+    if s[s.len() - 1] == INTERFACE.separator {
+        return false;
+    }
+    let barred = barred_in(dashed);
+    if class(table, s[0]) & (barred | DIGIT | DOT) != 0 {
+        return false;
+    }
+    let seen = walk(table, s, INTERFACE.high);
+    (seen & barred == 0) & (seen & DOT != 0)
 }
 
-fn is_unique(s: &[u8]) -> bool
+// The colon is no part of an element, so the byte behind it begins the first.
+fn is_unique(table: &[u8; 256], s: &[u8]) -> bool
+    requires { ⌜ now table ≡ classTable ⌝ }
     ensures { λ r. ⌜ r ≡ validName Form.Unique (now (s .entry)) ⌝ }
 {
-    if s.len() == 0 {
+    if s.len() < 2 {
+        return false;
+    }
+    if NAME_LIMIT < s.len() {
         return false;
     }
     if s[0] != b':' {
         return false;
     }
-    if NAME_LIMIT < s.len() {
+    if s[1] == UNIQUE.separator {
         return false;
     }
-    is_several(&s[1..], UNIQUE.dash, UNIQUE.lead)
+    if s[s.len() - 1] == UNIQUE.separator {
+        return false;
+    }
+    let seen = walk(table, s, UNIQUE.high);
+    (seen & UNIQUE.barred == 0) & (seen & DOT != 0)
 }
 
-fn is_member(s: &[u8]) -> bool
+fn is_member(table: &[u8; 256], s: &[u8]) -> bool
+    requires { ⌜ now table ≡ classTable ⌝ }
     ensures { λ r. ⌜ r ≡ validName Form.Member (now (s .entry)) ⌝ }
 {
-    if s.len() < 9 {
-        return count(s, MEMBER) == 1;
+    if s.len() == 0 {
+        return false;
     }
     if NAME_LIMIT < s.len() {
         return false;
     }
-    is_listed(s, MEMBER)
-}
-
-// The elements of a path, after its first `/`.
-fn is_walk(s: &[u8]) -> bool
-    ensures { λ r. ⌜ r ≡ listed pathShape (now (s .entry)) ⌝ }
-{
-    if s.len() < 9 {
-        return 1 <= count(s, PATH);
+    if class(table, s[0]) & (MEMBER.barred | DIGIT) != 0 {
+        return false;
     }
-    is_listed(s, PATH)
+    walk(table, s, MEMBER.high) & MEMBER.barred == 0
 }
 
-fn is_path(s: &[u8]) -> bool
+// The first `/` is followed as one between two elements is.
+fn is_path(table: &[u8; 256], s: &[u8]) -> bool
+    requires { ⌜ now table ≡ classTable ⌝ }
     ensures { λ r. ⌜ r ≡ validName Form.Path (now (s .entry)) ⌝ }
 {
     if s.len() == 0 {
         return false;
     }
-    if s[0] != b'/' {
+    if s[0] != PATH.separator {
         return false;
     }
     if s.len() == 1 {
         return true;
     }
-    is_walk(&s[1..])
+    if s[s.len() - 1] == PATH.separator {
+        return false;
+    }
+    walk(table, s, PATH.high) & PATH.barred == 0
 }
 
 // A unique name begins with a colon, and a well-known one does not.
-fn is_bus_name(s: &[u8]) -> bool
+fn is_bus_name(table: &[u8; 256], s: &[u8]) -> bool
+    requires { ⌜ now table ≡ classTable ⌝ }
     ensures { λ r. ⌜ r ≡ validName Form.BusName (now (s .entry)) ⌝ }
 {
     if s.len() == 0 {
         return false;
     }
     if s[0] == b':' {
-        return is_unique(s);
+        return is_unique(table, s);
     }
-    is_dotted(s, WELL_KNOWN.dash)
+    is_dotted(table, s, true)
+}
+
+// The class of each byte. A function that names the table builds it anew, at the cost of looking up a dozen bytes, so a call does so once and lends it.
+pub fn class_table() -> [u8; 256]
+    ensures { λ r. ⌜ r ≡ classTable ⌝ }
+{
+    CLASSES
+}
+
+// The bytes are a name of the form, by the table that the caller lends: one that has many names to test builds it once.
+pub fn is_valid_by(table: &[u8; 256], form: Form, s: &[u8]) -> bool
+    requires { ⌜ now table ≡ classTable ⌝ }
+    ensures { λ r. ⌜ r ≡ validName form (now (s .entry)) ⌝ }
+{
+    match form {
+        Form::Interface => is_dotted(table, s, false),
+        Form::WellKnown => is_dotted(table, s, true),
+        Form::Unique => is_unique(table, s),
+        Form::BusName => is_bus_name(table, s),
+        Form::Member => is_member(table, s),
+        Form::Path => is_path(table, s),
+    }
 }
 
 // The bytes are a name of the form.
 pub fn is_valid(form: Form, s: &[u8]) -> bool
     ensures { λ r. ⌜ r ≡ validName form (now (s .entry)) ⌝ }
 {
-    match form {
-        Form::Interface => is_dotted(s, INTERFACE.dash),
-        Form::WellKnown => is_dotted(s, WELL_KNOWN.dash),
-        Form::Unique => is_unique(s),
-        Form::BusName => is_bus_name(s),
-        Form::Member => is_member(s),
-        Form::Path => is_path(s),
-    }
+    let table = class_table();
+    is_valid_by(&table, form, s)
 }
 
 // The name equals the prefix, or starts with the prefix and a dot.

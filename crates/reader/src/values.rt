@@ -18,6 +18,7 @@ use wire::Order;
 ghost use mathlib.Core.Path.{_≡_};
 ghost use Prim.Native.Nat.{_+_, _≤_, _<_};
 ghost use lib.ListN.{length};
+ghost use Rattle.names.specs.Classes.{classTable};
 ghost use Rattle.header.specs.Codes.{codeLimit};
 ghost use Rattle.header.specs.Fields.{present, placeOf};
 ghost use Rattle.header.specs.Values.{numberIn, goodValue, goodField, goodValues};
@@ -35,25 +36,26 @@ pub fn number_in(order: Order, value: &[u8]) -> u32
 }
 
 // The value obeys the rule of its code.
-fn is_good_value(order: Order, code: usize, value: &[u8]) -> bool
+fn is_good_value(table: &[u8; 256], order: Order, code: usize, value: &[u8]) -> bool
+    requires { ⌜ now table ≡ classTable ⌝ }
     ensures { λ r. ⌜ r ≡ goodValue order code (now (value .entry)) ⌝ }
 {
     match code {
-        PATH_CODE => names::is_valid(Form::Path, value),
-        INTERFACE_CODE => names::is_valid(Form::Interface, value),
-        MEMBER_CODE => names::is_valid(Form::Member, value),
-        ERROR_NAME_CODE => names::is_valid(Form::Interface, value),
+        PATH_CODE => names::is_valid_by(table, Form::Path, value),
+        INTERFACE_CODE => names::is_valid_by(table, Form::Interface, value),
+        MEMBER_CODE => names::is_valid_by(table, Form::Member, value),
+        ERROR_NAME_CODE => names::is_valid_by(table, Form::Interface, value),
         REPLY_SERIAL_CODE => !(number_in(order, value) == 0),
-        DESTINATION_CODE => names::is_valid(Form::BusName, value),
-        SENDER_CODE => names::is_valid(Form::BusName, value),
+        DESTINATION_CODE => names::is_valid_by(table, Form::BusName, value),
+        SENDER_CODE => names::is_valid_by(table, Form::BusName, value),
         SIGNATURE_CODE => signature::is_valid(value),
         _ => true,
     }
 }
 
 // The field of a code is absent, or its value obeys the code's rule.
-fn is_good(order: Order, head: &[u8], place: Place, code: usize) -> bool
-    requires { ⌜ place .at + place .len ≤ length (now head) ⌝ }
+fn is_good(table: &[u8; 256], order: Order, head: &[u8], place: Place, code: usize) -> bool
+    requires { ⌜ (now table ≡ classTable) × (place .at + place .len ≤ length (now head)) ⌝ }
     ensures { λ r. ⌜ r ≡ goodField order (now (head .entry)) place code ⌝ }
 {
     let at = place.at;
@@ -61,19 +63,20 @@ fn is_good(order: Order, head: &[u8], place: Place, code: usize) -> bool
         return true;
     }
     let end = at + place.len;
-    is_good_value(order, code, &head[at..end])
+    is_good_value(table, order, code, &head[at..end])
 }
 
-// Each field that is present obeys its rule.
+// Each field that is present obeys its rule. One table of classes serves all names of the head.
 pub fn are_good(order: Order, head: &[u8], places: [Place; CODE_LIMIT]) -> bool
     requires { ⌜ ValuesFit (now head) places ⌝ }
     ensures { λ r. ⌜ r ≡ goodValues order (now (head .entry)) places ⌝ }
 {
+    let table = names::class_table();
     let mut code = CODE_LIMIT;
     while 0 < code {
         code -= 1;
         let place = places[code];
-        if !is_good(order, head, place, code) {
+        if !is_good(&table, order, head, place, code) {
             return false;
         }
     }

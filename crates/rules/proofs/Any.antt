@@ -6,7 +6,7 @@ use mathlib.Core.List.{List, [], _∷_, _++_}
 use borrow.Author.Tests.{not-true}
 use Rattle.wire.specs.Lists.{any, distinct}
 use Rattle.wire.proofs.Texts.{both-first, both-second, either}
-use Rattle.rules.proofs.Tests.{clash, or-left, or-right, or-grow, refute}
+use Rattle.wire.proofs.Tests.{clash, or-left, or-right, or-grow, refute}
 use Rattle.rules.proofs.Fewer.{Fewer, none, skip, keep}
 
 -- ---- one of them passes

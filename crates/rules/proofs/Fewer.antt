@@ -8,7 +8,7 @@ use lib.Dec.{eqb}
 use lib.ListN.{length}
 use Rattle.rules.specs.State.{Pending, dropFirst}
 use Rattle.rules.specs.Pending.{endedAll}
-use Rattle.rules.proofs.Tests.{choice}
+use Rattle.wire.proofs.Tests.{choice}
 
 pub data Fewer {A : Type 0} : List A → List A → Type 0 where
   none : Fewer [] []

@@ -10,7 +10,7 @@ use lib.ListN.{length, getD, set, List·getD-eq-default}
 use borrow.Author.Tests.{lt-ltb, eqb-true}
 use Rattle.wire.specs.Lists.{any}
 use Rattle.rules.specs.State.{Slot, free, peer, Peer, isFree, isPeer, firstBy}
-use Rattle.rules.proofs.Tests.{clash, choice, by-test}
+use Rattle.wire.proofs.Tests.{clash, choice, by-test}
 
 -- it does pass
 pub first-passes : {A : Type 0} (t : A → Bool) (l : List A) (d : A) → firstBy t l < length l → t (getD l (firstBy t l) d) ≡ true

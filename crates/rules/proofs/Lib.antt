@@ -1,6 +1,5 @@
 pub mod Mask
 mod Ownable
-pub mod Tests
 pub mod First
 pub mod Fewer
 pub mod Any

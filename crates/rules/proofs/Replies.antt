@@ -25,7 +25,7 @@ use Rattle.rules.specs.Judge.{Judged, expectsReply, replyTo, reply, isRe
 use Rattle.rules.specs.Calls.{slotAt, disconnectAt, disconnect}
 use Rattle.rules.specs.declared.Receiver.the-variants as to
 use Rattle.rules.proofs.First.{first-set, taken-below, number-found}
-use Rattle.rules.proofs.Tests.{choice}
+use Rattle.wire.proofs.Tests.{choice}
 use Rattle.rules.proofs.View.{chosen}
 use Rattle.rules.proofs.Waits.{okPending, ended-ends, ended-all-ends}
 

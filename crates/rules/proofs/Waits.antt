@@ -11,7 +11,7 @@ use Rattle.wire.specs.Lists.{distinct}
 use Rattle.wire.proofs.Texts.{both-first, both-second, either}
 use Rattle.rules.specs.State.{Pending, firstBy, dropFirst}
 use Rattle.rules.specs.Pending.{isCall, sameCall, awaits, ended, endedAll}
-use Rattle.rules.proofs.Tests.{clash, or-grow, choice}
+use Rattle.wire.proofs.Tests.{clash, or-grow, choice}
 use Rattle.rules.proofs.First.{first-any}
 use Rattle.rules.proofs.Fewer.{Fewer}
 use Rattle.rules.proofs.Any.{any-fewer, first-once, rest-distinct, distinct-snoc}

@@ -14,7 +14,7 @@ use Rattle.rules.specs.Calls.{noPiece, offered, pieceAt, piece, noGone, disconn
 use Rattle.rules.specs.declared.Connected.{Connected}
 use Rattle.rules.specs.declared.Taken.{Taken}
 use Rattle.rules.specs.declared.Gone.{Gone}
-use Rattle.rules.proofs.Tests.{choice}
+use Rattle.wire.proofs.Tests.{choice}
 use Rattle.sound.proofs.Octets.{offer-judged}
 use Rattle.sound.proofs.Numbers.{judged-few, judged-proper}
 

@@ -16,7 +16,7 @@ use Rattle.rules.specs.Judge.{Judged, refused, passed, expectsReply, toSlot, di
 use Rattle.rules.specs.Places.{isJudged}
 use Rattle.rules.specs.declared.Receiver.the-variants as to
 use Rattle.memory.specs.Sound.{Sound}
-use Rattle.rules.proofs.Tests.{choice}
+use Rattle.wire.proofs.Tests.{choice}
 use Rattle.rules.proofs.Waits.{call}
 use Rattle.sound.proofs.Slots.{somebody-of}
 use Rattle.sound.proofs.Renew.{waits-sound, ended-sound}

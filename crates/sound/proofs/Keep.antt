@@ -19,7 +19,7 @@ use Rattle.rules.specs.declared.Connected.{Connected}
 use Rattle.memory.specs.Good.{goodSlots}
 use Rattle.memory.proofs.Octets.{below-every}
 use Rattle.memory.specs.Sound.{word32, narrow, octet, headOctets, Sound}
-use Rattle.rules.proofs.Tests.{choice}
+use Rattle.wire.proofs.Tests.{choice}
 use Rattle.sound.proofs.Serial.{header-serial, offer-keeps}
 use Rattle.sound.proofs.Slots.{first-none}
 use Rattle.rules.proofs.First.{first-passes, taken-below}

@@ -21,7 +21,7 @@ use Rattle.stream.proofs.Heads.{Known, early, late, known}
 use Rattle.rules.specs.State.{Peer, State}
 use Rattle.rules.specs.Judge.{Judged, judged}
 use Rattle.rules.specs.Places.{isJudged}
-use Rattle.rules.proofs.Tests.{choice}
+use Rattle.wire.proofs.Tests.{choice}
 use Rattle.sound.proofs.Judged.{judged-any}
 
 -- ---- a judged message

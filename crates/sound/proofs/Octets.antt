@@ -16,7 +16,7 @@ use Rattle.stream.specs.Tail.{Tail, push, judge, tails, headEnd}
 use Rattle.stream.proofs.Offers.{offer-step}
 use Rattle.memory.proofs.Octets.{every-snoc}
 use Rattle.memory.specs.Sound.{octet}
-use Rattle.rules.proofs.Tests.{choice}
+use Rattle.wire.proofs.Tests.{choice}
 use Rattle.sound.proofs.Numbers.{whole-read}
 
 push-octets : (t : Tail) (b : ℕ) → every octet (t .head) ≡ true → octet b ≡ true → every octet (push t b .head) ≡ true

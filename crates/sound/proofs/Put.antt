@@ -16,7 +16,7 @@ use Rattle.rules.specs.Pending.{sameCall, awaits, endedAll, removeCallsTo}
 use Rattle.rules.specs.Calls.{isOwner}
 use Rattle.memory.specs.Good.{nobody}
 use Rattle.memory.specs.Sound.{word32, Sound}
-use Rattle.rules.proofs.Tests.{clash}
+use Rattle.wire.proofs.Tests.{clash}
 use Rattle.sound.proofs.Slots.{nobody-at, somebody-at, put-cases, put-passes, Single, single-set}
 use Rattle.rules.proofs.First.{taken-below}
 use Rattle.rules.specs.Awaited.{isWaiting}

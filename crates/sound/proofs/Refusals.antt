@@ -17,7 +17,7 @@ use Rattle.rules.specs.Calls.{Step, noConnect, noPiece, noGone}
 use Rattle.rules.specs.declared.Connected.{Connected}
 use Rattle.rules.specs.declared.Taken.{Taken}
 use Rattle.rules.specs.declared.Gone.{Gone}
-use Rattle.rules.proofs.Tests.{clash, choice, by-test}
+use Rattle.wire.proofs.Tests.{clash, choice, by-test}
 use Rattle.memory.specs.Layout.{memoryLength}
 use Rattle.memory.specs.Encoding.{memoryOf, stateOf}
 use Rattle.memory.specs.Good.{good}

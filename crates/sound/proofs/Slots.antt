@@ -15,7 +15,7 @@ use Rattle.stream.specs.Tail.{Tail}
 use Rattle.rules.specs.State.{Slot, free, firstBy}
 use Rattle.memory.specs.Good.{nobody}
 use Rattle.wire.proofs.Texts.{either}
-use Rattle.rules.proofs.Tests.{clash, or-left, or-right, refute}
+use Rattle.wire.proofs.Tests.{clash, or-left, or-right, refute}
 use Rattle.rules.proofs.First.{first-any}
 
 -- ---- somebody passes a test, or nobody

@@ -1,5 +1,6 @@
 pub mod Needs
 pub mod From
+pub mod Tests
 pub mod Texts
 pub mod Below
 pub mod Parts

@@ -7,10 +7,10 @@ use Rattle.image.proofs.are_rules.Statement.{statement}
 use Rattle.image.proofs.are_rules.Tie as tie
 
 abbrev Inv-loop : tie.InvT-loop
-Inv-loop section image strings at from i₀ i = Testing (goodRule section image) (ruleCount section image) i
+Inv-loop table section image strings at from i₀ i = Testing (goodRule section image) (ruleCount section image) i
 
 abbrev μ-loop : tie.MeasureT-loop
-μ-loop section image strings at from i₀ i = i
+μ-loop table section image strings at from i₀ i = i
 
 pub are-rules-spec : {M : Type 1} → statement M
 are-rules-spec =

@@ -11,6 +11,7 @@ check-spec =
     (tie.spec
     (λ c κs. search needs)
     (λ c. search no-header)
+    (λ c κs. search needs)
     (λ c κs. search header-passed)
     (λ c κs. search header-passed)
     (λ c κs. search header-passed)

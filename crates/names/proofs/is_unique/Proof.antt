@@ -1,5 +1,5 @@
 -- `names::is_unique` meets its contract.
-use Rattle.names.proofs.Forms.{forms}
+use Rattle.names.proofs.Forms.{unique-laws}
 use borrow.Author.Needs.{needs}
 use Rattle.names.proofs.is_unique.Statement.{statement}
 use Rattle.names.proofs.is_unique.Tie as tie
@@ -8,12 +8,14 @@ pub is-unique-spec : {M : Type 1} → statement M
 is-unique-spec =
     tie.close
     (tie.spec
-    (λ c. search forms)
+    (λ c. search unique-laws)
+    (λ c. search unique-laws)
     (λ c. search needs)
-    (λ c. search forms)
-    (λ c. search forms)
+    (λ c. search unique-laws)
+    (λ c. search needs)
+    (λ c. search unique-laws)
     (λ c. search needs)
     (λ c. search needs)
-    (λ c. search needs)
-    (λ c κs. search needs)
-    (λ c. search forms))
+    (λ c. search unique-laws)
+    (λ c κs. (search needs, search needs))
+    (λ c. search unique-laws))
