@@ -9,9 +9,10 @@ use lib.ListN.{length}
 use borrow.Author.Tests.{eq-eqb, eqb-true, ne-eqb}
 use Rattle.wire.specs.Lists.{every}
 use Rattle.names.specs.declared.Form.{Form}
-use Rattle.names.specs.declared.Form.the-variants.{Interface, WellKnown, Unique, BusName, Member, Path}
 use Rattle.names.specs.Names.{digit, leads, separator, character, cut, pieces, element, elements}
+use Rattle.names.specs.Classes.{others}
 use Rattle.names.specs.Scan.{spaced}
+use Rattle.names.proofs.Lookup.{agreed}
 use Rattle.names.proofs.Follow.{many, near, highOf, cleared, pair-right}
 
 -- s is elements, and one alone where there may not be `many`
@@ -56,12 +57,7 @@ at-other false false lead d a r m = refl
 
 -- a separator is no character
 pub apart : (form : Form) → character form (separator form) ≡ false
-apart Interface = refl
-apart WellKnown = refl
-apart Unique = refl
-apart BusName = refl
-apart Member = refl
-apart Path = refl
+apart form = agreed (λ f k. character f (separator f)) (λ f k. false) refl form others
 
 module _ (form : Form) where
   -- what the elements ask, where p stands before s

@@ -9,10 +9,10 @@ use Rattle.wire.specs.Lists.{every}
 use Rattle.wire.specs.Bytes.{byte}
 use Rattle.wire.proofs.Texts.{both-first, both-second}
 use Rattle.names.specs.declared.Form.{Form}
-use Rattle.names.specs.declared.Form.the-variants.{Interface, WellKnown, Unique, BusName, Member, Path}
 use Rattle.names.specs.Names.{digit, leads, separator, character, pieces, elements, twoOrMore}
-use Rattle.names.specs.Classes.{dotBit, barred}
+use Rattle.names.specs.Classes.{others, dotBit, barred}
 use Rattle.names.specs.Scan.{clear, allBits, spaced, Walks}
+use Rattle.names.proofs.Lookup.{agreed}
 use Rattle.names.proofs.Follow.{many, highOf, cleared, cleared-is}
 use Rattle.names.proofs.Near.{listed, follow, lastOf}
 use Rattle.names.proofs.Scanned.{seen-is, parted, no-dots, opens, apart-character, listed-scan}
@@ -42,12 +42,7 @@ with-colon false false e d = refl
 
 -- the bits that a form bars are some
 bars : (form : Form) → clear (barred form) allBits ≡ false
-bars Interface = refl
-bars WellKnown = refl
-bars Unique = refl
-bars BusName = refl
-bars Member = refl
-bars Path = refl
+bars form = agreed (λ f k. clear (barred f) allBits) (λ f k. false) refl form others
 
 -- ---- two elements or more
 

@@ -1,7 +1,7 @@
 -- The tests of a byte, by its kind: what the name rules ask of a byte they ask of its kind.
 use mathlib.Core.Path.{_≡_, refl, sym, _∙_}
 use mathlib.Core.Logic.{_⊎_, inl, inr}
-use mathlib.Core.Bool.{Bool, true, false, cond, _&&_, _||_, and-false, false≢true}
+use mathlib.Core.Bool.{Bool, true, false, _&&_, _||_, and-false, false≢true}
 use Prim.Native.Nat.{ℕ, _≤_}
 use native.Mathlib.Omega.{arith}
 use lib.Dec.{leb, eqb}
@@ -110,13 +110,8 @@ module _ (b : ℕ) where
 pub told : (b : ℕ) → Told b (byteKind b)
 unfolding byteKind
 told b =
-    choice (Told b) (digit b) digits
-    (cond (alphabetic b) letters (cond (eqb b (byte "-")) dash (cond (eqb b (byte ".")) dot (cond (eqb b (byte "/")) slash others))))
-    (told-digits b)
-    (λ d. choice (Told b) (alphabetic b) letters (cond (eqb b (byte "-")) dash (cond (eqb b (byte ".")) dot (cond (eqb b (byte "/")) slash others)))
-    (told-letters b d)
-    (λ l. choice (Told b) (eqb b (byte "-")) dash (cond (eqb b (byte ".")) dot (cond (eqb b (byte "/")) slash others))
-    (λ e. told-dash b (eqb-true b (byte "-") e))
-    (λ h. choice (Told b) (eqb b (byte ".")) dot (cond (eqb b (byte "/")) slash others)
-    (λ e. told-dot b (eqb-true b (byte ".") e))
-    (λ p. choice (Told b) (eqb b (byte "/")) slash others (λ e. told-slash b (eqb-true b (byte "/") e)) (told-others b d l h p)))))
+    choice (Told b) (digit b) _ _ (told-digits b)
+    (λ d. choice (Told b) (alphabetic b) _ _ (told-letters b d)
+    (λ l. choice (Told b) (eqb b (byte "-")) _ _ (λ e. told-dash b (eqb-true b (byte "-") e))
+    (λ h. choice (Told b) (eqb b (byte ".")) _ _ (λ e. told-dot b (eqb-true b (byte ".") e))
+    (λ p. choice (Told b) (eqb b (byte "/")) _ _ (λ e. told-slash b (eqb-true b (byte "/") e)) (told-others b d l h p)))))

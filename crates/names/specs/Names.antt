@@ -28,7 +28,7 @@ dashed BusName = true
 dashed Member = false
 dashed Path = false
 
--- a digit may begin an element of a unique name or of a path (rules 3.4 and 3.7)
+-- a digit may begin an element of a unique name or of a path (rules 3.4 and 3.7). Of a bus name, here and above, it is said what either kind may have
 abbrev pub leads : Form → Bool
 leads Interface = false
 leads WellKnown = false

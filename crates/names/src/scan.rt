@@ -2,7 +2,7 @@
 use crate::classes::ALL;
 use crate::classes::class;
 ghost use mathlib.Core.Path.{_≡_};
-ghost use Prim.Native.Nat.{_+_, _*_, _≤_, _<_};
+ghost use Prim.Native.Nat.{_+_, _≤_, _<_};
 ghost use lib.ListN.{length};
 ghost use Rattle.names.specs.Classes.{classTable};
 ghost use Rattle.names.specs.Scan.{spaced, spacedRun, Gathers, Walks};
