@@ -1,0 +1,1 @@
+// The types of a signature: their letters, and where each of them ends.
