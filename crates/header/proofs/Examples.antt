@@ -14,7 +14,7 @@ use Rattle.variant.specs.Values.{openingAt, beginOf, textIn as validTextIn}
 use Rattle.variant.specs.Walk.{value, items, fieldAt, skipped, row as values}
 use Rattle.header.specs.Fixed.{orderOf, headLength, messageLength, sizesOf, fixedPart}
 use Rattle.header.specs.Codes.{letterOf}
-use Rattle.header.specs.Fields.{textIn, valueAt, framed, knownAt, unknownAt, byCode, elementAt, walk, fieldsOf}
+use Rattle.header.specs.Fields.{textIn, valueAt, framed, knownAt, unknownAt, elementAt, walk, fieldsOf}
 use Rattle.header.specs.Values.{numberIn, goodValue, goodField, goodValues}
 use Rattle.header.specs.Required.{hasRequired}
 use Rattle.header.specs.Header.{headerOf, judgedHead, readHead, readHeader}
@@ -24,7 +24,7 @@ pub table-agrees : agrees headAnswer eqb headTable ≡ true
 unfolding allZero wordAt wordBytes startsWith wellKnown unique validName orderOf headLength messageLength sizesOf fixedPart letterOf textIn valueAt framed
     headOf closedBy one row validSignature leadOf utf8From validUtf8 kindOf alignOf roundUp behind closes padded numberAt booleanAt single goodText
     textAt shortTextAt plainAt doneAt arrayIn arrayAt rowAt variantAt openingAt beginOf validTextIn value items fieldAt skipped values
-    knownAt unknownAt byCode elementAt walk fieldsOf numberIn goodValue goodField goodValues hasRequired headerOf judgedHead readHead readHeader
+    knownAt unknownAt elementAt walk fieldsOf numberIn goodValue goodField goodValues hasRequired headerOf judgedHead readHead readHeader
 table-agrees = refl
 
 -- and of its fixed part alone

@@ -85,7 +85,6 @@ module _ (o : Order) (h : List ℕ) (end from at : ℕ) (i : from ≤ at) where
       go (stop.At to) e = let p = skipped-in o h (at + 1) end e in record { above = omega arith; ends = p .1 }
 
   code-placed : Placed end from (byCode o h end at)
-  unfolding byCode
   code-placed = go (ltb (getD h at 0) codeLimit) refl
     where
       go : (b : Bool) → ltb (getD h at 0) codeLimit ≡ b → Placed end from (cond b (knownAt o h end at) (unknownAt o h end at))

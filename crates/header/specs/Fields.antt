@@ -68,7 +68,7 @@ unfoldable pub unknownAt : Order → List ℕ → ℕ → ℕ → Element
 unknownAt o h end at = elim (skipped o h (at + 1) end) [ stop.Bad ↦ Bad | stop.At to ↦ Skip to ]
 
 -- a field by its code: those from the limit on are unknown (rules 2.5 and 2.13)
-unfoldable pub byCode : Order → List ℕ → ℕ → ℕ → Element
+abbrev pub byCode : Order → List ℕ → ℕ → ℕ → Element
 byCode o h end at = cond (ltb (getD h at 0) codeLimit) (knownAt o h end at) (unknownAt o h end at)
 
 -- the element behind the padding that starts at `from`, which is zero (rules 2.5 and 2.8)

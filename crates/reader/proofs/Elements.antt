@@ -124,7 +124,6 @@ module _ (o : Order) (h : List ℕ) (end at : ℕ) where
 
   -- no field begins behind the array
   code-past : end ≤ at → Bad ≡ byCode o h end at
-  unfolding byCode
   code-past l = rw (← known-past (omega arith), ← unknown) (idle (ltb (getD h at 0) codeLimit))
     where
       go : (t : Stop) → t ≡ skipped o h (at + 1) end → Bad ≡ unknownAt o h end at
@@ -149,11 +148,11 @@ module _ (o : Order) (h : List ℕ) (end from at : ℕ) (e : at ≡ roundUp8 fro
 
     module _ (t : not z ≡ false) (c : ℕ) (g : c ≡ getD h at 0) where
       pub element-known : c < codeLimit → {r : Element} → r ≡ knownAt o h end at → r ≡ elementAt o h end from
-      unfolding elementAt byCode
+      unfolding elementAt
       element-known k i = i ∙ rw (← e, ← p, not-false z t, ← g, lt-ltb c codeLimit k)
 
       pub element-unknown : codeLimit ≤ c → {r : Element} → r ≡ unknownAt o h end at → r ≡ elementAt o h end from
-      unfolding elementAt byCode
+      unfolding elementAt
       element-unknown k i = i ∙ rw (← e, ← p, not-false z t, ← g, le-ltb c codeLimit k)
 
 pub ruleset elements = (element-past, element-unpadded, element-known, element-unknown, needs)
