@@ -9,7 +9,7 @@ use Rattle.names.specs.Namespace.{inNamespace}
 use Rattle.signature.specs.Signature.{headOf, closedBy, one, row, validSignature}
 use Rattle.header.specs.Fixed.{orderOf, headLength, messageLength, sizesOf, fixedPart}
 use Rattle.header.specs.Codes.{letterOf}
-use Rattle.header.specs.Fields.{textIn, valueAt, framed, elementAt, walk, fieldsOf}
+use Rattle.header.specs.Fields.{textIn, valueAt, framed, knownAt, elementAt, walk, fieldsOf}
 use Rattle.header.specs.Values.{numberIn, goodValue, goodField, goodValues}
 use Rattle.header.specs.Required.{hasRequired}
 use Rattle.header.specs.Header.{headerOf, judgedHead, readHead, readHeader}
@@ -34,7 +34,7 @@ use Rattle.book.specs.Table.{tallyShown, tallyTable}
 
 all-agree : (agrees workedAnswer same workedTable ≡ true) × (agrees workedAnswer same furtherRows ≡ true) × (agrees tallyShown same tallyTable ≡ true)
 unfolding allZero same wordAt wordBytes startsWith wellKnown unique validName inNamespace headOf closedBy one row validSignature orderOf headLength
-    messageLength sizesOf fixedPart letterOf textIn valueAt framed elementAt walk fieldsOf numberIn goodValue goodField goodValues hasRequired headerOf
+    messageLength sizesOf fixedPart letterOf textIn valueAt framed knownAt elementAt walk fieldsOf numberIn goodValue goodField goodValues hasRequired headerOf
     judgedHead readHead readHeader goodCounts goodSections goodHeader goodString goodOrAny goodOwned goodConnectRule goodOwnRule goodStrings
     goodTransactionRule goodRule goodImage outcomeOf imageAnswer inGroups subjectFits owns deciding connectFits ownedFits ownFits messageOf partFits
     interfaceFits partsFit nameFits transactionFits transactionMatches decidesIn mayConnect mayOwn mayTransact offer firstBy digits uniqueName answersTo

@@ -1,7 +1,7 @@
 -- The walk over the array: where an element stands, what a step leaves, and that what was found lies in the head.
 use mathlib.Core.Path.{_≡_, refl, sym, subst, _∙_}
-use mathlib.Core.Bool.{Bool, true, false, cond, _&&_, false≢true}
-use mathlib.Core.List.{List, [], _∷_}
+use mathlib.Core.Bool.{Bool, true, false, cond, _&&_}
+use mathlib.Core.List.{List}
 use mathlib.Core.Option.{none, some}
 use Prim.Native.Nat.{ℕ, zero, suc, _+_, _-_, _≤_, _<_}
 use native.Mathlib.Decide.{decLe}
@@ -11,109 +11,99 @@ use lib.ListN.{length, take, drop, getD, set, length-set, getD-replicate, List·
 use lib.Seq.{getD-set-same, getD-set-other}
 use borrow.Author.Tests.{eq-eqb, ne-eqb, eqb-true, eqb-false, ltb-true, leb-true}
 use Rattle.wire.specs.Bytes.{byte, allZero}
-use Rattle.wire.specs.Lists.{every}
 use Rattle.wire.specs.Words.{wordAt, roundUp8}
 use Rattle.wire.specs.declared.Order.{Order}
-use Rattle.wire.proofs.Texts.{impossible, both-first, both-second}
+use Rattle.wire.proofs.Texts.{impossible, both-first}
+use Rattle.basics.specs.declared.Stop.{Stop}
+use Rattle.basics.specs.declared.Stop.the-variants as stop
+use Rattle.variant.specs.Walk.{skipped}
+use Rattle.variant.proofs.Skipped.{skipped-in}
 use Rattle.header.specs.declared.Element.{Element}
-use Rattle.header.specs.declared.Element.the-variants.{At, Bad}
-use Rattle.header.specs.Codes.{codeLimit, Field, fieldTable, letterIn, letterOf}
+use Rattle.header.specs.declared.Element.the-variants.{At, Skip, Bad}
+use Rattle.header.specs.Codes.{codeLimit, letterOf}
 use Rattle.header.specs.Fixed.{fixedLength}
-use Rattle.header.specs.Fields.{Fields, absent, placeOf, noFields, textIn, valueAt, framed, elementAt, walk, fieldsIn}
+use Rattle.header.specs.Fields.{Fields, absent, placeOf, noFields, textIn, valueAt, framed, knownAt, unknownAt, byCode, elementAt, walk, fieldsIn}
 use Rattle.header.specs.Contracts.{ValuesFit}
-
--- ---- the letters
-
--- of any fields whose codes are below the limit
-unlettered : (fs : List Field) (code : ℕ) → every (λ (f : Field). ltb (f .code) codeLimit) fs ≡ true → codeLimit ≤ code → 0 ≡ letterIn fs code
-unlettered [] code t h = refl
-unlettered (f ∷ fs) code t h =
-    let u = both-second (ltb (f .code) codeLimit) (every (λ (g : Field). ltb (g .code) codeLimit) fs) t in
-    let l = ltb-true (f .code) codeLimit (both-first (ltb (f .code) codeLimit) (every (λ (g : Field). ltb (g .code) codeLimit) fs) t) in
-    rw (ne-eqb code (f .code) (λ e. omega arith)) (unlettered fs code u h)
-
-pub no-letter : (code : ℕ) → codeLimit ≤ code → 0 ≡ letterOf code
-unfolding letterOf
-no-letter code h = unlettered fieldTable code refl h
 
 -- ---- where an element stands
 
--- a value of the code, from `low` on: it starts at a, is l long, and stops at s, before `end`
-pub record Valued (end low code c a l s : ℕ) : Type 0 where
-  pub same : code ≡ c
-  pub above : low ≤ a
-  pub inside : a + l ≤ s
-  pub ends : s ≤ end
-
-module _ {end code c a l s : ℕ} where
-  no-value : {low : ℕ} → Bad ≡ At c a l s → Valued end low code c a l s
-  no-value e = impossible cc
-
-  a-value : (at len stop : ℕ) → at + len ≤ stop → stop ≤ end → At code at len stop ≡ At c a l s → Valued end at code c a l s
-  a-value at len stop h k e =
-      let p : code ≡ c = cc in
-      let q : at ≡ a = cc in
-      let r : len ≡ l = cc in
-      let t : stop ≡ s = cc in
-      record { same = p; above = omega arith; inside = omega arith; ends = omega arith }
-
-  lower : {low low′ : ℕ} → low′ ≤ low → Valued end low code c a l s → Valued end low′ code c a l s
-  lower h v = record { same = v .same; above = omega arith; inside = v .inside; ends = v .ends }
-
-text-valued : (h : List ℕ) (end code at len : ℕ) {c a l s : ℕ} → textIn h end code at len ≡ At c a l s → Valued end at code c a l s
-unfolding textIn
-text-valued h end code at len {c} {a} {l} {s} e = go (ltb (at + len) end && eqb (getD h (at + len) 0) 0) refl e
-  where
-    go : (b : Bool) → ltb (at + len) end && eqb (getD h (at + len) 0) 0 ≡ b → cond b (At code at len (at + len + 1)) Bad ≡ At c a l s
-        → Valued end at code c a l s
-    go true t k =
-        let u : at + len < end = ltb-true (at + len) end (both-first (ltb (at + len) end) (eqb (getD h (at + len) 0) 0) t) in
-        a-value at len (at + len + 1) (omega arith) (omega arith) k
-    go false t k = no-value k
-
-value-valued : (o : Order) (h : List ℕ) (end code letter at : ℕ) {c a l s : ℕ} → valueAt o h end code letter at ≡ At c a l s
-    → Valued end at code c a l s
-unfolding valueAt
-value-valued o h end code letter at {c} {a} {l} {s} e = go (eqb letter (byte "g")) (eqb letter (byte "u")) (leb (at + 4) end) refl e
-  where
-    go : (g u n : Bool) → leb (at + 4) end ≡ n
-        → cond g (textIn h end code (at + 1) (getD h at 0)) (cond u (cond n (At code at 4 (at + 4)) Bad) (textIn h end code (at + 4) (wordAt o h at)))
-        ≡ At c a l s
-        → Valued end at code c a l s
-    go true u n t k = lower (omega arith) (text-valued h end code (at + 1) (getD h at 0) k)
-    go false true true t k = let m : at + 4 ≤ end = leb-true (at + 4) end t in a-value at 4 (at + 4) (omega arith) m k
-    go false true false t k = no-value k
-    go false false n t k = lower (omega arith) (text-valued h end code (at + 4) (wordAt o h at) k)
-
--- a code with a letter is one of the table
-framed-code : (h : List ℕ) (at : ℕ) → framed h at ≡ true → getD h at 0 < codeLimit
-unfolding framed
-framed-code h at t = go (decLe codeLimit (getD h at 0))
-  where
-    go : Dec (codeLimit ≤ getD h at 0) → getD h at 0 < codeLimit
-    go (no k) = omega arith
-    go (yes k) = absurd (false≢true (rw (← no-letter (getD h at 0) k) at t))
-
+-- a known field: its code is one of the table's, and its value lies behind `from` and stops before `end`
 pub record Stands (end from code at len stop : ℕ) : Type 0 where
   pub known : code < codeLimit
   pub above : from < at
   pub inside : at + len ≤ stop
   pub ends : stop ≤ end
 
-pub element-stands : (o : Order) (h : List ℕ) (end from : ℕ) {c a l s : ℕ} → elementAt o h end from ≡ At c a l s → Stands end from c a l s
+-- an unknown one
+pub record Passes (end from stop : ℕ) : Type 0 where
+  pub above : from < stop
+  pub ends : stop ≤ end
+
+abbrev Placed : ℕ → ℕ → Element → Type 0
+Placed end from (At c a l s) = Stands end from c a l s
+Placed end from (Skip s) = Passes end from s
+Placed end from Bad = Unit {0}
+
+module _ (h : List ℕ) (end from code : ℕ) (k : code < codeLimit) where
+  text-placed : (at len : ℕ) → from < at → Placed end from (textIn h end code at len)
+  unfolding textIn
+  text-placed at len i = go (ltb (at + len) end && eqb (getD h (at + len) 0) 0) refl
+    where
+      go : (b : Bool) → ltb (at + len) end && eqb (getD h (at + len) 0) 0 ≡ b → Placed end from (cond b (At code at len (at + len + 1)) Bad)
+      go true t =
+          let u : at + len < end = ltb-true (at + len) end (both-first (ltb (at + len) end) (eqb (getD h (at + len) 0) 0) t) in
+          record { known = k; above = i; inside = omega arith; ends = omega arith }
+      go false t = tt
+
+  value-placed : (o : Order) (letter at : ℕ) → from < at → Placed end from (valueAt o h end code letter at)
+  unfolding valueAt
+  value-placed o letter at i = go (eqb letter (byte "g")) (eqb letter (byte "u")) (leb (at + 4) end) refl
+    where
+      go : (g u n : Bool) → leb (at + 4) end ≡ n
+          → Placed end from
+          (cond g (textIn h end code (at + 1) (getD h at 0)) (cond u (cond n (At code at 4 (at + 4)) Bad) (textIn h end code (at + 4) (wordAt o h at))))
+      go true u n t = text-placed (at + 1) (getD h at 0) (omega arith)
+      go false true true t = record { known = k; above = i; inside = omega arith; ends = leb-true (at + 4) end t }
+      go false true false t = tt
+      go false false n t = text-placed (at + 4) (wordAt o h at) (omega arith)
+
+module _ (o : Order) (h : List ℕ) (end from at : ℕ) (i : from ≤ at) where
+  known-placed : getD h at 0 < codeLimit → Placed end from (knownAt o h end at)
+  unfolding knownAt
+  known-placed k = go (framed h at)
+    where
+      go : (b : Bool) → Placed end from (cond b (valueAt o h end (getD h at 0) (letterOf (getD h at 0)) (at + 4)) Bad)
+      go true = value-placed h end from (getD h at 0) k o (letterOf (getD h at 0)) (at + 4) (omega arith)
+      go false = tt
+
+  unknown-placed : Placed end from (unknownAt o h end at)
+  unfolding unknownAt
+  unknown-placed = go (skipped o h (at + 1) end) refl
+    where
+      go : (t : Stop) → skipped o h (at + 1) end ≡ t → Placed end from (elim t [ stop.Bad ↦ Bad | stop.At to ↦ Skip to ])
+      go stop.Bad e = tt
+      go (stop.At to) e = let p = skipped-in o h (at + 1) end e in record { above = omega arith; ends = p .1 }
+
+  code-placed : Placed end from (byCode o h end at)
+  code-placed = go (ltb (getD h at 0) codeLimit) refl
+    where
+      go : (b : Bool) → ltb (getD h at 0) codeLimit ≡ b → Placed end from (cond b (knownAt o h end at) (unknownAt o h end at))
+      go true t = known-placed (ltb-true (getD h at 0) codeLimit t)
+      go false t = unknown-placed
+
+element-placed : (o : Order) (h : List ℕ) (end from : ℕ) → Placed end from (elementAt o h end from)
 unfolding elementAt
-element-stands o h end from {c} {a} {l} {s} e = go (allZero (take (roundUp8 from - from) (drop from h)) && framed h (roundUp8 from)) refl e
+element-placed o h end from = go (allZero (take (roundUp8 from - from) (drop from h)))
   where
-    go : (b : Bool) → allZero (take (roundUp8 from - from) (drop from h)) && framed h (roundUp8 from) ≡ b
-        → cond b (valueAt o h end (getD h (roundUp8 from) 0) (letterOf (getD h (roundUp8 from) 0)) (roundUp8 from + 4)) Bad ≡ At c a l s
-        → Stands end from c a l s
-    go true t k =
-        let v : Valued end (roundUp8 from + 4) (getD h (roundUp8 from) 0) c a l s =
-        value-valued o h end (getD h (roundUp8 from) 0) (letterOf (getD h (roundUp8 from) 0)) (roundUp8 from + 4) k in
-        let f : getD h (roundUp8 from) 0 < codeLimit =
-        framed-code h (roundUp8 from) (both-second (allZero (take (roundUp8 from - from) (drop from h))) (framed h (roundUp8 from)) t) in
-        record { known = omega arith; above = omega arith; inside = v .inside; ends = v .ends }
-    go false t k = impossible cc
+    go : (b : Bool) → Placed end from (cond b (byCode o h end (roundUp8 from)) Bad)
+    go true = code-placed o h end from (roundUp8 from) (omega arith)
+    go false = tt
+
+pub element-stands : (o : Order) (h : List ℕ) (end from : ℕ) {c a l s : ℕ} → elementAt o h end from ≡ At c a l s → Stands end from c a l s
+element-stands o h end from e = subst (Placed end from) e (element-placed o h end from)
+
+pub element-passes : (o : Order) (h : List ℕ) (end from : ℕ) {s : ℕ} → elementAt o h end from ≡ Skip s → Passes end from s
+element-passes o h end from e = subst (Placed end from) e (element-placed o h end from)
 
 -- ---- a step of the walk
 
@@ -126,6 +116,10 @@ module _ (fuel : ℕ) (o : Order) (h : List ℕ) (end from : ℕ) (fs : Fields) 
     pub walk-bad : elementAt o h end from ≡ Bad → walk (suc fuel) o h end from fs ≡ none
     unfolding walk
     walk-bad e = rw (walk, ne-eqb from end n, e)
+
+    pub walk-skip : {s : ℕ} → elementAt o h end from ≡ Skip s → walk (suc fuel) o h end from fs ≡ walk fuel o h end s fs
+    unfolding walk
+    walk-skip e = rw (walk, ne-eqb from end n, e)
 
     module _ {c a l s : ℕ} (e : elementAt o h end from ≡ At c a l s) where
       pub walk-again : (placeOf fs c .at ≡ 0 → ⊥) → walk (suc fuel) o h end from fs ≡ none
@@ -172,6 +166,7 @@ module _ (fuel : ℕ) (o : Order) (h : List ℕ) (end from : ℕ) (fs gs : Field
 
   step-element : (from ≡ end → ⊥) → (r : Element) → elementAt o h end from ≡ r → ValuesFit h gs
   step-element n Bad q = nothing (sym (walk-bad fuel o h end from fs n q) ∙ e)
+  step-element n (Skip s) q = rest s fs f (sym (walk-skip fuel o h end from fs n q) ∙ e)
   step-element n (At c a l s) q = step-found n q (eqb (placeOf fs c .at) 0) refl
 
   step-fits : (b : Bool) → eqb from end ≡ b → ValuesFit h gs

@@ -1,4 +1,4 @@
--- The array of header fields and its answer 7 (rules 2.5, 2.6 and 2.8).
+-- The array of header fields and its answer 7 (rules 2.5, 2.6, 2.8 and 2.13).
 use mathlib.Core.Bool.{Bool, true, false, cond, not, _&&_}
 use mathlib.Core.List.{List}
 use mathlib.Core.Option.{Option, none, some}
@@ -8,9 +8,11 @@ use lib.ListN.{take, drop, getD, set, replicate}
 use Rattle.wire.specs.Bytes.{byte, allZero}
 use Rattle.wire.specs.Words.{wordAt, roundUp8}
 use Rattle.wire.specs.declared.Order.{Order}
+use Rattle.basics.specs.declared.Stop.the-variants as stop
+use Rattle.variant.specs.Walk.{skipped}
 use Rattle.header.specs.declared.Place.{Place}
 use Rattle.header.specs.declared.Element.{Element}
-use Rattle.header.specs.declared.Element.the-variants.{At, Bad}
+use Rattle.header.specs.declared.Element.the-variants.{At, Skip, Bad}
 use Rattle.header.specs.Fixed.{fixedLength, orderOf, arrayLength}
 use Rattle.header.specs.Codes.{codeLimit, letterOf}
 
@@ -57,16 +59,26 @@ framed h at =
     && eqb (getD h (at + 2) 0) (letterOf (getD h at 0))
     && eqb (getD h (at + 3) 0) 0
 
+-- a field of the table, whose code stands at `at` (rule 2.5); code 0 is framed by nothing
+unfoldable pub knownAt : Order → List ℕ → ℕ → ℕ → Element
+knownAt o h end at = cond (framed h at) (valueAt o h end (getD h at 0) (letterOf (getD h at 0)) (at + 4)) Bad
+
+-- an unknown field, whose code stands at `at`: its variant is walked by its signature, from the length of that on, and passed over (rule 2.13)
+unfoldable pub unknownAt : Order → List ℕ → ℕ → ℕ → Element
+unknownAt o h end at = elim (skipped o h (at + 1) end) [ stop.Bad ↦ Bad | stop.At to ↦ Skip to ]
+
+-- a field by its code: those from the limit on are unknown (rules 2.5 and 2.13)
+abbrev pub byCode : Order → List ℕ → ℕ → ℕ → Element
+byCode o h end at = cond (ltb (getD h at 0) codeLimit) (knownAt o h end at) (unknownAt o h end at)
+
 -- the element behind the padding that starts at `from`, which is zero (rules 2.5 and 2.8)
 unfoldable pub elementAt : Order → List ℕ → ℕ → ℕ → Element
-elementAt o h end from =
-    cond (allZero (take (roundUp8 from - from) (drop from h)) && framed h (roundUp8 from))
-    (valueAt o h end (getD h (roundUp8 from) 0) (letterOf (getD h (roundUp8 from) 0)) (roundUp8 from + 4))
-    Bad
+elementAt o h end from = cond (allZero (take (roundUp8 from - from) (drop from h))) (byCode o h end (roundUp8 from)) Bad
 
 -- ---- all elements
 
--- the fields of the elements from `from` on, beside those of `fs`: the last one ends at `end`, and no code is repeated (rule 2.8)
+-- the fields of the elements from `from` on, beside those of `fs`: the last one ends at `end`, and no code is repeated (rule 2.8) but those of
+-- unknown fields, which leave `fs` as it is (rule 2.13)
 unfoldable pub walk : ℕ → Order → List ℕ → ℕ → ℕ → Fields → Option Fields
 walk zero o h end from fs = none
 walk (suc fuel) o h end from fs =
@@ -75,6 +87,7 @@ walk (suc fuel) o h end from fs =
       | false ↦
           elim (elementAt o h end from) [
             | Bad ↦ none
+            | Skip stop ↦ walk fuel o h end stop fs
             | At code at len stop ↦
                 elim (present (placeOf fs code)) [
                   | true ↦ none

@@ -1,10 +1,10 @@
 -- Worked examples of heads, T5 to T7 among them, as a table: bytes, and the number of what a reader answers.
 -- 10 says that the head has not come whole, 0 that it has none of the faults.
 use mathlib.Core.List.{List, [], _∷_, _++_, reverse}
-use Prim.Native.Nat.{ℕ}
+use Prim.Native.Nat.{ℕ, zero, suc}
 use Prim.Native.Char.{Char}
 use Prim.Native.String.{String}
-use lib.ListN.{length, take, drop, set}
+use lib.ListN.{length, take, drop, set, replicate}
 use Rattle.wire.specs.Bytes.{byte, bytes}
 use Rattle.wire.specs.Words.{wordBytes}
 use Rattle.wire.specs.declared.Order.{Order}
@@ -87,7 +87,6 @@ arrayLines o =
     ∷ (set (callCIn o) 47 1, 7)  -- padding behind the array
     ∷ (set (set (callCIn o) 32 1) 34 (byte "o"), 7)  -- a repeated code
     ∷ (set (callCIn o) 32 0, 7)  -- code 0
-    ∷ (set (callCIn o) 32 10, 7)  -- a code above 9
     ∷ (set (callCIn o) 33 2, 7)  -- the length of a signature
     ∷ (set (callCIn o) 34 (byte "o"), 7)  -- another letter
     ∷ (set (callCIn o) 35 1, 7)  -- no zero behind the letter
@@ -125,8 +124,61 @@ goodLines o =
     ∷ (message o signal (path o ++ (interface o ++ member o)), 0)
     ∷ []
 
+-- ---- unknown fields (rule 2.13)
+
+abbrev zeros : ℕ → List ℕ
+zeros n = replicate n 0
+
+-- an unknown field: its code, its signature, and a value with the padding in front of it
+abbrev unknown : ℕ → String → List ℕ → List ℕ
+unknown code types value = code ∷ length (bytes types) ∷ (bytes types ++ (0 ∷ value))
+
+-- a value of type y in n variants more than the field's own
+abbrev nested : ℕ → List ℕ
+nested zero = 1 ∷ byte "y" ∷ 0 ∷ 7 ∷ []
+nested (suc n) = 1 ∷ byte "v" ∷ 0 ∷ nested n
+
+-- a good call with more fields behind its own, the first of them at byte 48, and enough padding
+abbrev wider : Order → List ℕ → List ℕ
+wider o fields = message o call (path o ++ (member o ++ fields)) ++ zeros 7
+
+abbrev ten : Order → List ℕ
+ten o = unknown 10 "u" (number o 7)
+
+-- a fault of an unknown field alone
+abbrev badTen : Order → List ℕ
+badTen o = unknown 10 "b" (number o 2)
+
+abbrev unknownLines : Order → List HeadRow
+unknownLines o =
+    (wider o (ten o), 0)
+    ∷ (wider o (ten o ++ ten o), 0)  -- repeated
+    ∷ (wider o (unknown 255 "u" (number o 7)), 0)
+    ∷ (wider o (unknown 0 "u" (number o 7)), 7)  -- code 0
+    ∷ (set (callCIn o) 32 10, 9)  -- the member's field is none now
+    ∷ (message o call (unknown 10 "y" (7 ∷ zeros 3) ++ (path o ++ member o)), 0)
+    ∷ (message o call (unknown 10 "y" (7 ∷ 0 ∷ 0 ∷ 1 ∷ []) ++ (path o ++ member o)), 7)  -- the padding behind it
+    ∷ (wider o (unknown 10 "y" (7 ∷ 0 ∷ [])), 7)  -- an array that ends in padding
+    ∷ (wider o (unknown 10 "u" (0 ∷ 0 ∷ [])), 7)  -- a value that runs past the array
+    ∷ (wider o (unknown 10 "uu" (zeros 3 ++ (number o 1 ++ number o 1))), 7)  -- two types
+    ∷ (wider o (unknown 10 "at" (zeros 11)), 0)  -- no element, and the padding in front of elements
+    ∷ (wider o (unknown 10 "at" (zeros 7)), 7)  -- without it
+    ∷ (wider o (unknown 10 "a{sv}" (number o 10 ++ (zeros 4 ++ (number o 1 ++ (byte "k" ∷ 0 ∷ 1 ∷ byte "y" ∷ 0 ∷ 7 ∷ []))))), 0)
+    ∷ (wider o (badTen o), 7)  -- a boolean of 2
+    ∷ (wider o (unknown 10 "s" (number o 2 ++ (0xc0 ∷ 0x80 ∷ 0 ∷ []))), 7)  -- not the shortest form
+    ∷ (wider o (unknown 10 "s" (number o 3 ++ (0xed ∷ 0xa0 ∷ 0x80 ∷ 0 ∷ []))), 7)  -- a surrogate
+    ∷ (message o call (path o ++ badTen o), 7)  -- 7 before 9
+    ∷ (message o call (text o 1 "o" "foo/bar" ++ (member o ++ badTen o)), 7)  -- 7 before 8
+    ∷ []
+
+-- 64 variants open, the field's own among them, and 65
+abbrev deepLines : Order → List HeadRow
+deepLines o = (wider o (10 ∷ nested 63), 0) ∷ (wider o (10 ∷ nested 64), 7) ∷ []
+
+-- ---- the tables
+
 abbrev lines : Order → List HeadRow
-lines o = fixedLines o ++ (arrayLines o ++ (requiredLines o ++ goodLines o))
+lines o = fixedLines o ++ (arrayLines o ++ (requiredLines o ++ (goodLines o ++ (unknownLines o ++ deepLines o))))
 
 abbrev pub headTable : List HeadRow
 headTable = lines Little ++ lines Big

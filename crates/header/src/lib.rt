@@ -84,7 +84,7 @@ pub enum Fixed {
     Sizes(usize, usize),
 }
 
-// An element of the array: its code, where its value starts, how long that is, and where the element stops.
+// An element of the array: its code, where its value starts, how long that is, and where the element stops; of an unknown field only that.
 pub enum Element {
     At {
         code: usize,
@@ -92,5 +92,6 @@ pub enum Element {
         len: usize,
         stop: usize,
     },
+    Skip(usize),
     Bad,
 }

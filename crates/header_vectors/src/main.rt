@@ -1,5 +1,8 @@
 // Runs vectors of heads, names and signatures: a line for each, with what is fed and what comes back. Of a head that is the answer
 // number, where 0 is a whole head and 10 one that has not come whole; of a name or a signature 1 where it is good.
+mod drafts;
+mod unknown;
+
 use header::Reading;
 use names::Form;
 ghost use Prim.Native.Nat.{_<_};
@@ -146,6 +149,7 @@ fn arrays(big: bool) {
     changed(b"call C, code 1 twice", big, 32, 1);
     changed(b"call C, code 9", big, 32, 9);
     changed(b"call C, code 10", big, 32, 10);
+    changed(b"call C, code 255", big, 32, 255);
     changed(b"call C, signature length 2", big, 33, 2);
     changed(b"call C, letter o for the member", big, 34, b'o');
     changed(b"call C, 1 after the letter", big, 35, 1);
@@ -271,10 +275,12 @@ fn main() {
     fixed_parts(false);
     arrays(false);
     values(false);
+    unknown::all(false);
     io::write_all(1, b"-- big-endian\n");
     fixed_parts(true);
     arrays(true);
     values(true);
+    unknown::all(true);
     io::write_all(1, b"-- letters, names, signatures\n");
     letters();
     spec_names();

@@ -10,10 +10,10 @@ use mir.Val
 use borrow.Author.Needs.{needs}
 use Rattle.wire.specs.declared.Order.{Order}
 use Rattle.header.specs.declared.Element.{Element}
-use Rattle.header.specs.declared.Element.the-variants.{At, Bad}
+use Rattle.header.specs.declared.Element.the-variants.{At, Skip, Bad}
 use Rattle.header.specs.Codes.{codeLimit}
 use Rattle.header.specs.Fields.{Fields, placeOf, noFields, elementAt, walk, fieldsIn}
-use Rattle.header.proofs.Walk.{Stands, element-stands, walk-end, walk-bad, walk-again, walk-more}
+use Rattle.header.proofs.Walk.{Stands, Passes, element-stands, element-passes, walk-end, walk-bad, walk-skip, walk-again, walk-more}
 use Rattle.reader.specs.Contracts.{Inside}
 use Rattle.header.specs.Fixed.{fixedLength}
 
@@ -43,6 +43,23 @@ module _ {o : Order} {h : List ℕ} {end : ℕ} {fs : Fields} {from : ℕ} (w : 
     pub walking-bad : r ≡ Bad → none ≡ fieldsIn o h end
     walking-bad q = by-step (λ fuel. walk-bad fuel o h end from fs n (sym p ∙ q))
 
+    module _ {s : ℕ} (q : r ≡ Skip s) where
+      passes : Passes end from s
+      passes = element-passes o h end from (sym p ∙ q)
+
+      pub skipping-falls : end - s < end - from
+      skipping-falls = omega (arith, passes)
+
+      pub skipping-more : Walking o h end fs s
+      skipping-more =
+          record {
+            fuel = w .fuel - 1;
+            enough = omega (arith, passes, w .enough);
+            inside = omega (arith, passes, w .inside);
+            sized = w .sized;
+            left = step-left ∙ walk-skip (w .fuel - 1) o h end from fs n (sym p ∙ q);
+          }
+
     module _ {c a l s : ℕ} (q : r ≡ At c a l s) where
       pub stands : Stands end from c a l s
       stands = element-stands o h end from (sym p ∙ q)
@@ -69,4 +86,4 @@ module _ {o : Order} {h : List ℕ} {end : ℕ} {fs : Fields} {from : ℕ} (w : 
             left = step-left ∙ walk-more (w .fuel - 1) o h end from fs n (sym p ∙ q) z;
           }
 
-pub ruleset walking = (walking-begins, walking-ends, walking-bad, code-inside, code-scaled, walking-falls, walking-again, walking-more, needs)
+pub ruleset walking = (walking-begins, walking-ends, walking-bad, skipping-falls, skipping-more, code-inside, code-scaled, walking-falls, walking-again, walking-more, needs)

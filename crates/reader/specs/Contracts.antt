@@ -3,13 +3,13 @@ use mathlib.Core.Bool.{cond}
 use mathlib.Core.List.{List}
 use mathlib.Core.Option.{Option, none, some}
 use mathlib.Core.Path.{_≡_}
-use Prim.Native.Nat.{ℕ, _+_, _≤_}
-use lib.ListN.{length}
+use Prim.Native.Nat.{ℕ, _+_, _≤_, _<_}
+use lib.ListN.{length, getD}
 use Rattle.wire.specs.Words.{roundUp8}
 use Rattle.wire.specs.declared.Order.{Order}
 use Rattle.header.specs.declared.Element.{Element}
 use Rattle.header.specs.Fixed.{fixedLength, headLimit, orderOf}
-use Rattle.header.specs.Codes.{replySerialCode}
+use Rattle.header.specs.Codes.{codeLimit, replySerialCode}
 use Rattle.header.specs.Fields.{Fields, placeOf, elementAt}
 use Rattle.header.specs.Contracts.{SizedHead, ValuesFit}
 use Rattle.reader.specs.declared.Found.{Found}
@@ -20,6 +20,13 @@ pub record Inside (h : List ℕ) (end from : ℕ) : Type 0 where
   pub before : from ≤ end
   pub padded : roundUp8 end ≤ length h
   pub small : length h ≤ headLimit
+
+-- in an array that ends at `end`, the code of a known field stands at `at`
+pub record Known (h : List ℕ) (end at : ℕ) : Type 0 where
+  pub before : at < end
+  pub inside : end ≤ length h
+  pub small : length h ≤ headLimit
+  pub code : getD h at 0 < codeLimit
 
 -- the element that a reader of h at `from` finds, in the byte order of h
 abbrev pub elementIn : List ℕ → ℕ → ℕ → Element

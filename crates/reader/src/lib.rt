@@ -2,6 +2,7 @@
 mod fields;
 mod values;
 
+use basics::Stop;
 use header::ARRAY_LIMIT;
 use header::ARRAY_WORD;
 use header::BODY_WORD;
@@ -26,13 +27,13 @@ use header::VERSION_BYTE;
 use wire::Order;
 ghost use mathlib.Core.Path.{_≡_};
 ghost use Prim.Native.Nat.{_+_, _-_, _≤_, _<_};
-ghost use lib.ListN.{length};
+ghost use lib.ListN.{length, getD};
 ghost use Rattle.header.specs.Fixed.{fixedLength, headLimit, orderOf, sizesOf, fixedPart};
-ghost use Rattle.header.specs.Codes.{letterOf};
-ghost use Rattle.header.specs.Fields.{textIn, valueAt, framed, elementAt, fieldsIn};
+ghost use Rattle.header.specs.Codes.{codeLimit, letterOf};
+ghost use Rattle.header.specs.Fields.{textIn, valueAt, framed, knownAt, unknownAt, elementAt, fieldsIn};
 ghost use Rattle.header.specs.Header.{headerOf, judgedHead, readHead, readHeader};
 ghost use Rattle.header.specs.Contracts.{SizedHead};
-ghost use Rattle.reader.specs.Contracts.{Inside, Reads, foundIn};
+ghost use Rattle.reader.specs.Contracts.{Inside, Known, Reads, foundIn};
 
 // Where the value of each code stands, if the array is good.
 pub struct Found {
@@ -95,13 +96,11 @@ pub fn fixed_part(bytes: &[u8]) -> Fixed
     sizes(bytes)
 }
 
-// The letter of a code's type, 0 where no field has the code.
+// The letter of a code's type, 0 for code 0.
 fn letter_of(code: usize) -> u8
+    requires { ⌜ code < codeLimit ⌝ }
     ensures { λ r. ⌜ r ≡ letterOf code ⌝ }
 {
-    if CODE_LIMIT <= code {
-        return 0;
-    }
     LETTERS[code]
 }
 
@@ -158,11 +157,37 @@ fn value_at(order: Order, head: &[u8], end: usize, code: usize, letter: u8, at: 
 
 // The four bytes in front of a value are its code, 1, the code's letter and zero.
 fn is_framed(head: &[u8], at: usize) -> bool
-    requires { ⌜ at + 4 ≤ length (now head) ⌝ }
+    requires { ⌜ (getD (now head) at 0 < codeLimit) × (at + 4 ≤ length (now head)) ⌝ }
     ensures { λ r. ⌜ r ≡ framed (now (head .entry)) at ⌝ }
 {
     let letter = letter_of(wire::wide(head[at]) as usize);
     !(letter == 0) & (head[at + 1] == 1) & (head[at + 2] == letter) & (head[at + 3] == 0)
+}
+
+// The field of the table whose code stands at `at`.
+fn known_at(order: Order, head: &[u8], end: usize, at: usize) -> Element
+    requires { ⌜ Known (now head) end at ⌝ }
+    ensures { λ r. ⌜ r ≡ knownAt order (now (head .entry)) end at ⌝ }
+{
+    if end < at + 4 {
+        return Element::Bad;
+    }
+    if !is_framed(head, at) {
+        return Element::Bad;
+    }
+    let code = wire::wide(head[at]) as usize;
+    value_at(order, head, end, code, letter_of(code), at + 4)
+}
+
+// The unknown field whose code stands at `at`: the signature behind it says how its value is passed over.
+fn unknown_at(order: Order, head: &[u8], end: usize, at: usize) -> Element
+    requires { ⌜ at < end ⌝ }
+    ensures { λ r. ⌜ r ≡ unknownAt order (now (head .entry)) end at ⌝ }
+{
+    match variant::skip(order, head, at + 1, end) {
+        Stop::At(stop) => Element::Skip(stop),
+        Stop::Bad => Element::Bad,
+    }
 }
 
 // The element behind the padding that starts at `from`.
@@ -171,14 +196,17 @@ fn element_at(order: Order, head: &[u8], end: usize, from: usize) -> Element
     ensures { λ r. ⌜ r ≡ elementAt order (now (head .entry)) end from ⌝ }
 {
     let at = wire::round_up_8(from);
-    if end < at + 4 {
+    if end <= at {
         return Element::Bad;
     }
-    if !(wire::is_zero(head, from, at) & is_framed(head, at)) {
+    if !wire::is_zero(head, from, at) {
         return Element::Bad;
     }
     let code = wire::wide(head[at]) as usize;
-    value_at(order, head, end, code, letter_of(code), at + 4)
+    if code < CODE_LIMIT {
+        return known_at(order, head, end, at);
+    }
+    unknown_at(order, head, end, at)
 }
 
 // All elements, in one pass.
@@ -196,6 +224,9 @@ fn walk_all(head: &[u8], end: usize) -> Found
                     good: false,
                     places,
                 };
+            }
+            Element::Skip(stop) => {
+                from = stop;
             }
             Element::At {
                 code,

@@ -9,8 +9,6 @@ element-at-spec =
     (tie.spec
     (λ c κs. search elements)
     (λ c. search elements)
-    (λ c. search elements)
-    (λ c κs. search elements)
     (λ c κs. search elements)
     (λ c. search elements)
     (λ c. search elements)

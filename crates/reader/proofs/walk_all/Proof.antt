@@ -29,4 +29,7 @@ walk-all-spec =
     (λ c. search walking)
     (λ c. search walking)
     (λ c. search walking)
+    (λ c. search walking)
+    (λ c. search walking)
+    (λ c. search walking)
     (λ c. search walking))
