@@ -27,18 +27,19 @@ use Rattle.header.specs.Contracts.{ValuesFit}
 
 -- ---- where an element stands
 
--- a known field: its code is one of the table's, and its value lies behind `from` and stops before `end`
+-- a known field: its code is below the limit, and its value lies behind `from` and stops at `end` at the latest
 pub record Stands (end from code at len stop : ℕ) : Type 0 where
   pub known : code < codeLimit
   pub above : from < at
   pub inside : at + len ≤ stop
   pub ends : stop ≤ end
 
--- an unknown one
+-- an unknown field: it stops behind `from`, and at `end` at the latest
 pub record Passes (end from stop : ℕ) : Type 0 where
   pub above : from < stop
   pub ends : stop ≤ end
 
+-- one or the other, of any element
 abbrev Placed : ℕ → ℕ → Element → Type 0
 Placed end from (At c a l s) = Stands end from c a l s
 Placed end from (Skip s) = Passes end from s

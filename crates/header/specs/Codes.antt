@@ -55,7 +55,7 @@ signatureCode = 8
 abbrev pub descriptorsCode : ℕ
 descriptorsCode = 9
 
--- every field's code is below this number, and 0 is no field's
+-- every known field's code is below this number, and 0 is no field's; from here on fields are unknown (rule 2.13)
 abbrev pub codeLimit : ℕ
 codeLimit = 10
 

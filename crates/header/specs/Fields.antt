@@ -59,15 +59,15 @@ framed h at =
     && eqb (getD h (at + 2) 0) (letterOf (getD h at 0))
     && eqb (getD h (at + 3) 0) 0
 
--- a field of the table, whose code stands at `at` (rule 2.5); code 0 is framed by nothing
+-- a known field, whose code stands at `at` (rule 2.5); 0 is no field's code, and has no letter to be framed with (rule 2.8)
 unfoldable pub knownAt : Order → List ℕ → ℕ → ℕ → Element
 knownAt o h end at = cond (framed h at) (valueAt o h end (getD h at 0) (letterOf (getD h at 0)) (at + 4)) Bad
 
--- an unknown field, whose code stands at `at`: its variant is walked by its signature, from the length of that on, and passed over (rule 2.13)
+-- an unknown field, whose code stands at `at`: behind it comes a variant, which is walked by its signature and passed over (rule 2.13)
 unfoldable pub unknownAt : Order → List ℕ → ℕ → ℕ → Element
 unknownAt o h end at = elim (skipped o h (at + 1) end) [ stop.Bad ↦ Bad | stop.At to ↦ Skip to ]
 
--- a field by its code: those from the limit on are unknown (rules 2.5 and 2.13)
+-- a field by its code: from the limit on it is unknown (rules 2.5 and 2.13)
 abbrev pub byCode : Order → List ℕ → ℕ → ℕ → Element
 byCode o h end at = cond (ltb (getD h at 0) codeLimit) (knownAt o h end at) (unknownAt o h end at)
 

@@ -31,7 +31,7 @@ pub const ERROR: u8 = 3;
 
 pub const SIGNAL: u8 = 4;
 
-// The codes of the fields; each is below CODE_LIMIT, and 0 is no field's.
+// The codes of the known fields; each is below CODE_LIMIT, and 0 is no field's.
 pub const PATH_CODE: usize = 1;
 
 pub const INTERFACE_CODE: usize = 2;

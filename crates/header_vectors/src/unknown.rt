@@ -44,6 +44,9 @@ fn codes(big: bool) {
     wider(b"9, u 7", big, b"\x09\x01u\0\x07\0\0\0", 52, 0, 0);
     wider(b"0, u 7", big, b"\0\x01u\0\x07\0\0\0", 52, 0, 0);
     plain(b"10 twice", big, b"\x0a\x01y\0a\0\0\0\x0a\x01y\0b");
+}
+
+fn several(big: bool) {
     plain(b"9 twice", big, b"\x09\x01u\0abcd\x09\x01u\0abcd");
     plain(b"10, then 9", big, b"\x0a\x01y\0a\0\0\0\x09\x01u\0abcd");
     plain(
@@ -61,6 +64,9 @@ fn signatures(big: bool) {
     plain(b"10, signature uu", big, b"\x0a\x02uu\0\0\0\0abcdabcd");
     plain(b"10, signature z", big, b"\x0a\x01z\0\0\0\0\0");
     plain(b"10, signature a", big, b"\x0a\x01a\0\0\0\0\0");
+}
+
+fn more_signatures(big: bool) {
     plain(b"10, signature ()", big, b"\x0a\x02()\0\0\0\0");
     plain(b"10, signature {sv}", big, b"\x0a\x04{sv}\0\0");
     plain(b"10, 1 behind the signature", big, b"\x0a\x01u\x01abcd");
@@ -79,6 +85,9 @@ fn numbers(big: bool) {
         0,
         0,
     );
+}
+
+fn alignments(big: bool) {
     plain(b"10, n", big, b"\x0a\x01n\0ab");
     plain(b"10, t behind padding", big, b"\x0a\x01t\0\0\0\0\0abcdefgh");
     plain(
@@ -91,6 +100,9 @@ fn numbers(big: bool) {
         big,
         b"\x0a\x01t\0\0\0\0\0\0\0\0\0",
     );
+}
+
+fn more_values(big: bool) {
     plain(
         b"10, (ynqiuxtdh)",
         big,
@@ -113,16 +125,25 @@ fn texts(big: bool) {
     valued(b"10, s hello, 1 behind it", big, b's', 5, b"hello\x01");
     valued(b"10, s, zero past the array", big, b's', 6, b"hello\0");
     valued(b"10, s with a zero inside", big, b's', 5, b"he\0lo\0");
+}
+
+fn shortest_forms(big: bool) {
     valued(b"10, s c2 80", big, b's', 2, b"\xc2\x80\0");
     valued(b"10, s c0 80", big, b's', 2, b"\xc0\x80\0");
     valued(b"10, s c2", big, b's', 1, b"\xc2\0");
     valued(b"10, s e0 a0 80", big, b's', 3, b"\xe0\xa0\x80\0");
     valued(b"10, s e0 9f bf", big, b's', 3, b"\xe0\x9f\xbf\0");
+}
+
+fn code_points(big: bool) {
     valued(b"10, s ed 9f bf", big, b's', 3, b"\xed\x9f\xbf\0");
     valued(b"10, s ed a0 80", big, b's', 3, b"\xed\xa0\x80\0");
     valued(b"10, s ef bf be", big, b's', 3, b"\xef\xbf\xbe\0");
     valued(b"10, s f4 8f bf bf", big, b's', 4, b"\xf4\x8f\xbf\xbf\0");
     valued(b"10, s f4 90 80 80", big, b's', 4, b"\xf4\x90\x80\x80\0");
+}
+
+fn paths_and_signatures(big: bool) {
     valued(b"10, o /a", big, b'o', 2, b"/a\0");
     valued(b"10, o a", big, b'o', 1, b"a\0");
     plain(b"10, g ay", big, b"\x0a\x01g\0\x02ay\0");
@@ -135,10 +156,16 @@ fn arrays(big: bool) {
     array(b"10, at empty, no padding", big, b't', 0, b"");
     array(b"10, ay of 2", big, b'y', 2, b"ab");
     array(b"10, ay of 3 with 2", big, b'y', 3, b"ab");
+}
+
+fn more_arrays(big: bool) {
     array(b"10, an of 4", big, b'n', 4, b"abcd");
     array(b"10, an of 3", big, b'n', 3, b"abc");
     array(b"10, ag y n", big, b'g', 6, b"\x01y\0\x01n\0");
     array(b"10, ag y n, length 5", big, b'g', 5, b"\x01y\0\x01n\0");
+}
+
+fn entries(big: bool) {
     let strings = b"\x0a\x02as\0\0\0\0\x0e\0\0\0\x01\0\0\0a\0\0\0\x01\0\0\0b\0";
     wider(b"10, as a b", big, strings, 56, 60, 68);
     let parted = b"\x0a\x02as\0\0\0\0\x0e\0\0\0\x01\0\0\0a\0\0\x01\x01\0\0\0b\0";
@@ -259,6 +286,9 @@ fn limits(big: bool) {
         31,
         b"\0\0\0\0\0\0\0\0",
     );
+}
+
+fn long_signatures(big: bool) {
     long(
         b"10, 32 arrays in the signature",
         big,
@@ -295,6 +325,9 @@ fn limits(big: bool) {
         b")",
         259,
     );
+}
+
+fn long_arrays(big: bool) {
     filled(b"10, ay of 1988, an array of 2032", big, 1988);
     filled(b"10, ay of 1989, an array of 2033", big, 1989);
     long(
@@ -308,12 +341,27 @@ fn limits(big: bool) {
     );
 }
 
+fn values(big: bool) {
+    numbers(big);
+    alignments(big);
+    more_values(big);
+    texts(big);
+    shortest_forms(big);
+    code_points(big);
+    paths_and_signatures(big);
+}
+
 pub fn all(big: bool) {
     codes(big);
+    several(big);
     signatures(big);
-    numbers(big);
-    texts(big);
+    more_signatures(big);
+    values(big);
     arrays(big);
+    more_arrays(big);
+    entries(big);
     faults(big);
     limits(big);
+    long_signatures(big);
+    long_arrays(big);
 }
