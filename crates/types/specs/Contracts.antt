@@ -1,11 +1,11 @@
 -- What a table of ends holds, in the terms of the definitions.
 use mathlib.Core.Path.{_≡_}
-use mathlib.Core.Bool.{true, false}
+use mathlib.Core.Bool.{Bool, true, false}
 use mathlib.Core.List.{List}
 use Prim.Native.Nat.{ℕ, _≤_, _<_}
 use lib.ListN.{length, drop, getD}
-use Rattle.types.specs.Letters.{closes}
-use Rattle.types.specs.Types.{behind}
+use Rattle.types.specs.Letters.{opens, closes}
+use Rattle.types.specs.Types.{behind, single}
 
 -- the type at i ends at `to`
 pub record EndAt (s : List ℕ) (i to : ℕ) : Type 0 where
@@ -26,3 +26,21 @@ pub record EndsFrom (s ends : List ℕ) (from : ℕ) : Type 0 where
   pub sized : length ends ≡ 256
   pub types : (i : ℕ) → from ≤ i → i < length s → closes (getD s i 0) ≡ false → EndAt s i (getD ends i 0)
   pub rows : (i : ℕ) → from ≤ i → i < length s → closes (getD s i 0) ≡ true → ClosedAt s i (getD ends i 0)
+
+-- whether the signature is one complete type, and its table
+pub record EndsOf (s ends : List ℕ) (r : Bool) : Type 0 where
+  pub is : r ≡ single s
+  pub table : EndsFrom s ends 0
+
+-- opening bytes stand in a row from i to r
+pub record OpenedAt (s : List ℕ) (i r : ℕ) : Type 0 where
+  pub low : i ≤ r
+  pub high : i ≤ length s → r ≤ length s
+  pub all : (j : ℕ) → i ≤ j → j < r → opens (getD s j 0) ≡ true
+
+-- closing bytes stand in a row from i to r, none or more, and no other behind them
+pub record ShutAt (s : List ℕ) (i r : ℕ) : Type 0 where
+  pub low : i ≤ r
+  pub high : i ≤ length s → r ≤ length s
+  pub all : (j : ℕ) → i ≤ j → j < r → closes (getD s j 0) ≡ true
+  pub end : closes (getD s r 0) ≡ false

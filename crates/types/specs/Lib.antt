@@ -1,3 +1,4 @@
 pub mod Letters
 pub mod Types
 pub mod Contracts
+pub mod Nest

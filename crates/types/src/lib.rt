@@ -1,1 +1,308 @@
 // The types of a signature: their letters, and where each of them ends.
+ghost use mathlib.Core.Path.{_≡_};
+ghost use mathlib.Core.Bool.{true, false};
+ghost use Prim.Native.Nat.{_+_, _≤_, _<_, min, max};
+ghost use lib.ListN.{length, getD};
+ghost use Rattle.wire.specs.Bytes.{byte};
+ghost use Rattle.signature.specs.Signature.{basic};
+ghost use Rattle.types.specs.Letters.{opens, closes, alignOf, widthOf};
+ghost use Rattle.types.specs.Contracts.{EndAt, EndsFrom, EndsOf, OpenedAt, ShutAt};
+ghost use Rattle.types.specs.Nest.{RowAt, EntryAt, NestAt, NestsFrom, NestsBehind};
+
+// Where a type or a row of types ends, and how many arrays and parentheses it opens in one another at most. A type that is not complete opens 33
+// arrays, which is one too many wherever it stands.
+pub struct Nest {
+    pub end: usize,
+    pub arrays: u8,
+    pub parens: u8,
+}
+
+// ---- letters
+
+pub fn is_basic(b: u8) -> bool
+    ensures { λ r. ⌜ r ≡ basic b ⌝ }
+{
+    (b == b'y')
+        | (b == b'b')
+        | (b == b'n')
+        | (b == b'q')
+        | (b == b'i')
+        | (b == b'u')
+        | (b == b'x')
+        | (b == b't')
+        | (b == b'd')
+        | (b == b's')
+        | (b == b'o')
+        | (b == b'g')
+        | (b == b'h')
+}
+
+pub fn align_of(b: u8) -> usize
+    ensures { λ r. ⌜ r ≡ alignOf b ⌝ }
+{
+    if (b == b'y') | (b == b'g') | (b == b'v') {
+        return 1;
+    }
+    if (b == b'n') | (b == b'q') {
+        return 2;
+    }
+    if (b == b'x') | (b == b't') | (b == b'd') | (b == b'(') | (b == b'{') {
+        return 8;
+    }
+    4
+}
+
+// How many bytes a number of the letter has, whose bytes may be any; 0 where its values are no numbers, or not all bytes are good.
+pub fn width_of(b: u8) -> usize
+    ensures { λ r. ⌜ r ≡ widthOf b ⌝ }
+{
+    if is_basic(b) {
+        if (b == b'b') | (b == b's') | (b == b'o') | (b == b'g') {
+            return 0;
+        }
+        return align_of(b);
+    }
+    0
+}
+
+// ---- one byte's entries
+
+// One more, up to 33, which is too many already.
+fn more(n: u8) -> u8
+    ensures { λ r. ⌜ r ≡ min (n + 1) 33 ⌝ }
+{
+    if n < 33 { n + 1 } else { 33 }
+}
+
+fn most(a: u8, b: u8) -> u8
+    ensures { λ r. ⌜ r ≡ max a b ⌝ }
+{
+    if a < b { b } else { a }
+}
+
+// The types in a row from i on, up to a closing byte or the end: each is hopped over.
+fn row_at(s: &[u8], ends: &[u8; 256], arrays: &[u8; 256], parens: &[u8; 256], i: usize) -> Nest
+    requires { ⌜ (i ≤ length (now s)) × NestsFrom (now s) (now ends) (now arrays) (now parens) i ⌝ }
+    ensures { λ r. ⌜ RowAt (now (s .entry)) i (r .end) (r .arrays) (r .parens) ⌝ }
+{
+    let mut j = i;
+    let mut a: u8 = 0;
+    let mut p: u8 = 0;
+    while j < s.len() {
+        let b = s[j];
+        if (b == b')') | (b == b'}') {
+            return Nest {
+                end: j,
+                arrays: a,
+                parens: p,
+            };
+        }
+        a = most(a, arrays[j]);
+        p = most(p, parens[j]);
+        j = wire::wide(ends[j]) as usize;
+    }
+    Nest {
+        end: j,
+        arrays: a,
+        parens: p,
+    }
+}
+
+// A bracket at i. A dict entry is a type only behind the `a` in front of it, so a brace is none here.
+fn bracket_at(s: &[u8], ends: &[u8; 256], arrays: &[u8; 256], parens: &[u8; 256], i: usize) -> Nest
+    requires { ⌜ NestsBehind (now s) (now ends) (now arrays) (now parens) i × (opens (getD (now s) i 0) ≡ true) ⌝ }
+    ensures { λ r. ⌜ NestAt (now (s .entry)) i (r .end) (r .arrays) (r .parens) ⌝ }
+{
+    let row = row_at(s, ends, arrays, parens, i + 1);
+    let e = row.end;
+    if s.len() <= e {
+        return Nest {
+            end: e,
+            arrays: 33,
+            parens: 0,
+        };
+    }
+    if (s[i] == b'(') & (s[e] == b')') & (i + 1 < e) {
+        return Nest {
+            end: e + 1,
+            arrays: row.arrays,
+            parens: more(row.parens),
+        };
+    }
+    Nest {
+        end: e + 1,
+        arrays: 33,
+        parens: 0,
+    }
+}
+
+// An `a` at i with a dict entry behind it: a basic letter and one type more. The table says where the brace ends.
+fn entry_at(s: &[u8], ends: &[u8; 256], arrays: &[u8; 256], parens: &[u8; 256], i: usize) -> Nest
+    requires { ⌜ NestsBehind (now s) (now ends) (now arrays) (now parens) i × EntryAt (now s) i ⌝ }
+    ensures { λ r. ⌜ NestAt (now (s .entry)) i (r .end) (r .arrays) (r .parens) ⌝ }
+{
+    let end = wire::wide(ends[i + 1]) as usize;
+    if !is_basic(wire::peek(s, i + 2)) {
+        return Nest {
+            end: end,
+            arrays: 33,
+            parens: 0,
+        };
+    }
+    let k = i + 3;
+    if wire::peek(s, wire::wide(ends[k]) as usize) != b'}' {
+        return Nest {
+            end: end,
+            arrays: 33,
+            parens: 0,
+        };
+    }
+    Nest {
+        end: end,
+        arrays: more(arrays[k]),
+        parens: parens[k],
+    }
+}
+
+// An `a` at i, which ends where the type behind it does.
+fn array_at(s: &[u8], ends: &[u8; 256], arrays: &[u8; 256], parens: &[u8; 256], i: usize) -> Nest
+    requires { ⌜ NestsBehind (now s) (now ends) (now arrays) (now parens) i × (getD (now s) i 0 ≡ byte "a") ⌝ }
+    ensures { λ r. ⌜ NestAt (now (s .entry)) i (r .end) (r .arrays) (r .parens) ⌝ }
+{
+    let k = i + 1;
+    if s.len() <= k {
+        return Nest {
+            end: k,
+            arrays: 33,
+            parens: 0,
+        };
+    }
+    let b = s[k];
+    if (b == b')') | (b == b'}') {
+        return Nest {
+            end: k,
+            arrays: 33,
+            parens: 0,
+        };
+    }
+    if b == b'{' {
+        return entry_at(s, ends, arrays, parens, i);
+    }
+    Nest {
+        end: wire::wide(ends[k]) as usize,
+        arrays: more(arrays[k]),
+        parens: parens[k],
+    }
+}
+
+// The end of the closing bytes in a row at i, by the table from i on; i where none stands.
+fn run_at(s: &[u8], ends: &[u8], i: usize) -> usize
+    requires { ⌜ EndsFrom (now s) (now ends) i ⌝ }
+    ensures { λ r. ⌜ ShutAt (now (s .entry)) i r ⌝ }
+{
+    if s.len() <= i {
+        return i;
+    }
+    let b = s[i];
+    if (b == b')') | (b == b'}') {
+        return wire::wide(ends[i]) as usize;
+    }
+    i
+}
+
+// What the tables are to hold for the byte at i, by what they hold behind it.
+fn nest_at(s: &[u8], ends: &[u8; 256], arrays: &[u8; 256], parens: &[u8; 256], i: usize) -> Nest
+    requires { ⌜ NestsBehind (now s) (now ends) (now arrays) (now parens) i ⌝ }
+    ensures { λ r. ⌜ NestAt (now (s .entry)) i (r .end) (r .arrays) (r .parens) ⌝ }
+{
+    let b = s[i];
+    if is_basic(b) | (b == b'v') {
+        return Nest {
+            end: i + 1,
+            arrays: 0,
+            parens: 0,
+        };
+    }
+    if b == b'a' {
+        return array_at(s, ends, arrays, parens, i);
+    }
+    if (b == b'(') | (b == b'{') {
+        return bracket_at(s, ends, arrays, parens, i);
+    }
+    if (b == b')') | (b == b'}') {
+        return Nest {
+            end: run_at(s, ends, i + 1),
+            arrays: 33,
+            parens: 0,
+        };
+    }
+    Nest {
+        end: i + 1,
+        arrays: 33,
+        parens: 0,
+    }
+}
+
+// ---- the table
+
+// One pass, from the last byte to the first. Behind the last one no type begins: the 33 there spares each `a` a test.
+fn fill(s: &[u8], ends: &mut [u8; 256]) -> bool
+    requires { ⌜ (length (now s) ≤ 255) × (length (now ends) ≡ 256) ⌝ }
+    ensures { λ r. ⌜ EndsOf (now (s .entry)) (now (ends .exit)) r ⌝ }
+{
+    let mut arrays = [33u8; 256];
+    let mut parens = [0u8; 256];
+    let mut i = s.len();
+    while 0 < i {
+        i -= 1;
+        let n = nest_at(s, ends, &arrays, &parens, i);
+        ends[i] = (n.end % 256) as u8;
+        arrays[i] = n.arrays;
+        parens[i] = n.parens;
+    }
+    (arrays[0] <= 32) & (parens[0] <= 32) & (s.len() <= wire::wide(ends[0]) as usize)
+}
+
+// Whether the signature is exactly one complete type; and the ends of its types, which the table holds whatever the answer is. Most signatures of
+// variants have one letter: they need no pass.
+pub fn ends_of(sig: &[u8], ends: &mut [u8; 256]) -> bool
+    requires { ⌜ (length (now sig) ≤ 255) × (length (now ends) ≡ 256) ⌝ }
+    ensures { λ r. ⌜ EndsOf (now (sig .entry)) (now (ends .exit)) r ⌝ }
+{
+    if sig.len() == 1 {
+        ends[0] = 1;
+        let b = sig[0];
+        return is_basic(b) | (b == b'v');
+    }
+    fill(sig, ends)
+}
+
+// The end of the type at i.
+pub fn hop(sig: &[u8], ends: &[u8], i: usize) -> usize
+    requires { ⌜ EndsFrom (now sig) (now ends) 0 × (i < length (now sig)) × (closes (getD (now sig) i 0) ≡ false) ⌝ }
+    ensures { λ r. ⌜ EndAt (now (sig .entry)) i r ⌝ }
+{
+    wire::wide(ends[i]) as usize
+}
+
+// Where the opening parentheses in a row at i end.
+pub fn openings(sig: &[u8], i: usize) -> usize
+    ensures { λ r. ⌜ OpenedAt (now (sig .entry)) i r ⌝ }
+{
+    let mut j = i;
+    while j < sig.len() {
+        if sig[j] != b'(' {
+            return j;
+        }
+        j += 1;
+    }
+    j
+}
+
+// Where the closing bytes in a row at i end.
+pub fn closed(sig: &[u8], ends: &[u8], i: usize) -> usize
+    requires { ⌜ EndsFrom (now sig) (now ends) 0 ⌝ }
+    ensures { λ r. ⌜ ShutAt (now (sig .entry)) i r ⌝ }
+{
+    run_at(sig, ends, i)
+}

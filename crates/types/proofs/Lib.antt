@@ -1,0 +1,6 @@
+pub mod Letters
+pub mod Behind
+mod Nesting
+mod Rows
+mod Entries
+mod Filling
