@@ -4,3 +4,4 @@ mod Nesting
 mod Rows
 mod Entries
 mod Filling
+pub mod Table

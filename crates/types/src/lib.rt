@@ -216,9 +216,10 @@ fn nest_at(s: &[u8], ends: &[u8; 256], arrays: &[u8; 256], parens: &[u8; 256], i
     ensures { λ r. ⌜ NestAt (now (s .entry)) i (r .end) (r .arrays) (r .parens) ⌝ }
 {
     let b = s[i];
+    let k = i + 1;
     if is_basic(b) | (b == b'v') {
         return Nest {
-            end: i + 1,
+            end: k,
             arrays: 0,
             parens: 0,
         };
@@ -230,14 +231,15 @@ fn nest_at(s: &[u8], ends: &[u8; 256], arrays: &[u8; 256], parens: &[u8; 256], i
         return bracket_at(s, ends, arrays, parens, i);
     }
     if (b == b')') | (b == b'}') {
+        let run = run_at(s, ends, k);
         return Nest {
-            end: run_at(s, ends, i + 1),
+            end: run,
             arrays: 33,
             parens: 0,
         };
     }
     Nest {
-        end: i + 1,
+        end: k,
         arrays: 33,
         parens: 0,
     }
