@@ -27,5 +27,8 @@ pub mod signature;
 pub mod stream;
 pub mod tally;
 pub mod tool;
+pub mod typed;
+pub mod utf8;
+pub mod value;
 pub mod wait_cases;
 pub mod wire;
