@@ -28,6 +28,7 @@ pub mod stream;
 pub mod tally;
 pub mod tool;
 pub mod typed;
+pub mod unknown_cases;
 pub mod utf8;
 pub mod value;
 pub mod wait_cases;
