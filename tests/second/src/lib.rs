@@ -33,3 +33,4 @@ pub mod utf8;
 pub mod value;
 pub mod wait_cases;
 pub mod wire;
+pub mod wrap;
