@@ -7,7 +7,8 @@ use crate::utf8::{self, Utf8Fault};
 use crate::wire::ByteOrder;
 use std::collections::BTreeSet;
 
-/// How many arrays, parentheses, braces and variants may be open at once.
+/// The most containers round a value, itself included: a dict entry is one beside its array, and the
+/// variant that every field is counts too.
 pub const MAX_OPEN: usize = 64;
 
 /// What can be wrong with a value or with the signature in front of it.

@@ -8,6 +8,7 @@ use second::guard::Guard;
 use second::name_cases;
 use second::name_forms::Form;
 use second::replay::replay;
+use second::unknown_cases;
 
 #[test]
 fn a_seed_means_one_capture() {
@@ -104,6 +105,20 @@ fn spelled_names() {
         }
     }
     assert_eq!(in_bad, [true; 256]);
+}
+
+/// Unknown header fields, good and broken ones, come in each kind of capture that is about messages.
+#[test]
+fn unknown_fields_in_each_mode() {
+    let pairs = (1..=60).flat_map(|seed| <[_; 2]>::from(generate_pair(seed, 120)));
+    let full = (1..=30).map(|seed| generate(seed, 1500, Mode::Full));
+    let mixed = (1..=20).map(|seed| generate(seed, 1200, Mode::Mixed));
+    for files in [pairs.collect::<Vec<_>>(), full.collect(), mixed.collect()] {
+        let mut coverage = Coverage::default();
+        files.iter().for_each(|file| coverage.add(file));
+        let never = coverage.never();
+        assert!(!never.iter().any(|case| unknown_cases::cases().contains(case)), "{never:?}");
+    }
 }
 
 #[test]

@@ -1,4 +1,4 @@
-//! How many arrays, parentheses, braces and variants may be open at once: 64 and one beyond.
+//! The limit of open containers, variants among them: 64 and one beyond.
 
 mod common;
 
