@@ -1,6 +1,6 @@
 //! Counting what a set of captures reaches: answers by call, the cases of 7, 8, 9 and 50, what
-//! names were refused for, what rules that name an interface did, and what became of waiting
-//! calls.
+//! names were refused for, what unknown header fields held, what rules that name an interface
+//! did, and what became of waiting calls.
 
 use crate::answer::{Answer, Receiver, ANSWERS_OF_CALLS};
 use crate::capture::{self, Call};
@@ -12,6 +12,7 @@ use crate::name_cases;
 use crate::name_forms::Form;
 use crate::replay::{run, Outcome};
 use crate::stream::Step;
+use crate::unknown_cases;
 use crate::wait_cases::{self, WaitCases};
 use std::collections::BTreeMap;
 
@@ -25,6 +26,7 @@ pub struct Coverage {
 
 fn case_of_fault(fault: HeadFault) -> Option<String> {
     match fault {
+        HeadFault::Malformed(Malformed::Unknown(_)) => None,
         HeadFault::Malformed(how) => Some(format!("7 {how:?}")),
         HeadFault::BadValue(code) => Some(format!("8 field {code}")),
         HeadFault::Missing(code) => Some(format!("9 field {code}")),
@@ -58,6 +60,7 @@ fn wanted_cases() -> Vec<String> {
     wanted.extend(waits.iter().map(|what| format!("wait {what}")));
     wanted.push("bad capture".to_string());
     wanted.extend(name_cases::cases());
+    wanted.extend(unknown_cases::cases());
     wanted.extend(interface_cases::CASES.iter().map(|case| case.to_string()));
     wanted.extend(wait_cases::CASES.iter().map(|case| case.to_string()));
     wanted
@@ -75,6 +78,12 @@ fn case_of_name(guard: &Guard, call: &Call, outcome: Outcome) -> Option<String> 
         }
         _ => None,
     }
+}
+
+/// What an unknown field had to do with a broken head.
+fn case_of_unknown(guard: &Guard, call: &Call, outcome: Outcome) -> Option<String> {
+    let (Call::Piece { peer, .. }, Outcome::Piece(judged)) = (call, outcome) else { return None };
+    unknown_cases::of_head(guard.peer(*peer)?.stream.head(), judged.fault?)
 }
 
 /// The message that a call is about to end, with its sender. It is read here as well, because
@@ -125,7 +134,9 @@ impl Coverage {
             self.count_waits(outcome, waits, guard.waits().len());
             self.count_cases(wait_cases.see(call, &outcome));
             self.count_cases(case_of_name(&guard, call, outcome));
+            self.count_cases(case_of_unknown(&guard, call, outcome));
             if let Some((sender, header)) = message {
+                self.count_cases(unknown_cases::of_message(&header));
                 self.count_interfaces(&guard, policy.as_ref().ok(), sender, &header, outcome);
             }
         }

@@ -3,6 +3,7 @@
 use crate::answer::Answer;
 use crate::names;
 use crate::signature::is_signature;
+use crate::value::{UnknownField, ValueFault, Walk};
 use crate::wire::{round_up_to_8, ByteOrder, FixedPart, FIXED_LENGTH};
 
 pub const PATH: u8 = 1;
@@ -14,6 +15,9 @@ pub const DESTINATION: u8 = 6;
 pub const SENDER: u8 = 7;
 pub const SIGNATURE: u8 = 8;
 pub const UNIX_FDS: u8 = 9;
+
+/// From here on no code has a rule of its own.
+pub const FIRST_UNKNOWN: u8 = 10;
 
 pub const METHOD_CALL: u8 = 1;
 pub const METHOD_RETURN: u8 = 2;
@@ -48,10 +52,11 @@ pub enum Malformed {
     NoZeroAfterValue,
     PaddingBetween,
     PaddingAfterArray,
+    Unknown(ValueFault),
 }
 
 impl Malformed {
-    /// All of them, so that a test can tell which it never met.
+    /// All but the faults of unknown fields, so that a test can tell which it never met.
     pub const ALL: [Malformed; 10] = [
         Malformed::PastTheArray,
         Malformed::EndsInPadding,
@@ -127,14 +132,23 @@ pub struct Header {
     pub member: Option<String>,
     pub destination: Option<String>,
     pub reply_serial: Option<u32>,
+    /// Fields that were passed over, for people and tests; the guard asks nothing of them.
+    pub unknown: Vec<UnknownField>,
 }
 
 impl Header {
     /// Reads a whole head. All elements are tested for shape (7) before any value
     /// is tested (8), and all values before the required fields (9).
     pub fn read(head: &[u8]) -> Result<Header, HeadFault> {
+        Header::read_forgiving(head, None)
+    }
+
+    /// Reads a head as if one fault of unknown fields were none, for tests that ask whether it
+    /// is the only one.
+    pub fn read_forgiving(head: &[u8], forgiven: Option<ValueFault>) -> Result<Header, HeadFault> {
         let fixed = FixedPart::read(head)?;
-        let elements = read_array(head, &fixed).map_err(HeadFault::Malformed)?;
+        let Fields { elements, unknown } =
+            read_array(head, &fixed, forgiven).map_err(HeadFault::Malformed)?;
         for element in &elements {
             if !obeys_its_rule(element) {
                 return Err(HeadFault::BadValue(element.code));
@@ -152,6 +166,7 @@ impl Header {
             member: text_of(&elements, MEMBER),
             destination: text_of(&elements, DESTINATION),
             reply_serial: number_of(&elements, REPLY_SERIAL),
+            unknown,
         })
     }
 }
@@ -160,7 +175,7 @@ impl Header {
 /// was a number, or where nothing breaks its rule.
 pub fn bad_text(head: &[u8]) -> Option<(u8, Vec<u8>)> {
     let fixed = FixedPart::read(head).ok()?;
-    let elements = read_array(head, &fixed).ok()?;
+    let Fields { elements, .. } = read_array(head, &fixed, None).ok()?;
     let bad = elements.into_iter().find(|element| !obeys_its_rule(element))?;
     match bad.value {
         Value::Text(text) => Some((bad.code, text)),
@@ -168,18 +183,56 @@ pub fn bad_text(head: &[u8]) -> Option<(u8, Vec<u8>)> {
     }
 }
 
-fn read_array(head: &[u8], fixed: &FixedPart) -> Result<Vec<Element>, Malformed> {
-    let end = FIXED_LENGTH + fixed.array_length as usize;
-    let array = &head[..end];
-    let mut elements: Vec<Element> = Vec::new();
-    let mut at = FIXED_LENGTH;
-    while at < end {
-        let element = read_element(fixed.order, array, at)?;
-        if elements.iter().any(|earlier| earlier.code == element.code) {
+/// What the signature field of a head says of its body.
+pub fn signature_of(head: &[u8]) -> Option<Vec<u8>> {
+    let fixed = FixedPart::read(head).ok()?;
+    let Fields { elements, .. } = read_array(head, &fixed, None).ok()?;
+    text_of(&elements, SIGNATURE).map(String::into_bytes)
+}
+
+/// The unknown fields of a head whose array has no fault, whatever its values are.
+pub fn unknown_fields(head: &[u8]) -> Vec<UnknownField> {
+    let read = |fixed: FixedPart| read_array(head, &fixed, None).ok();
+    FixedPart::read(head).ok().and_then(read).map_or(Vec::new(), |fields| fields.unknown)
+}
+
+/// The elements of a field array, known and unknown ones apart.
+#[derive(Default)]
+struct Fields {
+    elements: Vec<Element>,
+    unknown: Vec<UnknownField>,
+}
+
+impl Fields {
+    /// Adds the known element at `at` and says where it ends.
+    fn read_known(&mut self, order: ByteOrder, array: &[u8], at: usize) -> Result<usize, Malformed> {
+        let element = read_element(order, array, at)?;
+        if self.elements.iter().any(|earlier| earlier.code == element.code) {
             return Err(Malformed::RepeatedCode);
         }
-        at = element.end;
-        elements.push(element);
+        let end = element.end;
+        self.elements.push(element);
+        Ok(end)
+    }
+
+    /// Adds the unknown element that a walk goes through. Its code may have come before.
+    fn read_unknown(&mut self, walk: Walk, at: usize) -> Result<usize, Malformed> {
+        let (field, end) = walk.field(at).map_err(Malformed::Unknown)?;
+        self.unknown.push(field);
+        Ok(end)
+    }
+}
+
+fn read_array(head: &[u8], fixed: &FixedPart, forgiven: Option<ValueFault>) -> Result<Fields, Malformed> {
+    let end = FIXED_LENGTH + fixed.array_length as usize;
+    let array = &head[..end];
+    let mut fields = Fields::default();
+    let mut at = FIXED_LENGTH;
+    while at < end {
+        at = match array[at] {
+            FIRST_UNKNOWN.. => fields.read_unknown(Walk::new(fixed.order, array, forgiven), at)?,
+            _ => fields.read_known(fixed.order, array, at)?,
+        };
         if at < end {
             at = skip_padding(array, at)?;
         }
@@ -187,7 +240,7 @@ fn read_array(head: &[u8], fixed: &FixedPart) -> Result<Vec<Element>, Malformed>
     if head[end..].iter().any(|&byte| byte != 0) {
         return Err(Malformed::PaddingAfterArray);
     }
-    Ok(elements)
+    Ok(fields)
 }
 
 /// Where the next element starts. The array's length leaves out the padding after

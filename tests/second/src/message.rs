@@ -4,12 +4,17 @@ use crate::header::{
     letter_of, DESTINATION, ERROR, ERROR_NAME, INTERFACE, MEMBER, METHOD_CALL, METHOD_RETURN, PATH,
     REPLY_SERIAL, SENDER, SIGNAL, SIGNATURE, UNIX_FDS,
 };
+use crate::typed::{Typed, Writer};
 use crate::wire::{ByteOrder, FIXED_LENGTH};
 
 #[derive(Clone, Debug, PartialEq, Eq)]
 pub enum FieldValue {
     Text(Vec<u8>),
     Number(u32),
+    /// A value of any type; the letter means nothing then.
+    Variant(Typed),
+    /// All bytes behind the code, whatever they are; nor does it here.
+    Raw(Vec<u8>),
 }
 
 #[derive(Clone, Debug, PartialEq, Eq)]
@@ -83,6 +88,17 @@ impl Message {
         self
     }
 
+    /// A field with a variant of any type, good or broken.
+    pub fn variant(mut self, code: u8, variant: Typed) -> Message {
+        self.fields.push(Field { code, letter: 0, value: FieldValue::Variant(variant) });
+        self
+    }
+
+    pub fn raw(mut self, code: u8, rest: &[u8]) -> Message {
+        self.fields.push(Field { code, letter: 0, value: FieldValue::Raw(rest.to_vec()) });
+        self
+    }
+
     pub fn to(self, destination: &str) -> Message {
         self.text(DESTINATION, destination)
     }
@@ -146,19 +162,34 @@ fn pad_to_8(bytes: &mut Vec<u8>) {
     }
 }
 
-/// The letter decides how a text's length is written; a wrong letter is kept as it is.
 fn write_field(bytes: &mut Vec<u8>, order: ByteOrder, field: &Field) {
-    bytes.extend([field.code, 1, field.letter, 0]);
     match &field.value {
-        FieldValue::Number(number) => bytes.extend(order.write_u32(*number)),
+        FieldValue::Number(number) => {
+            bytes.extend([field.code, 1, field.letter, 0]);
+            bytes.extend(order.write_u32(*number));
+        }
         FieldValue::Text(text) => {
-            if field.letter == b'g' {
-                bytes.push(text.len() as u8);
-            } else {
-                bytes.extend(order.write_u32(text.len() as u32));
-            }
-            bytes.extend(text);
-            bytes.push(0);
+            bytes.extend([field.code, 1, field.letter, 0]);
+            write_text(bytes, order, field.letter, text);
+        }
+        FieldValue::Variant(variant) => {
+            // A field begins at a multiple of 8, so its bytes are the same wherever it stands.
+            bytes.extend(Writer::field(order, field.code, variant).bytes);
+        }
+        FieldValue::Raw(rest) => {
+            bytes.push(field.code);
+            bytes.extend(rest);
         }
     }
+}
+
+/// The letter decides how a text's length is written; a wrong letter is kept as it is.
+fn write_text(bytes: &mut Vec<u8>, order: ByteOrder, letter: u8, text: &[u8]) {
+    if letter == b'g' {
+        bytes.push(text.len() as u8);
+    } else {
+        bytes.extend(order.write_u32(text.len() as u32));
+    }
+    bytes.extend(text);
+    bytes.push(0);
 }

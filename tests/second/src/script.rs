@@ -148,6 +148,20 @@ fn parse_pieces(peer: u32, words: &[&str], files: FileReader) -> Result<Vec<Call
     }
 }
 
+/// CODE:SIGNATURE:DIGITS, the digits being all bytes behind the zero that ends the signature.
+fn parse_field(message: Message, value: &str) -> Result<Message, String> {
+    let parts: Vec<&str> = value.split(':').collect();
+    let [code, signature, digits] = parts[..] else {
+        return Err(format!("{value} is not CODE:SIGNATURE:DIGITS"));
+    };
+    let Ok(length) = u8::try_from(signature.len()) else {
+        return Err("a signature has at most 255 bytes".to_string());
+    };
+    let value = parse_hex(digits)?;
+    let rest = [&[length], signature.as_bytes(), &[0], &value].concat();
+    Ok(message.raw(parse_byte(code)?, &rest))
+}
+
 /// Header fields are written in the order in which the script gives them.
 fn parse_message(kind: &str, words: &[&str]) -> Result<Message, String> {
     let message_type = match kind {
@@ -184,6 +198,7 @@ fn add_part(message: Message, key: &str, value: &str) -> Result<Message, String>
         return Ok(message.text(code, value));
     }
     Ok(match (key, value) {
+        ("field", _) => parse_field(message, value)?,
         ("serial", _) => Message { serial: parse_number(value)?, ..message },
         ("flags", _) => message.flags(parse_byte(value)?),
         ("version", _) => Message { version: parse_byte(value)?, ..message },

@@ -13,17 +13,22 @@ struct Open {
 }
 
 pub fn is_signature(text: &[u8]) -> bool {
+    types_of(text).is_some()
+}
+
+/// The complete types that stand in a row; none where the text is no signature.
+pub fn types_of(text: &[u8]) -> Option<Vec<&[u8]>> {
     if text.len() > MAX_SIGNATURE_LENGTH {
-        return false;
+        return None;
     }
+    let mut types = Vec::new();
     let mut rest = text;
     while !rest.is_empty() {
-        match after_type(rest, Open::default()) {
-            Some(left) => rest = left,
-            None => return false,
-        }
+        let left = after_type(rest, Open::default())?;
+        types.push(&rest[..rest.len() - left.len()]);
+        rest = left;
     }
-    true
+    Some(types)
 }
 
 /// What is left of `text` behind the one complete type at its start.

@@ -4,9 +4,11 @@ use second::capture;
 use second::coverage::Coverage;
 use second::generate::random::Random;
 use second::generate::{generate, generate_pair, spelling, Mode};
+use second::guard::Guard;
 use second::name_cases;
 use second::name_forms::Form;
 use second::replay::replay;
+use second::unknown_cases;
 
 #[test]
 fn a_seed_means_one_capture() {
@@ -57,17 +59,25 @@ fn pieces_may_be_cut_anywhere() {
     assert!(differently_cut > 30);
 }
 
-#[test]
-fn a_full_guard() {
-    let reading = capture::read(&generate(1, 1, Mode::Full));
+/// The guard at the end of a capture.
+fn guard_after(file: &[u8]) -> Guard {
+    let reading = capture::read(file);
     let policy = second::replay::lent_policy(&reading.capture.image);
-    let mut guard = second::guard::Guard::default();
+    let mut guard = Guard::default();
     for call in &reading.capture.calls {
         second::replay::run(&mut guard, policy.as_ref(), call);
     }
-    assert_eq!(guard.peers().count(), 16);
-    assert_eq!(guard.waits().len(), 256);
-    for peer in guard.peers() {
+    guard
+}
+
+/// Most captures end with a talk, which makes room again; a few end with a guard just filled.
+#[test]
+fn a_full_guard() {
+    let is_full = |guard: &Guard| guard.peers().count() == 16 && guard.waits().len() == 256;
+    let full: Vec<Guard> =
+        (1..=30).map(|seed| guard_after(&generate(seed, 1, Mode::Full))).filter(is_full).collect();
+    assert!(!full.is_empty());
+    for peer in full.iter().flat_map(Guard::peers) {
         assert_eq!((peer.gids.len(), peer.names.len(), peer.stream.count()), (16, 4, 2_047));
     }
 }
@@ -95,6 +105,20 @@ fn spelled_names() {
         }
     }
     assert_eq!(in_bad, [true; 256]);
+}
+
+/// Unknown header fields, good and broken ones, come in each kind of capture that is about messages.
+#[test]
+fn unknown_fields_in_each_mode() {
+    let pairs = (1..=60).flat_map(|seed| <[_; 2]>::from(generate_pair(seed, 120)));
+    let full = (1..=30).map(|seed| generate(seed, 1500, Mode::Full));
+    let mixed = (1..=20).map(|seed| generate(seed, 1200, Mode::Mixed));
+    for files in [pairs.collect::<Vec<_>>(), full.collect(), mixed.collect()] {
+        let mut coverage = Coverage::default();
+        files.iter().for_each(|file| coverage.add(file));
+        let never = coverage.never();
+        assert!(!never.iter().any(|case| unknown_cases::cases().contains(case)), "{never:?}");
+    }
 }
 
 #[test]

@@ -2,29 +2,10 @@
 
 mod common;
 
-use common::{Bench, OPEN};
+use common::{judge, Bench, OPEN};
 use second::header::{HeadFault, Malformed, *};
 use second::message::{FieldValue, Message};
 use second::wire::ByteOrder;
-
-/// Feeds the bytes to a fresh peer at once and byte by byte; both must agree.
-fn judge(bytes: &[u8]) -> (u32, usize, Option<HeadFault>) {
-    let whole = Bench::with_peers(OPEN, 1).piece(1, bytes);
-    let mut bench = Bench::with_peers(OPEN, 1);
-    let mut taken = 0;
-    for byte in bytes {
-        let step = bench.piece(1, std::slice::from_ref(byte));
-        taken += step.taken;
-        if step.answer.number() != 10 {
-            assert_eq!((whole.answer, whole.taken, whole.receiver), (step.answer, taken, step.receiver));
-        }
-        if taken == whole.taken {
-            break;
-        }
-    }
-    assert_eq!(taken, whole.taken);
-    (whole.answer.number(), whole.taken, whole.fault)
-}
 
 fn breaks_with(bytes: &[u8], fault: HeadFault, taken: usize) {
     assert_eq!(judge(bytes), (fault.answer().number(), taken, Some(fault)));
@@ -134,9 +115,7 @@ fn an_array_of_one_path_lacks_the_member() {
 
 #[test]
 fn malformed_elements() {
-    for code in [0, 10, 11, 255] {
-        malformed(&c_with(32, code), Malformed::Code, 48);
-    }
+    malformed(&c_with(32, 0), Malformed::Code, 48);
     malformed(&c_with(33, 0), Malformed::SignatureLength, 48);
     malformed(&c_with(33, 2), Malformed::SignatureLength, 48);
     malformed(&c_with(34, b'o'), Malformed::WrongLetter, 48);

@@ -145,6 +145,7 @@ fn message_of(seed: usize, at: usize) -> Header {
         member: one_of(at + 2, MEMBERS),
         destination: None,
         reply_serial: None,
+        unknown: Vec::new(),
     }
 }
 

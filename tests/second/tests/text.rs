@@ -146,6 +146,20 @@ fn script_messages() {
 }
 
 #[test]
+fn script_fields() {
+    let text = "image hex 00
+        piece 1 message call order=big path=/ field=10:at:0000000000000000000000 member=M field=255::
+        piece 1 message 5 field=0x0b:a{sv}:ff";
+    let capture = compile(text).expect("good script");
+    let empty = [b"\x02at".as_slice(), &[0; 12]].concat();
+    let first = Message::new(1, 1).order(ByteOrder::Big).text(1, "/").raw(10, &empty).text(3, "M");
+    let second = Message::new(5, 1).raw(11, b"\x05a{sv}\0\xff");
+    let pieces = [first.raw(255, &[0, 0]).bytes(), second.bytes()];
+    let calls = pieces.into_iter().map(|bytes| Call::Piece { peer: 1, bytes }).collect();
+    assert_eq!(capture, Capture { image: vec![0], calls });
+}
+
+#[test]
 fn captures_as_scripts() {
     use second::generate::{generate, Mode};
     for mode in [Mode::Mixed, Mode::BadImage] {
@@ -183,6 +197,11 @@ fn script_faults_name_their_line() {
         "piece 1 message call serial",
         "piece 1 message call color=red",
         "piece 1 message call order=middle",
+        "piece 1 message call field=10",
+        "piece 1 message call field=10:u",
+        "piece 1 message call field=10:u:0:",
+        "piece 1 message call field=10:u:0",
+        "piece 1 message call field=256:u:00000000",
         "piece 1 empty cut=0",
         "disconnect",
     ];

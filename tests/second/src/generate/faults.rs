@@ -1,8 +1,8 @@
 //! Breaking good messages, in every way that answers 1 to 9 know.
 
 use super::random::Random;
-use super::vocabulary;
-use crate::header::{letter_of, required_fields, REPLY_SERIAL, SIGNATURE, UNIX_FDS};
+use super::{unknown, value_faults, vocabulary};
+use crate::header::{letter_of, required_fields, FIRST_UNKNOWN, REPLY_SERIAL, SIGNATURE, UNIX_FDS};
 use crate::message::{Marshalled, Message};
 use crate::wire::{ByteOrder, MAX_MESSAGE_LENGTH};
 
@@ -35,6 +35,17 @@ pub fn broken(random: &mut Random, message: &Message) -> Vec<u8> {
     }
 }
 
+/// The message with a fault in an unknown field. Sometimes a value is bad as well, or a required
+/// field is missing: the first fault wins.
+pub fn with_unknown_field(random: &mut Random, message: &Message) -> Message {
+    let message = match random.below(10) {
+        0 => with_bad_value(random, message.clone()),
+        1 => without_required_field(random, message.clone()),
+        _ => message.clone(),
+    };
+    value_faults::with_fault(random, &message)
+}
+
 fn put_u32(order: ByteOrder, bytes: &mut [u8], at: usize, value: u32) {
     bytes[at..at + 4].copy_from_slice(&order.write_u32(value));
 }
@@ -53,9 +64,10 @@ fn break_fixed_part(random: &mut Random, order: ByteOrder, bytes: &mut [u8]) {
     }
 }
 
-/// Breaks the shape of the array. A message without fields gets one first.
+/// Breaks the shape of the array at a known field. A message without one gets it first.
 fn break_array(random: &mut Random, message: &Message) -> Marshalled {
-    let message = if message.fields.is_empty() { message.clone().sender(":1.1") } else { message.clone() };
+    let has_known = message.fields.iter().any(|field| field.code < FIRST_UNKNOWN);
+    let message = if has_known { message.clone() } else { message.clone().sender(":1.1") };
     if random.chance(12) {
         return with_repeated_field(random, message).marshal();
     }
@@ -64,7 +76,9 @@ fn break_array(random: &mut Random, message: &Message) -> Marshalled {
         shift_array_length(random, message.order, &mut built);
         return built;
     }
-    let index = random.below(built.fields.len());
+    let is_known = |index: &usize| message.fields[*index].code < FIRST_UNKNOWN;
+    let known: Vec<usize> = (0..message.fields.len()).filter(is_known).collect();
+    let index = random.pick(&known);
     break_element(random, message.order, &mut built, index);
     built
 }
@@ -169,7 +183,8 @@ fn with_length_into_padding(random: &mut Random, message: &Message) -> Vec<u8> {
     for index in 0..built.fields.len().saturating_sub(1) {
         let (start, end, next) =
             (built.fields[index].start, built.fields[index].end, built.fields[index + 1].start);
-        if built.bytes[start + 2] != b'u' && end < next {
+        let is_text = is_known_text(&built.bytes[start..]);
+        if is_text && end < next {
             let more = random.between(1, next - end) as u32;
             if built.bytes[start + 2] == b'g' {
                 built.bytes[start + 4] = built.bytes[start + 4].saturating_add(more as u8);
@@ -183,11 +198,15 @@ fn with_length_into_padding(random: &mut Random, message: &Message) -> Vec<u8> {
     built.bytes
 }
 
+fn is_known_text(field: &[u8]) -> bool {
+    field[0] < FIRST_UNKNOWN && field[2] != b'u'
+}
+
 fn a_text_field(random: &mut Random, built: &Marshalled) -> Option<(usize, usize)> {
     let texts: Vec<(usize, usize)> = built
         .fields
         .iter()
-        .filter(|field| built.bytes[field.start + 2] != b'u')
+        .filter(|field| is_known_text(&built.bytes[field.start..]))
         .map(|field| (field.start, field.end))
         .collect();
     if texts.is_empty() {
@@ -204,6 +223,9 @@ fn without_required_field(random: &mut Random, mut message: Message) -> Message 
         message.fields.retain(|field| field.code != missing);
         if random.chance(20) {
             message = message.number(UNIX_FDS, 1);
+        }
+        if random.chance(20) {
+            message = unknown::add(random, message);
         }
     }
     message

@@ -1,7 +1,7 @@
 //! Random messages from one peer to the others, most of them good.
 
 use super::random::Random;
-use super::{spelling, vocabulary};
+use super::{spelling, unknown, vocabulary};
 use crate::guard::{Guard, Wait};
 use crate::header::{
     DESTINATION, ERROR, ERROR_NAME, INTERFACE, MEMBER, METHOD_CALL, METHOD_RETURN, PATH, REPLY_SERIAL, SIGNAL,
@@ -9,6 +9,7 @@ use crate::header::{
 use crate::message::Message;
 use crate::name_forms::Form;
 use crate::names::{unique_name_of, BUS_NAME};
+use crate::typed::Typed;
 use crate::wire::{ByteOrder, MAX_ARRAY_LENGTH, NO_REPLY_EXPECTED};
 
 /// Well-formed destinations that are nobody's, some of them close to a peer's name.
@@ -150,6 +151,9 @@ pub fn dress(random: &mut Random, mut message: Message) -> Message {
     if random.chance(30) {
         random.shuffle(&mut message.fields);
     }
+    if random.chance(25) {
+        message = unknown::add(random, message);
+    }
     let flags = match random.below(10) {
         0..=5 => 0,
         6..=7 => NO_REPLY_EXPECTED,
@@ -176,13 +180,18 @@ fn extra_field(random: &mut Random, message: Message, code: u8) -> Message {
     }
 }
 
-/// A call whose field array has exactly `array_length` bytes, by way of a long path.
+/// A call whose field array has exactly `array_length` bytes, by way of a long path or of a long
+/// string in an unknown field.
 pub fn with_array_length(random: &mut Random, array_length: usize) -> Message {
     let order = if random.chance(50) { ByteOrder::Little } else { ByteOrder::Big };
-    let path = |length: usize| vocabulary::longer("/", length);
-    let built =
-        |length: usize| Message::new(METHOD_CALL, 1).order(order).text(MEMBER, "M").text(PATH, &path(length));
-    built(array_length - 16 - 9)
+    let message = Message::new(METHOD_CALL, 1).order(order).text(MEMBER, "M");
+    match random.chance(35) {
+        true => message.text(PATH, &vocabulary::longer("/", array_length - 16 - 9)),
+        false => {
+            let text = Typed::text(b's', &vocabulary::longer("", array_length - 32 - 9));
+            message.text(PATH, "/").variant(unknown::code(random), Typed::variant(text))
+        }
+    }
 }
 
 /// Messages that stand at a limit or one beyond it.

@@ -10,6 +10,9 @@ pub mod random;
 pub mod spelling;
 mod split;
 mod talks;
+mod unknown;
+pub mod value_faults;
+pub mod values;
 mod vocabulary;
 mod world;
 

@@ -222,8 +222,12 @@ impl World {
             return messages::at_limit(&mut self.random).bytes();
         }
         let message = self.good_message(peer);
-        match self.random.chance(self.phase.faults) {
-            true => faults::broken(&mut self.random, &message),
+        if self.random.chance(self.phase.faults) {
+            return faults::broken(&mut self.random, &message);
+        }
+        // There are many ways to break an unknown field, and each is to come often.
+        match self.random.chance(self.phase.faults * 3 / 2) {
+            true => faults::with_unknown_field(&mut self.random, &message).bytes(),
             false => message.bytes(),
         }
     }

@@ -3,6 +3,7 @@
 
 use second::answer::{Answer, Receiver};
 use second::guard::{Guard, Judged};
+use second::header::HeadFault;
 use second::message::Message;
 use second::policy::{Gid, Policy, Uid};
 use second::{image, image_write, policy_text};
@@ -80,4 +81,23 @@ impl Bench {
     pub fn sends(&mut self, peer: u32, message: Message) -> u32 {
         self.send(peer, message).0
     }
+}
+
+/// Feeds the bytes to a fresh peer at once and byte by byte; both must agree.
+pub fn judge(bytes: &[u8]) -> (u32, usize, Option<HeadFault>) {
+    let whole = Bench::with_peers(OPEN, 1).piece(1, bytes);
+    let mut bench = Bench::with_peers(OPEN, 1);
+    let mut taken = 0;
+    for byte in bytes {
+        let step = bench.piece(1, std::slice::from_ref(byte));
+        taken += step.taken;
+        if step.answer.number() != 10 {
+            assert_eq!((whole.answer, whole.taken, whole.receiver), (step.answer, taken, step.receiver));
+        }
+        if taken == whole.taken {
+            break;
+        }
+    }
+    assert_eq!(taken, whole.taken);
+    (whole.answer.number(), whole.taken, whole.fault)
 }
