@@ -11,10 +11,10 @@ ghost use Rattle.types.specs.Nest.{RowAt, EntryAt, NestAt, NestsFrom, Ne
 
 // Where a type or a row of types ends, and how many arrays and parentheses it opens in one another at most. A type that is not complete opens 33
 // arrays, which is one too many wherever it stands.
-pub struct Nest {
-    pub end: usize,
-    pub arrays: u8,
-    pub parens: u8,
+struct Nest {
+    end: usize,
+    arrays: u8,
+    parens: u8,
 }
 
 // ---- letters
