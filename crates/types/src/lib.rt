@@ -4,7 +4,6 @@ ghost use mathlib.Core.Bool.{true, false};
 ghost use Prim.Native.Nat.{_+_, _≤_, _<_, min, max};
 ghost use lib.ListN.{length, getD};
 ghost use Rattle.wire.specs.Bytes.{byte};
-ghost use Rattle.signature.specs.Signature.{basic};
 ghost use Rattle.types.specs.Letters.{opens, closes, alignOf, widthOf};
 ghost use Rattle.types.specs.Contracts.{EndAt, EndsFrom, EndsOf, OpenedAt, ShutAt};
 ghost use Rattle.types.specs.Nest.{RowAt, EntryAt, NestAt, NestsFrom, NestsBehind};
@@ -14,24 +13,6 @@ ghost use Rattle.types.specs.Nest.{RowAt, EntryAt, NestAt, NestsFrom, Ne
 struct Nest(usize, u8, u8);
 
 // ---- letters
-
-pub fn is_basic(b: u8) -> bool
-    ensures { λ r. ⌜ r ≡ basic b ⌝ }
-{
-    (b == b'y')
-        | (b == b'b')
-        | (b == b'n')
-        | (b == b'q')
-        | (b == b'i')
-        | (b == b'u')
-        | (b == b'x')
-        | (b == b't')
-        | (b == b'd')
-        | (b == b's')
-        | (b == b'o')
-        | (b == b'g')
-        | (b == b'h')
-}
 
 pub fn align_of(b: u8) -> usize
     ensures { λ r. ⌜ r ≡ alignOf b ⌝ }
@@ -52,7 +33,7 @@ pub fn align_of(b: u8) -> usize
 pub fn width_of(b: u8) -> usize
     ensures { λ r. ⌜ r ≡ widthOf b ⌝ }
 {
-    if is_basic(b) {
+    if signature::is_basic(b) {
         if (b == b'b') | (b == b's') | (b == b'o') | (b == b'g') {
             return 0;
         }
@@ -118,7 +99,7 @@ fn entry_at(s: &[u8], ends: &[u8; 256], arrays: &[u8; 256], parens: &[u8; 256], 
     ensures { λ r. ⌜ NestAt (now (s .entry)) i (r .0) (r .1) (r .2) ⌝ }
 {
     let end = wire::wide(ends[i + 1]) as usize;
-    if !is_basic(wire::peek(s, i + 2)) {
+    if !signature::is_basic(wire::peek(s, i + 2)) {
         return Nest(end, 33, 0);
     }
     let k = i + 3;
@@ -169,7 +150,7 @@ fn nest_at(s: &[u8], ends: &[u8; 256], arrays: &[u8; 256], parens: &[u8; 256], i
 {
     let b = s[i];
     let k = i + 1;
-    if is_basic(b) | (b == b'v') {
+    if signature::is_basic(b) | (b == b'v') {
         return Nest(k, 0, 0);
     }
     if b == b'a' {
@@ -215,7 +196,7 @@ pub fn ends_of(sig: &[u8], ends: &mut [u8; 256]) -> bool
     if sig.len() == 1 {
         ends[0] = 1;
         let b = sig[0];
-        return is_basic(b) | (b == b'v');
+        return signature::is_basic(b) | (b == b'v');
     }
     fill(sig, ends)
 }
