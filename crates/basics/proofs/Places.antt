@@ -271,7 +271,8 @@ pub pad-fits : (h : List ℕ) (k at : ℕ) → PadFits h at (padded h k at)
 unfolding padded
 pad-fits h k at = go (leb (roundUp k at) (length h) && allZero (take (roundUp k at - at) (drop at h))) refl
   where
-    go : (z : Bool) → leb (roundUp k at) (length h) && allZero (take (roundUp k at - at) (drop at h)) ≡ z → PadFits h at (cond z (stop.At (roundUp k at)) stop.Bad)
+    go : (z : Bool) → leb (roundUp k at) (length h) && allZero (take (roundUp k at - at) (drop at h)) ≡ z
+        → PadFits h at (cond z (stop.At (roundUp k at)) stop.Bad)
     go true e = (round-low k at, leb-true (roundUp k at) (length h) (both-first _ _ e))
     go false e = tt
 
@@ -332,7 +333,11 @@ module _ (h : List ℕ) where
   unfolding plainAt
   plain-fits o b at = go (eqb b 98) (eqb b 115) (eqb b 111) (eqb b 103)
     where
-      go : (x y z w : Bool) → StopFits h at (cond x (booleanAt o h at) (cond y (textAt validUtf8 o h at) (cond z (textAt (validName form.Path) o h at) (cond w (shortTextAt validSignature h at) (numberAt h (alignOf b) at)))))
+      go : (x y z w : Bool)
+          → StopFits h at
+          (cond x (booleanAt o h at)
+          (cond y (textAt validUtf8 o h at)
+          (cond z (textAt (validName form.Path) o h at) (cond w (shortTextAt validSignature h at) (numberAt h (alignOf b) at)))))
       go true y z w = boolean-fits o at
       go false true z w = text-fits validUtf8 o at
       go false false true w = text-fits (validName form.Path) o at

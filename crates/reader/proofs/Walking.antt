@@ -86,4 +86,16 @@ module _ {o : Order} {h : List ℕ} {end : ℕ} {fs : Fields} {from : ℕ} (w : 
             left = step-left ∙ walk-more (w .fuel - 1) o h end from fs n (sym p ∙ q) z;
           }
 
-pub ruleset walking = (walking-begins, walking-ends, walking-bad, skipping-falls, skipping-more, code-inside, code-scaled, walking-falls, walking-again, walking-more, needs)
+pub ruleset walking = (
+  walking-begins,
+  walking-ends,
+  walking-bad,
+  skipping-falls,
+  skipping-more,
+  code-inside,
+  code-scaled,
+  walking-falls,
+  walking-again,
+  walking-more,
+  needs,
+)

@@ -20,7 +20,8 @@ use Rattle.types.specs.Contracts.{EndAt, ClosedAt, EndsFrom, OpenedAt, S
 use Rattle.types.specs.Nest.{kept, fits, Nested, RowAt, NestAt, NestsFrom}
 use Rattle.types.proofs.Letters.{opens-only, plain-closes, plain-opens, plain-array}
 use Rattle.types.proofs.Behind.{close-last, open-one, array-on, letter-on}
-use Rattle.types.proofs.Nesting.{begins, nothing, closing, Shut, tuple-begins, tuple-shut, nested-shut, nested-plain, nested-other, nested-array, nested-entry, nested-entry-bad, nested-key, nested-tuple, nested-tuple-bad}
+use Rattle.types.proofs.Nesting.{begins, nothing, closing, Shut, tuple-begins, tuple-shut, nested-shut, nested-plain, nested-other, nested-array}
+use Rattle.types.proofs.Nesting.{nested-entry, nested-entry-bad, nested-key, nested-tuple, nested-tuple-bad}
 
 -- a type at i that ends at `to`
 typed : {s : List ℕ} {i to n m : ℕ} → closes (getD s i 0) ≡ false → EndAt s i to → Nested (drop i s) n m → NestAt s i to n m
@@ -61,7 +62,8 @@ pub ruleset letters = (plain, other, closing-byte, needs)
 -- ---- an array
 
 -- the entry of a type's first byte
-pub read-end : {s ends : List ℕ} {from : ℕ} → EndsFrom s ends from → (k : ℕ) → from ≤ k → begins (drop k s) ≡ true → drop (getD ends k 0) s ≡ behind 0 (drop k s)
+pub read-end : {s ends : List ℕ} {from : ℕ} → EndsFrom s ends from → (k : ℕ) → from ≤ k → begins (drop k s) ≡ true
+    → drop (getD ends k 0) s ≡ behind 0 (drop k s)
 read-end {s} {ends} t k l o = go (decLe (length s) k)
   where
     go : Dec (length s ≤ k) → drop (getD ends k 0) s ≡ behind 0 (drop k s)

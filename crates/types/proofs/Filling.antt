@@ -151,7 +151,9 @@ module _ {s ends arrays parens : List ℕ} {i : ℕ} (p : Filling s ends arrays 
   filling-end l {e} q =
       let t : NestsFrom s ends arrays parens 0 = subst (NestsFrom s ends arrays parens) (omega arith) (p .nests) in
       record {
-        is = single-is s e (getD arrays 0 0) (getD parens 0 0) (t .few) (t .each 0 (omega arith) (omega arith)) (λ o. rw q (read-end (t .table) 0 (omega arith) o));
+        is =
+            single-is s e (getD arrays 0 0) (getD parens 0 0) (t .few) (t .each 0 (omega arith) (omega arith))
+            (λ o. rw q (read-end (t .table) 0 (omega arith) o));
         table = t .table;
       }
 
@@ -179,8 +181,12 @@ module _ (s : List ℕ) (l : length s ≡ 1) where
           record {
             few = omega arith;
             sized = length-set ends 0 1 ∙ z;
-            types = stored (λ j x. j < length s → closes (getD s j 0) ≡ false → EndAt s j x) ends 0 1 (omega arith) (λ j m h. absurd (omega arith)) (λ h. nest .type);
-            rows = stored (λ j x. j < length s → closes (getD s j 0) ≡ true → ClosedAt s j x) ends 0 1 (omega arith) (λ j m h. absurd (omega arith)) (λ h. nest .run);
+            types =
+                stored (λ j x. j < length s → closes (getD s j 0) ≡ false → EndAt s j x) ends 0 1 (omega arith) (λ j m h. absurd (omega arith))
+                (λ h. nest .type);
+            rows =
+                stored (λ j x. j < length s → closes (getD s j 0) ≡ true → ClosedAt s j x) ends 0 1 (omega arith) (λ j m h. absurd (omega arith))
+                (λ h. nest .run);
           }
 
       is : (x : Bool) → basic (getD s 0 0) || eqb (getD s 0 0) 118 ≡ x → x ≡ single s

@@ -15,9 +15,11 @@ use Rattle.variant.specs.Walk.{value, items, skipped, row as values}
 use Rattle.variant.specs.Table.{answer, sameStop, table, deep}
 
 pub table-agrees : agrees answer sameStop table ≡ true
-unfolding allZero wordAt validName startsWith headOf closedBy one row validSignature leadOf utf8From validUtf8 alignOf behind single roundUp padded numberAt booleanAt textIn textAt shortTextAt plainAt doneAt arrayIn arrayAt rowAt variantAt openingAt beginOf value items values skipped
+unfolding allZero wordAt validName startsWith headOf closedBy one row validSignature leadOf utf8From validUtf8 alignOf behind single roundUp padded
+    numberAt booleanAt textIn textAt shortTextAt plainAt doneAt arrayIn arrayAt rowAt variantAt openingAt beginOf value items values skipped
 table-agrees = refl
 
 pub deep-agrees : agrees answer sameStop deep ≡ true
-unfolding allZero wordAt validName startsWith headOf closedBy one row validSignature leadOf utf8From validUtf8 alignOf behind single roundUp padded numberAt booleanAt textIn textAt shortTextAt plainAt doneAt arrayIn arrayAt rowAt variantAt openingAt beginOf value items values skipped
+unfolding allZero wordAt validName startsWith headOf closedBy one row validSignature leadOf utf8From validUtf8 alignOf behind single roundUp padded
+    numberAt booleanAt textIn textAt shortTextAt plainAt doneAt arrayIn arrayAt rowAt variantAt openingAt beginOf value items values skipped
 deep-agrees = refl

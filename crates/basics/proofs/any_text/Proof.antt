@@ -7,4 +7,12 @@ use Rattle.basics.proofs.any_text.Tie as tie
 pub any-text-spec : {M : Type 1} → statement M
 any-text-spec =
     tie.close
-    (tie.spec (λ c. search anys) (λ c. search needs) (λ c. search anys) (λ c. search needs) (λ c. search needs) (λ c. search anys) (λ c. search needs) (λ c. search anys))
+    (tie.spec
+    (λ c. search anys)
+    (λ c. search needs)
+    (λ c. search anys)
+    (λ c. search needs)
+    (λ c. search needs)
+    (λ c. search anys)
+    (λ c. search needs)
+    (λ c. search anys))

@@ -7,4 +7,11 @@ use Rattle.basics.proofs.pad.Tie as tie
 pub pad-spec : {M : Type 1} → statement M
 pad-spec =
     tie.close
-    (tie.spec (λ c. search padding) (λ c κs. search needs) (λ c. search padding) (λ c. search padding) (λ c κs. search needs) (λ c. search padding) (λ c. search padding))
+    (tie.spec
+    (λ c. search padding)
+    (λ c κs. search needs)
+    (λ c. search padding)
+    (λ c. search padding)
+    (λ c κs. search needs)
+    (λ c. search padding)
+    (λ c. search padding))

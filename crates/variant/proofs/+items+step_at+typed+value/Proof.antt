@@ -69,16 +69,43 @@ abbrev value-below : ℕ → In 3 value-kinds.ps
 value-below t = and 3 value-kinds.ps (falls 3 value-kinds.ps _<_ μ-value t) value.Pre
 
 abbrev items-calls : ℕ → items-lts.Claims
-items-calls t = (peek-reads.Asked, peek-reads.Learnt, width-of-reads.Asked, width-of-reads.Learnt, numbers-reads.Asked, numbers-reads.Learnt, value-below t, value.Post)
+items-calls t = (
+  peek-reads.Asked,
+  peek-reads.Learnt,
+  width-of-reads.Asked,
+  width-of-reads.Learnt,
+  numbers-reads.Asked,
+  numbers-reads.Learnt,
+  value-below t,
+  value.Post,
+)
 
 abbrev step-at-calls : ℕ → step-at-lts.Claims
-step-at-calls t = (begin-at-reads.Asked, begin-at-reads.Learnt, items-below t, items.Post, step-to-reads.Asked, step-to-reads.Learnt, typed-below t, typed.Post)
+step-at-calls t = (
+  begin-at-reads.Asked,
+  begin-at-reads.Learnt,
+  items-below t,
+  items.Post,
+  step-to-reads.Asked,
+  step-to-reads.Learnt,
+  typed-below t,
+  typed.Post,
+)
 
 abbrev typed-calls : ℕ → typed-lts.Claims
 typed-calls t = (ends-of-reads.Asked, ends-of-reads.Learnt, value-below t, value.Post)
 
 abbrev value-calls : ℕ → value-lts.Claims
-value-calls t = (step-at-below t, step-at.Post, openings-reads.Asked, openings-reads.Learnt, hop-reads.Asked, hop-reads.Learnt, closed-reads.Asked, closed-reads.Learnt)
+value-calls t = (
+  step-at-below t,
+  step-at.Post,
+  openings-reads.Asked,
+  openings-reads.Learnt,
+  hop-reads.Asked,
+  hop-reads.Learnt,
+  closed-reads.Asked,
+  closed-reads.Learnt,
+)
 
 abbrev items-Inv-loop : items-lts.InvT-loop
 items-Inv-loop order head depth sig ends i at k p₀ p = W.ItemsGoing order head depth sig i at p
@@ -117,7 +144,9 @@ pub +items+step-at+typed+value-spec : {M : Type 1} → statement M
     (λ c. omega (arith, W.begin-in (c .before .before .before .begin-at .ensures) (c .before .start .given .1)))
     (λ c. omega (arith, W.begin-in (c .before .before .before .before .begin-at .ensures) (c .before .before .start .given .1)))
     (λ c. omega (arith, W.begin-in (c .before .before .before .before .begin-at .ensures) (c .before .before .start .given .1)))
-    (λ c κs. (omega (arith, W.begin-in (c .before .before .before .before .begin-at .ensures) (c .before .before .start .given .1)), (omega (arith, W.begin-in (c .before .before .before .before .begin-at .ensures) (c .before .before .start .given .1)), search needs)))
+    (λ c κs.
+    let f = W.begin-in (c .before .before .before .before .begin-at .ensures) (c .before .before .start .given .1) in
+    (omega arith, (omega arith, search needs)))
     (λ c κs. search needs)
     (λ c. search needs)
     (λ c. search needs)
@@ -126,7 +155,7 @@ pub +items+step-at+typed+value-spec : {M : Type 1} → statement M
     (λ c. omega (arith, W.begin-in (c .before .before .before .begin-at .ensures) (c .before .from .given .1)))
     (λ c. omega (arith, W.begin-in (c .before .before .before .begin-at .ensures) (c .before .from .given .1)))
     (λ c. omega (arith, W.begin-in (c .before .before .before .begin-at .ensures) (c .before .from .given .1)))
-    (λ c κs. (omega (arith, W.begin-in (c .before .before .before .before .begin-at .ensures) (c .before .before .from .given .1)), omega (arith, W.begin-in (c .before .before .before .before .begin-at .ensures) (c .before .before .from .given .1))))
+    (λ c κs. let f = W.begin-in (c .before .before .before .before .begin-at .ensures) (c .before .before .from .given .1) in (omega arith, omega arith))
     (λ c κs. search needs)
     (λ c. search needs)
     (λ c. search W.steps)
@@ -149,13 +178,25 @@ pub +items+step-at+typed+value-spec : {M : Type 1} → statement M
     (λ c. omega (arith, W.row-inside (c .before .before .before .before .loop .inv) (c .before .before .before .step-at .ensures) (c .before .start .given .1)))
     (λ c κs. search needs)
     (λ c. omega (arith, c .openings .ensures .low))
-    (λ c. omega (arith, W.going-row-in (c .before .before .before .before .before .loop .inv) (c .before .before .before .before .step-at .ensures) (c .before .before .start .given .1) (c .openings .ensures)))
-    (λ c. omega (arith, W.going-row-in (c .before .before .before .before .before .loop .inv) (c .before .before .before .before .step-at .ensures) (c .before .before .start .given .1) (c .openings .ensures)))
+    (λ c.
+    omega (
+      arith,
+      W.going-row-in (c .before .before .before .before .before .loop .inv) (c .before .before .before .before .step-at .ensures)
+          (c .before .before .start .given .1) (c .openings .ensures),
+    ))
+    (λ c.
+    omega (
+      arith,
+      W.going-row-in (c .before .before .before .before .before .loop .inv) (c .before .before .before .before .step-at .ensures)
+          (c .before .before .start .given .1) (c .openings .ensures),
+    ))
     (λ c. search W.going)
     (λ c. search W.going)
     (λ c. search W.going)
     (λ c. search needs)
-    (λ c κs. (search needs, W.letter-inside (c .before .before .before .before .loop .inv) (c .before .before .before .step-at .ensures) (c .before .next .given .1) .0, W.letter-inside (c .before .before .before .before .loop .inv) (c .before .before .before .step-at .ensures) (c .before .next .given .1) .1))
+    (λ c κs.
+    let l = W.letter-inside (c .before .before .before .before .loop .inv) (c .before .before .before .step-at .ensures) (c .before .next .given .1) in
+    (search needs, l .0, l .1))
     (λ c κs. search needs)
     (λ c. omega (arith, c .closed .ensures .low))
     (λ c. search W.going)
