@@ -3,6 +3,7 @@
 
 A value is a tuple: a letter and a number or text; "(" or "{" and its values; "v" and its value; "a", how many elements it has (ALL: as many as there is
 room for) and the values that its elements take in turns, all of one type. A head is a tuple of values, one for each unknown field."""
+import collections
 import glob
 import os
 import random
@@ -10,7 +11,7 @@ import re
 import subprocess
 import sys
 
-LIMIT, ALL = 2048, -1
+LIMIT, ALL, ISLANDS = 2048, -1, 12
 ALIGN = {**dict.fromkeys("ygv", 1), **dict.fromkeys("nq", 2), **dict.fromkeys("biuhsoa", 4), **dict.fromkeys("xtd({", 8)}
 NUMBERS = "ybnqiuhxtd"
 
@@ -73,7 +74,7 @@ def put(out, value, room):
 def with_field(out, value, room):
     """The head with one field more, or None where there is no room."""
     longer = bytearray(out)
-    longer += bytes(-len(longer) % 8) + b"\x0a"
+    longer += bytes(-len(longer) % 8) + b"\x0b"
     put(longer, ("v", value), room)
     return longer if len(longer) <= room else None
 
@@ -178,6 +179,10 @@ def elements():
     for n in (1, 2, 3, 5, 8, 16, 24, 30, 31):
         for value in (Y, G, V, B, none_of(Y), none_of(row(Y)), ("v", row(Y)), ("v", parens(2, Y)), ("v", row(Y, Y))):
             yield f"{n} parentheses round {type_of(value)} {value[1][0] if value[0] == 'v' else ''}", parens(n, value)
+    # eight bytes each, so that nothing is lost to the padding in front of the next
+    for n in (1, 2, 8, 16, 31, 32):
+        for inner in ([V, V], [chain(2, G)], [V, G, G], [G] * 4, [("v", G), Y, G], [chain(2, Y), Y], [V] + [Y] * 4, [Y] * 8, [V, none_of(Y)], [V, B], [V, none_of(G)]):
+            yield f"{n} parentheses round {brief(inner)}", parens(n - 1, row(*inner))
     for n in (2, 3, 4, 8, 16, 32, 64, 100, 250):
         for value in (Y, G, V, B, S, ("n", 1), ("x", 1), none_of(Y), none_of(none_of(Y)), ("v", row(Y)), row(Y), row(G)):
             if n * len(type_of(value)) <= 250:
@@ -351,14 +356,18 @@ def count(folder, heads):
     return [found[k] for k in range(len(heads))]
 
 
+Head = collections.namedtuple("Head", "cost size island name fields bytes")
+
+
 class Search:
+    """The heads counted so far. Each belongs to an island, and is changed there only: so one shape that is dear does not crowd out the others."""
     def __init__(self, folder):
         self.folder, self.seen, self.heads = folder, set(), []
 
     def take(self, named, good):
         """Counts the new heads among those; where they are known to be good, another answer than 0 is a fault of this program or of the product."""
         new = []
-        for name, fields in named:
+        for island, name, fields in named:
             if not all(f[0] != "{" and legal(("v", f)) for f in fields):
                 if good:
                     sys.exit(f"worst: {name} is no value")
@@ -366,13 +375,16 @@ class Search:
             head = head_of(fields)
             if head and head not in self.seen:
                 self.seen.add(head)
-                new.append((name, fields, head))
-        for (name, fields, head), (answer, cost) in zip(new, count(self.folder, [h for _, _, h in new])):
+                new.append((island, name, fields, head))
+        for (island, name, fields, head), (answer, cost) in zip(new, count(self.folder, [n[-1] for n in new])):
             if answer == 0:
-                self.heads.append((cost, len(head), name, fields, head))
+                self.heads.append(Head(cost, len(head), island, name, fields, head))
             elif good:
                 sys.exit(f"worst: {name} is answered {answer}")
-        self.heads.sort(key=lambda h: (-h[0], h[1], h[2]))
+        self.heads.sort(key=lambda h: (-h.cost, h.size, h.name))
+
+    def dearest(self, island, n):
+        return [h.fields for h in self.heads if island in (h.island, None)][:n]
 
 
 def brief(fields):
@@ -388,16 +400,22 @@ def brief(fields):
 def main(folder, rounds):
     rng = random.Random(6)
     search = Search(folder)
-    search.take(shapes(), True)
+    search.take(((0, name, fields) for name, fields in shapes()), True)
+    search.heads = [h._replace(island=k % ISLANDS) for k, h in enumerate(search.heads)]
     for n in range(rounds):
-        pool = [h[3] for h in search.heads[:40]]
-        search.take(((f"change {n + 1}", mutant(rng, pool)) for _ in range(250)), False)
-        print(f"round {n + 1}: {search.heads[0][0]:,}", file=sys.stderr)
+        # in the last third all islands are one
+        islands = range(ISLANDS) if 3 * n < 2 * rounds else [None]
+        pools = {i: search.dearest(i, 12 if i is not None else 60) for i in islands}
+        search.take([(i, f"change {n + 1}", mutant(rng, pools[i])) for i in islands for _ in range(240 // len(islands))], False)
+        print(f"round {n + 1}: {search.heads[0].cost:,}", file=sys.stderr)
     print(f"{len(search.heads):,} good heads counted. The dearest:\n\n| instructions | bytes | a byte | found as | what it has |\n|-:|-:|-:|-|-|")
-    for cost, size, name, fields, _ in search.heads[:20]:
-        what = brief(fields)
-        print(f"| {cost:,} | {size:,} | {cost / size:.1f} | {name} | {what if len(what) < 100 else what[:97] + '...'} |")
-    open(folder + "/head", "wb").write(search.heads[0][4])
+    for h in search.heads[:20]:
+        what = brief(h.fields)
+        print(f"| {h.cost:,} | {h.size:,} | {h.cost / h.size:.1f} | {h.name} | {what if len(what) < 100 else what[:97] + '...'} |")
+    print("\nThe dearest shapes before any change:\n\n| instructions | bytes | a byte | shape |\n|-:|-:|-:|-|")
+    for h in [h for h in search.heads if not h.name.startswith("change")][:20]:
+        print(f"| {h.cost:,} | {h.size:,} | {h.cost / h.size:.1f} | {h.name} |")
+    open(folder + "/head", "wb").write(search.heads[0].bytes)
 
 
 if __name__ == "__main__":
