@@ -12,7 +12,7 @@ use lib.ListN.{length, take, drop, getD, length-drop}
 use lib.Seq.{length-take-le}
 use borrow.Author.Needs.{needs}
 use borrow.Author.Tests.{le-leb, lt-leb, lt-ltb, le-ltb, eq-eqb, ne-eqb, leb-true, ltb-true}
-use Rattle.wire.specs.Bytes.{allZero, oneOf}
+use Rattle.wire.specs.Bytes.{allZero}
 use Rattle.wire.specs.Words.{wordAt}
 use Rattle.wire.specs.declared.Order.{Order}
 use Rattle.wire.proofs.Texts.{both-first, both-second}
@@ -25,6 +25,7 @@ use Rattle.names.specs.declared.Form.the-variants as form
 use Rattle.signature.specs.Signature.{validSignature}
 use Rattle.utf8.specs.Utf8.{validUtf8}
 use Rattle.types.specs.Letters.{alignOf}
+use Rattle.types.proofs.Letters.{align-some}
 use Rattle.basics.specs.Values.{roundUp, padded, numberAt, booleanAt, textIn, anyText, textAt, shortTextAt, plainAt}
 use Rattle.basics.specs.Contracts.{goodText, PadFits, StopFits, RoundedAt, PaddedAt}
 use Rattle.basics.proofs.Rounding.{round-low}
@@ -265,16 +266,6 @@ module _ (o : Order) (h : List ℕ) (b at : ℕ) {r : Stop} where
 pub ruleset plains = (plain-boolean, plain-string, plain-path, plain-signature, plain-1, plain-2, plain-8, plain-4, needs)
 
 -- ---- where they stop
-
-pub align-some : (b : ℕ) → 1 ≤ alignOf b
-unfolding alignOf
-align-some b = go (oneOf false "ygv" b) (oneOf false "nq" b) (oneOf false "xtd({" b)
-  where
-    go : (x y z : Bool) → 1 ≤ cond x 1 (cond y 2 (cond z 8 4))
-    go true y z = omega arith
-    go false true z = omega arith
-    go false false true = omega arith
-    go false false false = omega arith
 
 pub pad-fits : (h : List ℕ) (k at : ℕ) → PadFits h at (padded h k at)
 unfolding padded

@@ -25,7 +25,7 @@ pub enum RowEnd {
     Bad,
 }
 
-fn is_basic(b: u8) -> bool
+pub fn is_basic(b: u8) -> bool
     ensures { λ r. ⌜ r ≡ basic b ⌝ }
 {
     (b == b'y')

@@ -1,9 +1,9 @@
 -- What the tables are to hold for a byte: a law for each way through the code.
-use mathlib.Core.Path.{_≡_, refl, sym, ap, _∙_}
+use mathlib.Core.Path.{_≡_, refl, sym, _∙_}
 use mathlib.Core.Bool.{Bool, true, false, not, _&&_, _||_, false≢true}
-use mathlib.Core.List.{List, [], _∷_}
-use mathlib.Core.Option.{Option, none, some}
-use Prim.Native.Nat.{ℕ, zero, suc, _+_, _-_, _*_, _≤_, _<_, min}
+use mathlib.Core.List.{List, _∷_}
+use mathlib.Core.Option.{none, some}
+use Prim.Native.Nat.{ℕ, _+_, _*_, _≤_, _<_, min}
 use native.Mathlib.Decide.{decLe}
 use native.Mathlib.Omega.{arith}
 use lib.Dec.{eqb, ltb}
@@ -11,16 +11,16 @@ use lib.ListN.{length, drop, getD}
 use borrow.Author.Needs.{needs}
 use borrow.Author.Tests.{eq-eqb, ne-eqb, eqb-true, ltb-true, ltb-false, not-true, not-false}
 use Rattle.wire.specs.Bytes.{front}
-use Rattle.wire.proofs.From.{next, past, first, skip}
+use Rattle.wire.proofs.From.{next, past, first}
 use Rattle.wire.proofs.Texts.{both-first, both-second}
 use Rattle.signature.specs.Signature.{basic, closedBy, tuple, row}
 use Rattle.types.specs.Letters.{opens, closes}
 use Rattle.types.specs.Types.{behind}
 use Rattle.types.specs.Contracts.{EndAt, ClosedAt, EndsFrom, OpenedAt, ShutAt}
-use Rattle.types.specs.Nest.{kept, restOf, fits, Nested, RowAt, EntryAt, NestAt, NestsFrom, NestsBehind}
+use Rattle.types.specs.Nest.{kept, fits, Nested, RowAt, NestAt, NestsFrom}
 use Rattle.types.proofs.Letters.{opens-only, plain-closes, plain-opens, plain-array}
 use Rattle.types.proofs.Behind.{close-last, open-one, array-on, letter-on}
-use Rattle.types.proofs.Nesting.{nothing, closing, row-empty, row-closed, tuple-open, nested-empty, nested-plain, nested-closed, nested-other, nested-array, Open, nested-entry, nested-entry-bad, nested-key, nested-tuple, nested-tuple-bad}
+use Rattle.types.proofs.Nesting.{begins, nothing, closing, Shut, tuple-begins, tuple-shut, nested-shut, nested-plain, nested-other, nested-array, nested-entry, nested-entry-bad, nested-key, nested-tuple, nested-tuple-bad}
 
 -- a type at i that ends at `to`
 typed : {s : List ℕ} {i to n m : ℕ} → closes (getD s i 0) ≡ false → EndAt s i to → Nested (drop i s) n m → NestAt s i to n m
@@ -46,7 +46,7 @@ module _ {s : List ℕ} {i : ℕ} (h : i < length s) where
       record {
         type = λ d. absurd (false≢true (sym d ∙ c));
         run = λ d. record { on = omega (arith, t .low); high = t .high (omega arith); all = all; end = t .end };
-        nest = rw (next s i h) (nested-closed c);
+        nest = nested-shut (rw (next s i h, c));
       }
     where
       all : (j : ℕ) → i ≤ j → j < r → closes (getD s j 0) ≡ true
@@ -61,12 +61,12 @@ pub ruleset letters = (plain, other, closing-byte, needs)
 -- ---- an array
 
 -- the entry of a type's first byte
-pub read-open : {s ends : List ℕ} {from : ℕ} → EndsFrom s ends from → (k : ℕ) → from ≤ k → Open (drop k s) → drop (getD ends k 0) s ≡ behind 0 (drop k s)
-read-open {s} {ends} t k l o = go (decLe (length s) k)
+pub read-end : {s ends : List ℕ} {from : ℕ} → EndsFrom s ends from → (k : ℕ) → from ≤ k → begins (drop k s) ≡ true → drop (getD ends k 0) s ≡ behind 0 (drop k s)
+read-end {s} {ends} t k l o = go (decLe (length s) k)
   where
     go : Dec (length s ≤ k) → drop (getD ends k 0) s ≡ behind 0 (drop k s)
-    go (yes n) = absurd (rw (past s k n) at o)
-    go (no n) = let h : k < length s = omega (arith, n) in t .types k l h (rw (next s k h) at o) .is
+    go (yes n) = absurd (false≢true (rw (past s k n) at o))
+    go (no n) = let h : k < length s = omega (arith, n) in t .types k l h (not-true (closes (getD s k 0)) (rw (next s k h) at o)) .is
 
 module _ {s : List ℕ} {i : ℕ} (h : i < length s) (a : getD s i 0 ≡ 97) where
   -- the `a` at i ends where the type behind it does
@@ -76,14 +76,14 @@ module _ {s : List ℕ} {i : ℕ} (h : i < length s) (a : getD s i 0 ≡ 97) whe
 
   pub array-last : length s ≤ i + 1 → NestAt s i (i + 1) 33 0
   unfolding behind
-  array-last l = array-is (rw (past s (i + 1) l)) (omega arith) (omega arith) (rw (past s (i + 1) l) (nested-array refl nested-empty))
+  array-last l = array-is (rw (past s (i + 1) l)) (omega arith) (omega arith) (rw (past s (i + 1) l) (nested-array refl (nested-shut refl)))
 
   module _ (l : i + 1 < length s) where
     pub array-closed : closes (getD s (i + 1) 0) ≡ true → NestAt s i (i + 1) 33 0
     unfolding behind
     array-closed c =
         array-is (rw (next s (i + 1) l, behind, c)) (omega arith) (omega arith)
-        (rw (next s (i + 1) l) (nested-array (ne-eqb (getD s (i + 1) 0) 123 (λ z. false≢true (rw z at c))) (nested-closed c)))
+        (rw (next s (i + 1) l) (nested-array (ne-eqb (getD s (i + 1) 0) 123 (λ z. false≢true (rw z at c))) (nested-shut (rw c))))
 
     module _ {ends arrays parens : List ℕ} (t : NestsFrom s ends arrays parens (i + 1)) {e : ℕ} (p : e ≡ getD ends (i + 1) 0) where
       pub array : closes (getD s (i + 1) 0) ≡ false → (getD s (i + 1) 0 ≡ 123 → ⊥) → {n : ℕ} → n ≡ min (getD arrays (i + 1) 0 + 1) 33
@@ -121,8 +121,8 @@ module _ {s : List ℕ} {i : ℕ} (h : i < length s) (a : getD s i 0 ≡ 97) whe
             key-basic = rw (f, first s (i + 2)) at (sym g ∙ not-false x u)
 
             module _ {y : ℕ} (q : y ≡ getD ends (i + 3) 0) {w : ℕ} (r : w ≡ front (drop y s)) where
-              value-shut : (v : Bool) → eqb w 125 ≡ v → Open (drop (i + 3) s) → eqb (front (behind 0 (drop (i + 3) s))) 125 ≡ v
-              value-shut v d o = rw (← read-open (t .table) (i + 3) (omega arith) o, ← q, ← r) d
+              value-shut : (v : Bool) → eqb w 125 ≡ v → Shut (drop (i + 3) s) v
+              value-shut v d o = rw (← read-end (t .table) (i + 3) (omega arith) o, ← q, ← r) d
 
               value : Nested (drop (i + 3) s) (getD arrays (i + 3) 0) (getD parens (i + 3) 0)
               value = t .each (i + 3) (omega arith) (omega (arith, t .few, key-in))
@@ -196,23 +196,18 @@ module _ {s : List ℕ} {i e n m : ℕ} (w : RowAt s i e n m) where
   row-tuple : i < e → (f a p : ℕ) → 2 * length (drop i s) + 1 ≤ f → tuple (row f a p (drop i s)) ≡ kept (fits a p n m) (closedBy 41 true (drop e s))
   row-tuple l f a p k =
       let h : i < length s = omega (arith, w .high) in
-      rw (next s i h, tuple-open f a p (getD s i 0) (drop (i + 1) s) (w .first l), ← next s i h, w .is f a p k) (go (fits a p n m))
+      rw (tuple-begins f a p (drop i s) (rw (next s i h, w .first l)), w .is f a p k) (go (fits a p n m))
     where
       go : (x : Bool) → closing (kept x (some (drop e s))) ≡ kept x (closedBy 41 true (drop e s))
       go true = refl
       go false = refl
 
-  -- no type stands in the row
-  row-none : e ≤ i → (f a p : ℕ) → 2 * length (drop i s) + 1 ≤ f → tuple (row f a p (drop i s)) ≡ none
-  unfolding closedBy
-  row-none l zero a p k = absurd (omega arith)
-  row-none l (suc f) a p k = let z : i ≡ e = omega (arith, w .low) in rw z (go (decLe (length s) e))
+  row-none : e ≤ i → begins (drop i s) ≡ false
+  row-none l = let z : i ≡ e = omega (arith, w .low) in rw z (go (decLe (length s) e))
     where
-      go : Dec (length s ≤ e) → tuple (row (suc f) a p (drop e s)) ≡ none
-      go (yes n) = rw (past s e n, row-empty f a p)
-      go (no n) =
-          let h : e < length s = omega (arith, n) in
-          rw (next s e h, row-closed f a p (getD s e 0) (drop (e + 1) s) (w .end h))
+      go : Dec (length s ≤ e) → begins (drop e s) ≡ false
+      go (yes n) = rw (past s e n)
+      go (no n) = let h : e < length s = omega (arith, n) in rw (next s e h, w .end h)
 
   row-bad : eqb (getD s e 0) 41 && ltb i e ≡ false → (f a p : ℕ) → 2 * length (drop i s) + 1 ≤ f → tuple (row f a p (drop i s)) ≡ none
   unfolding closedBy
@@ -228,7 +223,7 @@ module _ {s : List ℕ} {i e n m : ℕ} (w : RowAt s i e n m) where
 
       go : (x : Bool) → ltb i e ≡ x → tuple (row f a p (drop i s)) ≡ none
       go true l = rw (row-tuple (ltb-true i e l) f a p k, none-left (shut (eqb (getD s e 0) 41) (rw l at q)) (decLe (length s) e)) (nothing (fits a p n m))
-      go false l = row-none (omega (arith, ltb-false)) f a p k
+      go false l = tuple-shut f a p (drop i s) (row-none (omega (arith, ltb-false)))
 
 module _ {s : List ℕ} {i : ℕ} (h : i < length s) (o : opens (getD s i 0) ≡ true) {e n m : ℕ} (w : RowAt s (i + 1) e n m) where
   bracket-is : {to k l : ℕ} → drop to s ≡ behind 1 (drop e s) → i < to → to ≤ length s → Nested (drop i s) k l → NestAt s i to k l

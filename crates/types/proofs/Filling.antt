@@ -1,5 +1,5 @@
 -- The tables, from their ends on, and what they say of the whole signature.
-use mathlib.Core.Path.{_≡_, refl, sym, ap, subst, _∙_}
+use mathlib.Core.Path.{_≡_, refl, sym, subst, _∙_}
 use mathlib.Core.Bool.{Bool, true, false, cond, _&&_, _||_, false≢true}
 use mathlib.Core.List.{List, [], _∷_}
 use mathlib.Core.Option.{Option, none, some}
@@ -12,16 +12,16 @@ use lib.ListN.{length, drop, getD, set, replicate, length-drop, length-set, getD
 use lib.Seq.{getD-set-same, getD-set-other}
 use borrow.Author.Needs.{needs}
 use borrow.Author.Tests.{le-leb, leb-true, eq-eqb, ne-eqb, eqb-true}
-use Rattle.wire.proofs.From.{next, past}
+use Rattle.wire.proofs.From.{past}
 use Rattle.wire.proofs.Texts.{agree}
 use Rattle.signature.specs.Signature.{Row, basic, oneMore, one, row}
 use Rattle.types.specs.Letters.{opens, closes}
 use Rattle.types.specs.Types.{behind, alone, single}
 use Rattle.types.specs.Contracts.{EndAt, ClosedAt, EndsFrom, EndsOf}
 use Rattle.types.specs.Nest.{kept, fits, Nested, NestAt, NestsFrom, NestsBehind}
-use Rattle.types.proofs.Nesting.{on, Open, close-none, one-empty, row-empty, row-closed, row-open, fits-shut, nested-empty}
+use Rattle.types.proofs.Nesting.{begins, on, one-shut, row-shut, row-begins, fits-shut, nested-shut}
 use Rattle.types.proofs.Rows.{walking-begin, walking-end}
-use Rattle.types.proofs.Entries.{plain, other, closing-byte, read-open, array-last, run-past, bracket-unshut}
+use Rattle.types.proofs.Entries.{plain, other, closing-byte, read-end, array-last, run-past, bracket-unshut}
 
 -- ---- one type alone
 
@@ -31,12 +31,8 @@ onlyOne (some r) = eqb (length r) 0
 
 -- behind the first type nothing may stand
 alone-first : (f : ℕ) (r : List ℕ) → alone (oneMore (row (suc f) 0 0 r)) ≡ eqb (length r) 0
-alone-first f [] = rw (row-empty f 0 0)
-alone-first f (b ∷ r) = go (closes b) refl
+alone-first f r = go r (begins r) refl
   where
-    some-bytes : eqb (length (b ∷ r)) 0 ≡ false
-    some-bytes = ne-eqb (length (b ∷ r)) 0 (λ e. omega (arith, e))
-
     two : (o : Option Row) → alone (oneMore (oneMore o)) ≡ false
     two none = refl
     two (some x) = rw (ne-eqb (x .0 + 1 + 1) 1 (λ e. omega (arith, e)))
@@ -45,40 +41,27 @@ alone-first f (b ∷ r) = go (closes b) refl
     more none = refl
     more (some r) = two (row f 0 0 r)
 
-    go : (x : Bool) → closes b ≡ x → alone (oneMore (row (suc f) 0 0 (b ∷ r))) ≡ eqb (length (b ∷ r)) 0
-    go true c = rw (row-closed f 0 0 b r c)
-    go false c = rw (row-open f 0 0 b r c) (more (one f 0 0 (b ∷ r)) ∙ sym some-bytes)
+    go : (r : List ℕ) (x : Bool) → begins r ≡ x → alone (oneMore (row (suc f) 0 0 r)) ≡ eqb (length r) 0
+    go r false c = rw (row-shut f 0 0 r c)
+    go [] true c = absurd (false≢true c)
+    go (b ∷ r) true c =
+        rw (row-begins f 0 0 (b ∷ r) c) (more (one f 0 0 (b ∷ r)) ∙ sym (ne-eqb (length (b ∷ r)) 0 (λ e. omega (arith, e))))
 
 alone-one : (f : ℕ) (s : List ℕ) → 2 * length s ≤ f → alone (row (suc f) 0 0 s) ≡ onlyOne (one f 0 0 s)
-alone-one f [] l = rw (row-empty f 0 0, one-empty f 0 0)
-alone-one zero (b ∷ s) l = absurd (omega arith)
-alone-one (suc f) (b ∷ s) l = go (closes b) refl
+alone-one f s l = go f s l (begins s) refl
   where
-    more : (o : Option (List ℕ)) → alone (on (row (suc f) 0 0) o) ≡ onlyOne o
-    more none = refl
-    more (some r) = alone-first f r
+    more : (f : ℕ) (o : Option (List ℕ)) → alone (on (row (suc f) 0 0) o) ≡ onlyOne o
+    more f none = refl
+    more f (some r) = alone-first f r
 
-    go : (x : Bool) → closes b ≡ x → alone (row (suc (suc f)) 0 0 (b ∷ s)) ≡ onlyOne (one (suc f) 0 0 (b ∷ s))
-    go true c = rw (row-closed (suc f) 0 0 b s c, close-none (suc f) 0 0 b s c)
-    go false c = rw (row-open (suc f) 0 0 b s c) (more (one (suc f) 0 0 (b ∷ s)))
-
--- where a type fits it begins
-fits-open : (s : List ℕ) (n m : ℕ) → Nested s n m → fits 0 0 n m ≡ true → Open s
-fits-open s n m r t = go s (2 * length s) (r .is (2 * length s) 0 0 (omega arith))
-  where
-    begins : (f : ℕ) (s : List ℕ) → one f 0 0 s ≡ none → one f 0 0 s ≡ kept (fits 0 0 n m) (some (behind 0 s)) → Open s
-    begins f s e h = absurd (false≢true (sym (fits-shut f 0 0 n m s e h) ∙ t))
-
-    go : (s : List ℕ) (f : ℕ) → one f 0 0 s ≡ kept (fits 0 0 n m) (some (behind 0 s)) → Open s
-    go [] f h = begins f [] (one-empty f 0 0) h
-    go (b ∷ s) f h = begun (closes b) refl
-      where
-        begun : (x : Bool) → closes b ≡ x → closes b ≡ false
-        begun true c = begins f (b ∷ s) (close-none f 0 0 b s c) h
-        begun false c = c
+    go : (f : ℕ) (s : List ℕ) → 2 * length s ≤ f → (x : Bool) → begins s ≡ x → alone (row (suc f) 0 0 s) ≡ onlyOne (one f 0 0 s)
+    go f s l false c = rw (row-shut f 0 0 s c, one-shut f 0 0 s c)
+    go f [] l true c = absurd (false≢true c)
+    go zero (b ∷ s) l true c = absurd (omega arith)
+    go (suc f) (b ∷ s) l true c = rw (row-begins (suc f) 0 0 (b ∷ s) c) (more f (one (suc f) 0 0 (b ∷ s)))
 
 -- the code's test, of the first byte's entries
-pub single-is : (s : List ℕ) (e n m : ℕ) → length s ≤ 255 → Nested s n m → (Open s → drop e s ≡ behind 0 s)
+pub single-is : (s : List ℕ) (e n m : ℕ) → length s ≤ 255 → Nested s n m → (begins s ≡ true → drop e s ≡ behind 0 s)
     → (leb n 32 && leb m 32) && leb (length s) e ≡ single s
 unfolding single fits
 single-is s e n m few r h =
@@ -88,9 +71,13 @@ single-is s e n m few r h =
     none-left : (n m : ℕ) → leb n m ≡ eqb (n - m) 0
     none-left n m = agree (leb n m) (eqb (n - m) 0) (omega (arith, leb-true, eq-eqb)) (omega (arith, eqb-true, le-leb))
 
-    only : (x : Bool) → (leb n 32 && leb m 32) ≡ x → x && leb (length s) e ≡ onlyOne (kept x (some (behind 0 s)))
+    fits-begins : fits 0 0 n m ≡ true → (x : Bool) → begins s ≡ x → begins s ≡ true
+    fits-begins q true c = c
+    fits-begins q false c = absurd (false≢true (sym (fits-shut 0 0 c r) ∙ q))
+
+    only : (x : Bool) → leb n 32 && leb m 32 ≡ x → x && leb (length s) e ≡ onlyOne (kept x (some (behind 0 s)))
     only false q = refl
-    only true q = rw (← h (fits-open s n m r q), length-drop e s) (none-left (length s) e)
+    only true q = rw (← h (fits-begins q (begins s) refl), length-drop e s) (none-left (length s) e)
 
 -- ---- the tables, from i on
 
@@ -120,7 +107,7 @@ filling-begin {s} {ends} f z =
       nests = record {
         few = f;
         table = record { few = f; sized = z; types = λ i l m. absurd (omega arith); rows = λ i l m. absurd (omega arith) };
-        each = λ i l m. rw (past s i l, getD-replicate {A = ℕ} 256 i 33 0 (omega arith)) nested-empty;
+        each = λ i l m. rw (past s i l, getD-replicate {A = ℕ} 256 i 33 0 (omega arith)) (nested-shut refl);
       };
     }
 
@@ -164,7 +151,7 @@ module _ {s ends arrays parens : List ℕ} {i : ℕ} (p : Filling s ends arrays 
   filling-end l {e} q =
       let t : NestsFrom s ends arrays parens 0 = subst (NestsFrom s ends arrays parens) (omega arith) (p .nests) in
       record {
-        is = single-is s e (getD arrays 0 0) (getD parens 0 0) (t .few) (t .each 0 (omega arith) (omega arith)) (λ o. rw q (read-open (t .table) 0 (omega arith) o));
+        is = single-is s e (getD arrays 0 0) (getD parens 0 0) (t .few) (t .each 0 (omega arith) (omega arith)) (λ o. rw q (read-end (t .table) 0 (omega arith) o));
         table = t .table;
       }
 
@@ -198,7 +185,7 @@ module _ (s : List ℕ) (l : length s ≡ 1) where
 
       is : (x : Bool) → basic (getD s 0 0) || eqb (getD s 0 0) 118 ≡ x → x ≡ single s
       is x t = code x ∙ single-is s 1 (cond x 0 33) 0 (omega arith) (letter-nest x t .nest)
-          (λ o. rw (getD-set-same ends 0 1 0 (omega arith)) at (read-open table 0 (omega arith) o))
+          (λ o. rw (getD-set-same ends 0 1 0 (omega arith)) at (read-end table 0 (omega arith) o))
         where
           code : (x : Bool) → x ≡ (leb (cond x 0 33) 32 && leb 0 32) && leb (length s) 1
           code true = rw l

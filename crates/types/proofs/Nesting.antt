@@ -1,18 +1,18 @@
 -- How deep the types of a signature are nested: the signature rule against the two numbers of a type.
-use mathlib.Core.Path.{_≡_, refl, sym, ap, _∙_}
-use mathlib.Core.Bool.{Bool, true, false, cond, _&&_, _||_, and-false, and-assoc, false≢true}
+use mathlib.Core.Path.{_≡_, refl, sym, _∙_}
+use mathlib.Core.Bool.{Bool, true, false, not, _&&_, _||_, and-false, and-assoc, false≢true}
 use mathlib.Core.List.{List, [], _∷_}
 use mathlib.Core.Option.{Option, none, some}
-use Prim.Native.Nat.{ℕ, zero, suc, _+_, _-_, _*_, _≤_, _<_, min, max}
+use Prim.Native.Nat.{ℕ, zero, suc, _+_, _-_, _*_, _≤_, min, max}
 use native.Mathlib.Omega.{arith}
 use lib.Dec.{leb, ltb, eqb}
-use lib.ListN.{length, drop, length-drop}
-use borrow.Author.Tests.{le-leb, lt-leb, leb-true, leb-false, ltb-true, lt-ltb, le-ltb, ltb-false, eq-eqb, ne-eqb, eqb-true}
+use lib.ListN.{length}
+use borrow.Author.Tests.{le-leb, lt-leb, leb-true, leb-false, ltb-true, ltb-false, ne-eqb, eqb-true, not-true, not-false}
 use Rattle.wire.specs.Bytes.{front}
-use Rattle.wire.proofs.Texts.{agree, both-first, both-second, both-true}
+use Rattle.wire.proofs.Texts.{agree}
 use Rattle.signature.specs.Signature.{Row, basic, headOf, closedBy, tuple, dictEntry, oneMore, one, row}
-use Rattle.types.specs.Letters.{opens, closes}
-use Rattle.types.specs.Types.{behind, alone, single}
+use Rattle.types.specs.Letters.{closes}
+use Rattle.types.specs.Types.{behind}
 use Rattle.types.specs.Nest.{kept, restOf, fits, Nested}
 use Rattle.types.proofs.Letters.{plain-closes, plain-opens, plain-array}
 use Rattle.types.proofs.Behind.{close-last, open-one, array-on, letter-on, hops}
@@ -112,38 +112,44 @@ unfolding one headOf
 one-none zero a p b t e n m = refl
 one-none (suc f) a p b t e n m = rw (one, headOf, e, ne-eqb b 97 n, ne-eqb b 40 m)
 
-pub close-none : (f a p b : ℕ) (t : List ℕ) → closes b ≡ true → one f a p (b ∷ t) ≡ none
-close-none f a p b t c = go (eqb b 41) refl
-  where
-    go : (x : Bool) → eqb b 41 ≡ x → one f a p (b ∷ t) ≡ none
-    go true e = rw (eqb-true b 41 e) (one-none f a p 41 t refl (λ z. omega (arith, z)) (λ z. omega (arith, z)))
-    go false e = rw (eqb-true b 125 (rw e at c)) (one-none f a p 125 t refl (λ z. omega (arith, z)) (λ z. omega (arith, z)))
+-- a type begins, complete or not: a byte stands in front, and it closes nothing
+abbrev pub begins : List ℕ → Bool
+begins [] = false
+begins (b ∷ s) = not (closes b)
 
-pub one-empty : (f a p : ℕ) → one f a p [] ≡ none
+pub one-shut : (f a p : ℕ) (s : List ℕ) → begins s ≡ false → one f a p s ≡ none
 unfolding one headOf
-one-empty zero a p = refl
-one-empty (suc f) a p = refl
+one-shut zero a p s c = refl
+one-shut (suc f) a p [] c = refl
+one-shut (suc f) a p (b ∷ s) c = go (eqb b 41) refl
+  where
+    go : (x : Bool) → eqb b 41 ≡ x → one (suc f) a p (b ∷ s) ≡ none
+    go true e = rw (eqb-true b 41 e)
+    go false e = rw (eqb-true b 125 (rw e at (not-false (closes b) c)))
 
-pub row-empty : (f a p : ℕ) → row (suc f) a p [] ≡ some (0, [])
+pub row-shut : (f a p : ℕ) (s : List ℕ) → begins s ≡ false → row (suc f) a p s ≡ some (0, s)
 unfolding row
-row-empty f a p = refl
+row-shut f a p [] c = refl
+row-shut f a p (b ∷ s) c = rw (row, not-false (closes b) c)
 
-pub row-closed : (f a p b : ℕ) (t : List ℕ) → closes b ≡ true → row (suc f) a p (b ∷ t) ≡ some (0, b ∷ t)
-unfolding row
-row-closed f a p b t e = rw (row, e)
-
--- a row of one type and the others
+-- a type, and the row behind it
 abbrev pub on : (List ℕ → Option Row) → Option (List ℕ) → Option Row
 on more none = none
 on more (some r) = oneMore (more r)
 
-pub row-open : (f a p b : ℕ) (t : List ℕ) → closes b ≡ false → row (suc f) a p (b ∷ t) ≡ on (row f a p) (one f a p (b ∷ t))
+pub row-begins : (f a p : ℕ) (s : List ℕ) → begins s ≡ true → row (suc f) a p s ≡ on (row f a p) (one f a p s)
 unfolding row
-row-open f a p b t e = go (one f a p (b ∷ t)) refl
+row-begins f a p [] c = absurd (false≢true c)
+row-begins f a p (b ∷ s) c = go (one f a p (b ∷ s)) refl
   where
-    go : (o : Option (List ℕ)) → one f a p (b ∷ t) ≡ o → row (suc f) a p (b ∷ t) ≡ on (row f a p) o
-    go none q = rw (row, e, q)
-    go (some r) q = rw (row, e, q)
+    go : (o : Option (List ℕ)) → one f a p (b ∷ s) ≡ o → row (suc f) a p (b ∷ s) ≡ on (row f a p) o
+    go none q = rw (row, not-true (closes b) c, q)
+    go (some r) q = rw (row, not-true (closes b) c, q)
+
+closed-not : (by : ℕ) (s : List ℕ) → closedBy by false s ≡ none
+unfolding closedBy
+closed-not by [] = refl
+closed-not by (b ∷ s) = refl
 
 -- ---- a type by what is in front of it
 
@@ -159,17 +165,14 @@ nested {b} {t} {n} {m} h = record { is = go }
 nested-none : {s : List ℕ} {m : ℕ} → ((f a p : ℕ) → 2 * length s ≤ f → one f a p s ≡ none) → Nested s 33 m
 nested-none {s} {m} h = record { is = λ f a p l. rw (h f a p l, fits-none a p m) }
 
-pub nested-empty : {m : ℕ} → Nested [] 33 m
-nested-empty = nested-none (λ f a p l. one-empty f a p)
+pub nested-shut : {s : List ℕ} {m : ℕ} → begins s ≡ false → Nested s 33 m
+nested-shut {s} c = nested-none (λ f a p l. one-shut f a p s c)
 
 module _ {b : ℕ} {t : List ℕ} where
   pub nested-plain : basic b || eqb b 118 ≡ true → Nested (b ∷ t) 0 0
   nested-plain e =
       nested
       (λ f a p l. rw (one-plain f a p t b e, fits-zero a p, letter-on b t (plain-closes b e) (plain-opens b e) (plain-array b e)))
-
-  pub nested-closed : {m : ℕ} → closes b ≡ true → Nested (b ∷ t) 33 m
-  nested-closed c = nested-none (λ f a p l. close-none f a p b t c)
 
   pub nested-other : {m : ℕ} → basic b || eqb b 118 ≡ false → (b ≡ 97 → ⊥) → (b ≡ 40 → ⊥) → Nested (b ∷ t) 33 m
   nested-other e n m = nested-none (λ f a p l. one-none f a p b t e n m)
@@ -188,65 +191,54 @@ nested-array {t} {n} {m} e r =
 
 -- ---- a dict entry
 
--- a type is in front, good or not
-abbrev pub Open : List ℕ → Type 0
-Open [] = ⊥
-Open (b ∷ s) = closes b ≡ false
-
--- where none is, no number fits
-pub fits-shut : (f a p n m : ℕ) (s : List ℕ) → one f a p s ≡ none → one f a p s ≡ kept (fits a p n m) (some (behind 0 s)) → fits a p n m ≡ false
-fits-shut f a p n m s e h = go (fits a p n m) (sym e ∙ h)
+-- where no type begins none fits
+pub fits-shut : {s : List ℕ} {n m : ℕ} (a p : ℕ) → begins s ≡ false → Nested s n m → fits a p n m ≡ false
+fits-shut {s} {n} {m} a p c r = go (fits a p n m) (sym (one-shut (2 * length s) a p s c) ∙ r .is (2 * length s) a p (omega arith))
   where
     go : (x : Bool) → none ≡ kept x (some (behind 0 s)) → x ≡ false
     go true q = let z : _≡_ {A = ℕ} 0 1 = cc in absurd (omega arith)
     go false q = refl
 
--- three types or more are no dict entry
-three : (o : Option Row) → dictEntry true (oneMore (oneMore (oneMore o))) ≡ none
-unfolding closedBy
-three none = refl
-three (some (n, [])) = refl
-three (some (n, b ∷ s)) = rw (ne-eqb (n + 1 + 1 + 1) 2 (λ e. omega (arith, e)))
-
 -- behind the two types
 entry-end : (f a p : ℕ) (s : List ℕ) → dictEntry true (oneMore (oneMore (row (suc f) a p s))) ≡ kept (eqb (front s) 125) (some (behind 1 s))
 unfolding closedBy
-entry-end f a p [] = rw (row-empty f a p)
+entry-end f a p [] = rw (row-shut f a p [] refl)
 entry-end f a p (b ∷ s) = go (closes b) refl (eqb b 125) refl
   where
+    -- three types or more are no dict entry
+    three : (o : Option Row) → dictEntry true (oneMore (oneMore (oneMore o))) ≡ none
+    three none = refl
+    three (some r) = rw (ne-eqb (r .0 + 1 + 1 + 1) 2 (λ e. omega (arith, e))) (closed-not 125 (r .1))
+
+    more : (o : Option (List ℕ)) → dictEntry true (oneMore (oneMore (on (row f a p) o))) ≡ none
+    more none = refl
+    more (some r) = three (row f a p r)
+
     go : (x : Bool) → closes b ≡ x → (y : Bool) → eqb b 125 ≡ y
         → dictEntry true (oneMore (oneMore (row (suc f) a p (b ∷ s)))) ≡ kept (eqb b 125) (some (behind 1 (b ∷ s)))
-    go true c true e = rw (row-closed f a p b s c, e, close-last b s c)
-    go true c false e = rw (row-closed f a p b s c, e)
+    go true c true e = rw (row-shut f a p (b ∷ s) (rw c), e, close-last b s c)
+    go true c false e = rw (row-shut f a p (b ∷ s) (rw c), e)
     go false c true e = absurd (false≢true (rw (eqb-true b 125 e) at (sym c)))
-    go false c false e = rw (row-open f a p b s c, e) (more (one f a p (b ∷ s)))
-      where
-        more : (o : Option (List ℕ)) → dictEntry true (oneMore (oneMore (on (row f a p) o))) ≡ none
-        more none = refl
-        more (some r) = three (row f a p r)
+    go false c false e = rw (row-begins f a p (b ∷ s) (rw c), e) (more (one f a p (b ∷ s)))
 
 -- behind the key: `shut` says whether a `}` stands behind the type u, where one begins
-abbrev Shut : List ℕ → Bool → Type 0
-Shut u shut = Open u → eqb (front (behind 0 u)) 125 ≡ shut
+abbrev pub Shut : List ℕ → Bool → Type 0
+Shut u shut = begins u ≡ true → eqb (front (behind 0 u)) 125 ≡ shut
 
 entry-value : (f a p n m : ℕ) (u : List ℕ) (shut : Bool) → Shut u shut → Nested u n m → 2 * length u + 2 ≤ f
     → dictEntry true (oneMore (row f a p u)) ≡ kept (fits a p n m) (kept shut (some (behind 1 u)))
-unfolding closedBy
 entry-value zero a p n m u shut h r l = absurd (omega arith)
 entry-value (suc zero) a p n m u shut h r l = absurd (omega arith)
-entry-value (suc (suc f)) a p n m [] shut h r l =
-    rw (row-empty (suc f) a p, fits-shut f a p n m [] (one-empty f a p) (r .is f a p (omega arith)))
-entry-value (suc (suc f)) a p n m (b ∷ u) shut h r l = go (closes b) refl
+entry-value (suc (suc f)) a p n m u shut h r l = go (begins u) refl
   where
-    go : (x : Bool) → closes b ≡ x
-        → dictEntry true (oneMore (row (suc (suc f)) a p (b ∷ u))) ≡ kept (fits a p n m) (kept shut (some (behind 1 (b ∷ u))))
-    go true c = rw (row-closed (suc f) a p b u c, fits-shut (suc f) a p n m (b ∷ u) (close-none (suc f) a p b u c) (r .is (suc f) a p (omega arith)))
-    go false c = rw (row-open (suc f) a p b u c, r .is (suc f) a p (omega arith)) (if-fits (fits a p n m))
-      where
-        if-fits : (x : Bool)
-            → dictEntry true (oneMore (on (row (suc f) a p) (kept x (some (behind 0 (b ∷ u)))))) ≡ kept x (kept shut (some (behind 1 (b ∷ u))))
-        if-fits true = rw (← h c, ← hops (b ∷ u)) (entry-end f a p (behind 0 (b ∷ u)))
-        if-fits false = refl
+    if-fits : begins u ≡ true → (x : Bool)
+        → dictEntry true (oneMore (on (row (suc f) a p) (kept x (some (behind 0 u))))) ≡ kept x (kept shut (some (behind 1 u)))
+    if-fits c true = rw (← h c, ← hops u) (entry-end f a p (behind 0 u))
+    if-fits c false = refl
+
+    go : (x : Bool) → begins u ≡ x → dictEntry true (oneMore (row (suc (suc f)) a p u)) ≡ kept (fits a p n m) (kept shut (some (behind 1 u)))
+    go true c = rw (row-begins (suc f) a p u c, r .is (suc f) a p (omega arith)) (if-fits c (fits a p n m))
+    go false c = rw (row-shut (suc f) a p u c, fits-shut a p c r) (closed-not 125 u)
 
 -- the rule at `a{`, a basic key, and the type behind it
 entry-one : (f a p n m k : ℕ) (u : List ℕ) (shut : Bool) → basic k ≡ true → Shut u shut → Nested u n m → 2 * length u + 3 ≤ f
@@ -263,7 +255,7 @@ entry-one (suc f) a p n m k u shut e h r l = one-entry (suc f) a p (k ∷ u) ∙
     step (suc f) l =
         rw (
           e,
-          row-open (suc f) (a + 1) p k u (plain-closes k plain),
+          row-begins (suc f) (a + 1) p (k ∷ u) (rw (plain-closes k plain)),
           one-plain f (a + 1) p u k plain,
           entry-value (suc f) (a + 1) p n m u shut h r (omega arith),
           fits-array a p n m,
@@ -290,13 +282,11 @@ module _ {k : ℕ} {u : List ℕ} {n m : ℕ} (e : basic k ≡ true) (r : Nested
 
 -- no key, or one that is not basic
 pub nested-key : {t : List ℕ} → basic (front t) ≡ false → Nested (97 ∷ 123 ∷ t) 33 0
-unfolding closedBy
 nested-key {t} e = nested (λ f a p l. rw (one-entry f a p t, e, fits-none a p 0) (none-left (ltb a 32) (row f (a + 1) p t)))
   where
     none-left : (x : Bool) (o : Option Row) → kept x (dictEntry false o) ≡ none
     none-left true none = refl
-    none-left true (some (n, [])) = refl
-    none-left true (some (n, b ∷ s)) = refl
+    none-left true (some r) = closed-not 125 (r .1)
     none-left false o = refl
 
 -- ---- parentheses
@@ -306,10 +296,10 @@ abbrev pub closing : Option (List ℕ) → Option (List ℕ)
 closing none = none
 closing (some s) = closedBy 41 true s
 
-pub tuple-open : (f a p b : ℕ) (s : List ℕ) → closes b ≡ false → tuple (row f a p (b ∷ s)) ≡ closing (restOf (row f a p (b ∷ s)))
+pub tuple-begins : (f a p : ℕ) (s : List ℕ) → begins s ≡ true → tuple (row f a p s) ≡ closing (restOf (row f a p s))
 unfolding row
-tuple-open zero a p b s c = refl
-tuple-open (suc f) a p b s c = rw (row-open f a p b s c) (go (one f a p (b ∷ s)))
+tuple-begins zero a p s c = refl
+tuple-begins (suc f) a p s c = rw (row-begins f a p s c) (go (one f a p s))
   where
     some-types : (o : Option Row) → tuple (oneMore o) ≡ closing (restOf (oneMore o))
     some-types none = refl
@@ -318,6 +308,12 @@ tuple-open (suc f) a p b s c = rw (row-open f a p b s c) (go (one f a p (b ∷ s
     go : (o : Option (List ℕ)) → tuple (on (row f a p) o) ≡ closing (restOf (on (row f a p) o))
     go none = refl
     go (some r) = some-types (row f a p r)
+
+-- no type stands in the parentheses
+pub tuple-shut : (f a p : ℕ) (s : List ℕ) → begins s ≡ false → tuple (row f a p s) ≡ none
+unfolding row
+tuple-shut zero a p s c = refl
+tuple-shut (suc f) a p s c = rw (row-shut f a p s c) (closed-not 41 s)
 
 pub nested-tuple : {t : List ℕ} (n m : ℕ) → ((f a p : ℕ) → 2 * length t + 1 ≤ f → tuple (row f a p t) ≡ kept (fits a p n m) (some (behind 1 t)))
     → Nested (40 ∷ t) n (min (m + 1) 33)

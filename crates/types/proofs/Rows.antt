@@ -1,7 +1,7 @@
 -- A row of types that is being walked: how deep its types are nested, and where it ends.
 use mathlib.Core.Path.{_≡_, refl, sym, _∙_}
 use mathlib.Core.Bool.{Bool, true, false}
-use mathlib.Core.List.{List, [], _∷_}
+use mathlib.Core.List.{List}
 use mathlib.Core.Option.{Option, none, some}
 use Prim.Native.Nat.{ℕ, zero, suc, _+_, _-_, _*_, _≤_, _<_, max}
 use native.Mathlib.Decide.{decLe}
@@ -9,13 +9,13 @@ use native.Mathlib.Omega.{arith}
 use lib.ListN.{length, drop, getD, length-drop}
 use borrow.Author.Needs.{needs}
 use Rattle.wire.proofs.From.{next, past}
-use Rattle.signature.specs.Signature.{Row, oneMore, one, row}
+use Rattle.signature.specs.Signature.{Row, oneMore, row}
 use Rattle.types.specs.Letters.{closes}
 use Rattle.types.specs.Types.{behind}
-use Rattle.types.specs.Contracts.{EndAt, EndsFrom}
+use Rattle.types.specs.Contracts.{EndAt}
 use Rattle.types.specs.Nest.{kept, restOf, fits, Nested, RowAt, NestsFrom}
 use Rattle.types.proofs.Behind.{hops}
-use Rattle.types.proofs.Nesting.{on, fits-zero, fits-most, kept-both, row-empty, row-closed, row-open}
+use Rattle.types.proofs.Nesting.{begins, on, fits-zero, fits-most, kept-both, row-shut, row-begins}
 
 -- what is left of the row starts at j: whatever it comes to, the whole row comes to the same under the two limits
 pub record Walking (s : List ℕ) (i j arrays parens : ℕ) : Type 0 where
@@ -32,19 +32,26 @@ walking-begin l =
 
 module _ {s : List ℕ} {i j n m : ℕ} (w : Walking s i j n m) where
   -- no type is left
-  stop : ((f a p : ℕ) → row (suc f) a p (drop j s) ≡ some (0, drop j s)) → (j < length s → closes (getD s j 0) ≡ true) → RowAt s i j n m
+  stop : begins (drop j s) ≡ false → (j < length s → closes (getD s j 0) ≡ true) → RowAt s i j n m
   stop h e =
-      record { low = w .low; high = w .high; left = w .left; first = w .first; end = e; is = λ f a p l. w .rest a p (some (drop j s)) (λ g k. none-left g a p k) f l }
+      record {
+        low = w .low;
+        high = w .high;
+        left = w .left;
+        first = w .first;
+        end = e;
+        is = λ f a p l. w .rest a p (some (drop j s)) (λ g k. none-left g a p k) f l;
+      }
     where
       none-left : (g a p : ℕ) → 2 * length (drop j s) + 1 ≤ g → restOf (row g a p (drop j s)) ≡ some (drop j s)
       none-left zero a p k = absurd (omega arith)
-      none-left (suc g) a p k = rw (h g a p)
+      none-left (suc g) a p k = rw (row-shut g a p (drop j s) h)
 
   pub walking-end : length s ≤ j → RowAt s i j n m
-  walking-end h = stop (λ f a p. rw (past s j h) (row-empty f a p)) (λ l. absurd (omega arith))
+  walking-end h = stop (rw (past s j h)) (λ l. absurd (omega arith))
 
   pub walking-closed : j < length s → closes (getD s j 0) ≡ true → RowAt s i j n m
-  walking-closed h c = stop (λ f a p. rw (next s j h) (row-closed f a p (getD s j 0) (drop (j + 1) s) c)) (λ l. c)
+  walking-closed h c = stop (rw (next s j h, c)) (λ l. c)
 
   module _ (h : j < length s) (c : closes (getD s j 0) ≡ false) where
     -- the type at j, and the row behind it
@@ -53,7 +60,7 @@ module _ {s : List ℕ} {i j n m : ℕ} (w : Walking s i j n m) where
         → (f : ℕ) → 2 * length (drop j s) + 1 ≤ f → restOf (row f a p (drop j s)) ≡ kept (fits a p k l) x
     one-more t r a p x q zero b = absurd (omega arith)
     one-more {e} {k} {l} t r a p x q (suc f) b =
-        rw (next s j h, row-open f a p (getD s j 0) (drop (j + 1) s) c, ← next s j h, r .is f a p (omega arith), ← t .is) (go (fits a p k l))
+        rw (row-begins f a p (drop j s) (rw (next s j h, c)), r .is f a p (omega arith), ← t .is) (go (fits a p k l))
       where
         counted : (o : Option Row) → restOf (oneMore o) ≡ restOf o
         counted none = refl

@@ -1,8 +1,7 @@
 -- The letters of types: what they open and close, and how their values are aligned (rules 2.14 and 2.15).
-use mathlib.Core.Bool.{Bool, false, cond, _||_}
+use mathlib.Core.Bool.{Bool, false, cond}
 use Prim.Native.Nat.{ℕ}
-use lib.Dec.{eqb}
-use Rattle.wire.specs.Bytes.{byte, oneOf}
+use Rattle.wire.specs.Bytes.{oneOf}
 use Rattle.signature.specs.Signature.{basic}
 
 -- a struct or a dict entry begins

@@ -19,7 +19,7 @@ unfoldable pub single : List ℕ → Bool
 single s = leb (length s) 255 && alone (row (2 * length s + 1) 0 0 s)
 
 -- what is left behind the type in front, with `depth` brackets open: a letter is a type, an `a` belongs to the type behind it, and a bracket goes on to
--- the one that closes it. Of a complete type this is what the signature rule leaves (`one-left`, proofs/Single.antt)
+-- the one that closes it. Of a complete type this is what the signature rule leaves: each entry of the pass says so (`Nested`, specs/Nest.antt)
 unfoldable pub behind : ℕ → List ℕ → List ℕ
 behind depth [] = []
 behind depth (b ∷ s) =

@@ -4,38 +4,15 @@ ghost use mathlib.Core.Bool.{true, false};
 ghost use Prim.Native.Nat.{_+_, _≤_, _<_, min, max};
 ghost use lib.ListN.{length, getD};
 ghost use Rattle.wire.specs.Bytes.{byte};
-ghost use Rattle.signature.specs.Signature.{basic};
 ghost use Rattle.types.specs.Letters.{opens, closes, alignOf, widthOf};
 ghost use Rattle.types.specs.Contracts.{EndAt, EndsFrom, EndsOf, OpenedAt, ShutAt};
 ghost use Rattle.types.specs.Nest.{RowAt, EntryAt, NestAt, NestsFrom, NestsBehind};
 
-// Where a type or a row of types ends, and how many arrays and parentheses it opens in one another at most. A type that is not complete opens 33
-// arrays, which is one too many wherever it stands.
-pub struct Nest {
-    pub end: usize,
-    pub arrays: u8,
-    pub parens: u8,
-}
+// Of a type or a row of types: where it ends, and how many arrays and how many parentheses it opens in one another at most. A type that is not
+// complete opens 33 arrays, which is one too many wherever it stands.
+struct Nest(usize, u8, u8);
 
 // ---- letters
-
-pub fn is_basic(b: u8) -> bool
-    ensures { λ r. ⌜ r ≡ basic b ⌝ }
-{
-    (b == b'y')
-        | (b == b'b')
-        | (b == b'n')
-        | (b == b'q')
-        | (b == b'i')
-        | (b == b'u')
-        | (b == b'x')
-        | (b == b't')
-        | (b == b'd')
-        | (b == b's')
-        | (b == b'o')
-        | (b == b'g')
-        | (b == b'h')
-}
 
 pub fn align_of(b: u8) -> usize
     ensures { λ r. ⌜ r ≡ alignOf b ⌝ }
@@ -56,7 +33,7 @@ pub fn align_of(b: u8) -> usize
 pub fn width_of(b: u8) -> usize
     ensures { λ r. ⌜ r ≡ widthOf b ⌝ }
 {
-    if is_basic(b) {
+    if signature::is_basic(b) {
         if (b == b'b') | (b == b's') | (b == b'o') | (b == b'g') {
             return 0;
         }
@@ -83,7 +60,7 @@ fn most(a: u8, b: u8) -> u8
 // The types in a row from i on, up to a closing byte or the end: each is hopped over.
 fn row_at(s: &[u8], ends: &[u8; 256], arrays: &[u8; 256], parens: &[u8; 256], i: usize) -> Nest
     requires { ⌜ (i ≤ length (now s)) × NestsFrom (now s) (now ends) (now arrays) (now parens) i ⌝ }
-    ensures { λ r. ⌜ RowAt (now (s .entry)) i (r .end) (r .arrays) (r .parens) ⌝ }
+    ensures { λ r. ⌜ RowAt (now (s .entry)) i (r .0) (r .1) (r .2) ⌝ }
 {
     let mut j = i;
     let mut a: u8 = 0;
@@ -91,108 +68,64 @@ fn row_at(s: &[u8], ends: &[u8; 256], arrays: &[u8; 256], parens: &[u8; 256], i:
     while j < s.len() {
         let b = s[j];
         if (b == b')') | (b == b'}') {
-            return Nest {
-                end: j,
-                arrays: a,
-                parens: p,
-            };
+            return Nest(j, a, p);
         }
         a = most(a, arrays[j]);
         p = most(p, parens[j]);
         j = wire::wide(ends[j]) as usize;
     }
-    Nest {
-        end: j,
-        arrays: a,
-        parens: p,
-    }
+    Nest(j, a, p)
 }
 
 // A bracket at i. A dict entry is a type only behind the `a` in front of it, so a brace is none here.
 fn bracket_at(s: &[u8], ends: &[u8; 256], arrays: &[u8; 256], parens: &[u8; 256], i: usize) -> Nest
     requires { ⌜ NestsBehind (now s) (now ends) (now arrays) (now parens) i × (opens (getD (now s) i 0) ≡ true) ⌝ }
-    ensures { λ r. ⌜ NestAt (now (s .entry)) i (r .end) (r .arrays) (r .parens) ⌝ }
+    ensures { λ r. ⌜ NestAt (now (s .entry)) i (r .0) (r .1) (r .2) ⌝ }
 {
     let row = row_at(s, ends, arrays, parens, i + 1);
-    let e = row.end;
+    let e = row.0;
     if s.len() <= e {
-        return Nest {
-            end: e,
-            arrays: 33,
-            parens: 0,
-        };
+        return Nest(e, 33, 0);
     }
     if (s[i] == b'(') & (s[e] == b')') & (i + 1 < e) {
-        return Nest {
-            end: e + 1,
-            arrays: row.arrays,
-            parens: more(row.parens),
-        };
+        return Nest(e + 1, row.1, more(row.2));
     }
-    Nest {
-        end: e + 1,
-        arrays: 33,
-        parens: 0,
-    }
+    Nest(e + 1, 33, 0)
 }
 
 // An `a` at i with a dict entry behind it: a basic letter and one type more. The table says where the brace ends.
 fn entry_at(s: &[u8], ends: &[u8; 256], arrays: &[u8; 256], parens: &[u8; 256], i: usize) -> Nest
     requires { ⌜ NestsBehind (now s) (now ends) (now arrays) (now parens) i × EntryAt (now s) i ⌝ }
-    ensures { λ r. ⌜ NestAt (now (s .entry)) i (r .end) (r .arrays) (r .parens) ⌝ }
+    ensures { λ r. ⌜ NestAt (now (s .entry)) i (r .0) (r .1) (r .2) ⌝ }
 {
     let end = wire::wide(ends[i + 1]) as usize;
-    if !is_basic(wire::peek(s, i + 2)) {
-        return Nest {
-            end: end,
-            arrays: 33,
-            parens: 0,
-        };
+    if !signature::is_basic(wire::peek(s, i + 2)) {
+        return Nest(end, 33, 0);
     }
     let k = i + 3;
     if wire::peek(s, wire::wide(ends[k]) as usize) != b'}' {
-        return Nest {
-            end: end,
-            arrays: 33,
-            parens: 0,
-        };
+        return Nest(end, 33, 0);
     }
-    Nest {
-        end: end,
-        arrays: more(arrays[k]),
-        parens: parens[k],
-    }
+    Nest(end, more(arrays[k]), parens[k])
 }
 
 // An `a` at i, which ends where the type behind it does.
 fn array_at(s: &[u8], ends: &[u8; 256], arrays: &[u8; 256], parens: &[u8; 256], i: usize) -> Nest
     requires { ⌜ NestsBehind (now s) (now ends) (now arrays) (now parens) i × (getD (now s) i 0 ≡ byte "a") ⌝ }
-    ensures { λ r. ⌜ NestAt (now (s .entry)) i (r .end) (r .arrays) (r .parens) ⌝ }
+    ensures { λ r. ⌜ NestAt (now (s .entry)) i (r .0) (r .1) (r .2) ⌝ }
 {
     let k = i + 1;
     if s.len() <= k {
-        return Nest {
-            end: k,
-            arrays: 33,
-            parens: 0,
-        };
+        return Nest(k, 33, 0);
     }
     let b = s[k];
     if (b == b')') | (b == b'}') {
-        return Nest {
-            end: k,
-            arrays: 33,
-            parens: 0,
-        };
+        return Nest(k, 33, 0);
     }
     if b == b'{' {
         return entry_at(s, ends, arrays, parens, i);
     }
-    Nest {
-        end: wire::wide(ends[k]) as usize,
-        arrays: more(arrays[k]),
-        parens: parens[k],
-    }
+    Nest(wire::wide(ends[k]) as usize, more(arrays[k]), parens[k])
 }
 
 // The end of the closing bytes in a row at i, by the table from i on; i where none stands.
@@ -213,16 +146,12 @@ fn run_at(s: &[u8], ends: &[u8], i: usize) -> usize
 // What the tables are to hold for the byte at i, by what they hold behind it.
 fn nest_at(s: &[u8], ends: &[u8; 256], arrays: &[u8; 256], parens: &[u8; 256], i: usize) -> Nest
     requires { ⌜ NestsBehind (now s) (now ends) (now arrays) (now parens) i ⌝ }
-    ensures { λ r. ⌜ NestAt (now (s .entry)) i (r .end) (r .arrays) (r .parens) ⌝ }
+    ensures { λ r. ⌜ NestAt (now (s .entry)) i (r .0) (r .1) (r .2) ⌝ }
 {
     let b = s[i];
     let k = i + 1;
-    if is_basic(b) | (b == b'v') {
-        return Nest {
-            end: k,
-            arrays: 0,
-            parens: 0,
-        };
+    if signature::is_basic(b) | (b == b'v') {
+        return Nest(k, 0, 0);
     }
     if b == b'a' {
         return array_at(s, ends, arrays, parens, i);
@@ -232,22 +161,15 @@ fn nest_at(s: &[u8], ends: &[u8; 256], arrays: &[u8; 256], parens: &[u8; 256], i
     }
     if (b == b')') | (b == b'}') {
         let run = run_at(s, ends, k);
-        return Nest {
-            end: run,
-            arrays: 33,
-            parens: 0,
-        };
+        return Nest(run, 33, 0);
     }
-    Nest {
-        end: k,
-        arrays: 33,
-        parens: 0,
-    }
+    Nest(k, 33, 0)
 }
 
 // ---- the table
 
-// One pass, from the last byte to the first. Behind the last one no type begins: the 33 there spares each `a` a test.
+// One pass, from the last byte to the first. Behind the last one no type begins: the 33 there says so of an empty signature, and of a dict entry
+// that stops behind its key.
 fn fill(s: &[u8], ends: &mut [u8; 256]) -> bool
     requires { ⌜ (length (now s) ≤ 255) × (length (now ends) ≡ 256) ⌝ }
     ensures { λ r. ⌜ EndsOf (now (s .entry)) (now (ends .exit)) r ⌝ }
@@ -258,9 +180,9 @@ fn fill(s: &[u8], ends: &mut [u8; 256]) -> bool
     while 0 < i {
         i -= 1;
         let n = nest_at(s, ends, &arrays, &parens, i);
-        ends[i] = (n.end % 256) as u8;
-        arrays[i] = n.arrays;
-        parens[i] = n.parens;
+        ends[i] = (n.0 % 256) as u8;
+        arrays[i] = n.1;
+        parens[i] = n.2;
     }
     (arrays[0] <= 32) & (parens[0] <= 32) & (s.len() <= wire::wide(ends[0]) as usize)
 }
@@ -274,7 +196,7 @@ pub fn ends_of(sig: &[u8], ends: &mut [u8; 256]) -> bool
     if sig.len() == 1 {
         ends[0] = 1;
         let b = sig[0];
-        return is_basic(b) | (b == b'v');
+        return signature::is_basic(b) | (b == b'v');
     }
     fill(sig, ends)
 }

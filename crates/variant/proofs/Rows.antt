@@ -3,7 +3,7 @@
 use mathlib.Core.Path.{_≡_, refl, sym, ap, subst, _∙_}
 use mathlib.Core.Bool.{Bool, true, false, cond, _&&_, _||_, false≢true}
 use mathlib.Core.List.{List, [], _∷_}
-use mathlib.Core.Logic.{_⊎_, ⊎-elim, inl, inr}
+use mathlib.Core.Logic.{⊎-elim}
 use Prim.Native.Nat.{ℕ, zero, suc, _+_, _-_, _*_, _/_, _≤_, _<_}
 use native.Mathlib.Nat.{add-zero, zero-add, sub-self}
 use native.Mathlib.Numerals.{add-one}
@@ -11,7 +11,7 @@ use native.Mathlib.Decide.{decLe}
 use native.Mathlib.Omega.{arith}
 use lib.Dec.{leb, eqb}
 use lib.ListN.{length, take, drop, getD}
-use borrow.Author.Tests.{le-leb, lt-leb, leb-true, eqb-true}
+use borrow.Author.Tests.{le-leb, lt-leb, leb-true}
 use Rattle.wire.specs.Bytes.{front, allZero}
 use Rattle.wire.specs.Words.{wordAt}
 use Rattle.wire.specs.declared.Order.{Order}
@@ -31,6 +31,7 @@ use Rattle.variant.specs.Opening.{openLimit, doneAt, arrayIn, arrayAt, r
 use Rattle.variant.specs.Walk.{valueOf}
 use Rattle.variant.specs.declared.Step.the-variants as step
 use Rattle.variant.specs.Contracts.{rowOf, stepped, stepIn, stepOf}
+use Rattle.variant.proofs.Begins.{either}
 use Rattle.variant.proofs.Fuel.{then, tailOf, row-is, value-row, value-bad}
 
 -- ---- a row that begins
@@ -116,22 +117,15 @@ pad-again h at a e = go (leb ((at + 7) / 8 * 8) (length h) && allZero (take ((at
         bad : stop.Bad ≡ stop.At a → ⊥
         bad z = let n : _≡_ {A = ℕ} 0 1 = cc in omega arith
 
-opening-letter : (b : ℕ) → opens b ≡ true → (b ≡ 40) ⊎ (b ≡ 123)
-opening-letter b t = go (eqb b 40) refl
-  where
-    go : (x : Bool) → eqb b 40 ≡ x → (b ≡ 40) ⊎ (b ≡ 123)
-    go true e = inl (eqb-true b 40 e)
-    go false e = inr (eqb-true b 123 (rw e at t))
-
 module _ (o : Order) (h : List ℕ) (d b : ℕ) (s : List ℕ) (at : ℕ) (t : opens b ≡ true) where
   row-deep : openLimit ≤ d → beginOf o h d (b ∷ s) at ≡ begin.Bad
   unfolding beginOf
-  row-deep l = ⊎-elim (λ e. rw e (rw (le-leb openLimit d l))) (λ e. rw e (rw (le-leb openLimit d l))) (opening-letter b t)
+  row-deep l = ⊎-elim (λ e. rw e (rw (le-leb openLimit d l))) (λ e. rw e (rw (le-leb openLimit d l))) (either b 40 123 t)
 
   row-begins : d < openLimit → {a : ℕ} → padded h 8 at ≡ stop.At a → beginOf o h d (b ∷ s) at ≡ begin.Row a
   unfolding beginOf openingAt rowAt
   row-begins l p =
-      ⊎-elim (λ e. rw e (rw (lt-leb openLimit d l, rowAt, p))) (λ e. rw e (rw (lt-leb openLimit d l, rowAt, p))) (opening-letter b t)
+      ⊎-elim (λ e. rw e (rw (lt-leb openLimit d l, rowAt, p))) (λ e. rw e (rw (lt-leb openLimit d l, rowAt, p))) (either b 40 123 t)
 
 no-row : (v : Stop) {start : ℕ} → stepped v ≡ step.Row start → ⊥
 no-row (stop.At n) e = let z : _≡_ {A = ℕ} 0 1 = cc in omega arith
