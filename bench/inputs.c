@@ -179,7 +179,7 @@ struct bytes message_bytes(const struct message *m) {
     return (struct bytes){b, w.at + m->body};
 }
 
-static void put_dear_elements(struct writer *w) {
+static void put_parenthesized(struct writer *w) {
     while (w->at + 8 <= 2048) {
         put_signature(w, "v");
         put_signature(w, "g");
@@ -187,23 +187,38 @@ static void put_dear_elements(struct writer *w) {
     }
 }
 
-// An unknown field of a message of type 5, which needs no other: two variants round an array whose elements have eight bytes, a variant of a variant of an
-// empty signature, in 32 parentheses that must be opened for each.
-struct bytes dearest_head(uint32_t body) {
+static void put_variants(struct writer *w) {
+    while (w->at + 9 <= 2048) {
+        put_signature(w, "((y))");
+        pad(w, 8);
+        put_byte(w, 1);
+    }
+}
+
+static struct bytes filled(const char *signature, size_t k, void (*put_elements)(struct writer *), uint32_t body) {
     struct writer w = {aligned_alloc(64, 2048), 16};
+    memset(w.b, 0, 2048);
     put_byte(&w, UNKNOWN);
     put_signature(&w, "v");
     put_signature(&w, "v");
-    char signature[80];
-    sprintf(signature, "a%sv%s", repeated("(", 32, ""), repeated(")", 32, ""));
     put_signature(&w, signature);
-    put_array(&w, 8, put_dear_elements);
+    put_array(&w, k, put_elements);
     memcpy(w.b, "l\5\0\1", 4);
     word(w.b + 4, body);
     word(w.b + 8, 1);
     word(w.b + 12, w.at - 16);
-    return (struct bytes){w.b, w.at};
+    return (struct bytes){w.b, rounded(w.at)};
 }
+
+// The elements have eight bytes, so that nothing is lost to padding: a variant of a variant of an empty signature, in 32 parentheses that are opened
+// for each of them.
+struct bytes dearest_head(uint32_t body) {
+    char *signature = repeated("(", 32, "v");
+    return filled(strcat(strcat(strcpy(malloc(80), "a"), signature), repeated(")", 32, "")), 8, put_parenthesized, body);
+}
+
+// The elements have eight bytes here too, and each needs the table of a signature of more than one letter.
+struct bytes variants_head(void) { return filled("av", 1, put_variants, 0); }
 
 // ---- names and signatures
 

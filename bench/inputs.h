@@ -36,8 +36,10 @@ extern const struct value PROPERTIES, NAMES, TEXT, STRUCTS, NUMBER;
 
 struct bytes message_bytes(const struct message *m);
 
-// The head of 2,048 bytes that costs the most of those that bench/worst found, in front of a body of so many bytes, which is not there.
+// Heads of 2,048 bytes, of type 5, which needs no field: one unknown field is all they have. The one that costs the most of all that bench/worst found,
+// in front of a body of so many bytes, which is not there; and an array of variants of ((y)).
 struct bytes dearest_head(uint32_t body);
+struct bytes variants_head(void);
 
 // The name of n bytes of a form: 0 interface, 1 well-known, 2 unique, 4 member, 5 path.
 char *name_of(int form, size_t n);

@@ -47,7 +47,7 @@ def goal(work):
         return share("libdbus", 6)
     if work == "head, 2,048 bytes":
         return share("libdbus", 4)
-    if work == "head, 2,048 bytes, the dearest known":
+    if work.startswith("head, 2,048 bytes, "):
         return below(150000)
     if work.endswith(": unknown field, body"):
         return share("libdbus", 3)
