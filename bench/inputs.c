@@ -199,8 +199,8 @@ static struct bytes filled(const char *signature, size_t k, void (*put_elements)
     struct writer w = {aligned_alloc(64, 2048), 16};
     memset(w.b, 0, 2048);
     put_byte(&w, UNKNOWN);
-    put_signature(&w, "v");
-    put_signature(&w, "v");
+    put_signature(&w, "((v))");
+    pad(&w, 8);
     put_signature(&w, signature);
     put_array(&w, k, put_elements);
     memcpy(w.b, "l\5\0\1", 4);
