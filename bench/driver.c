@@ -395,8 +395,9 @@ static void all_jobs(void) {
     guarded("piece, 176-byte call, 512 rules, 16 peers", piece, 256 * 176, image_of(PASSING, 512), served(PEERS), quiet, 0);
     guarded("piece, signal to 16 peers, 16 rules", piece, 256 * signal.len, passing, served(PEERS), signal, 0);
     guarded("piece, 2,048-byte head, 16 rules, 16 peers", piece, 256 * 2048, passing, served(PEERS), long_head, 0);
-    guarded("piece, a byte of a body, 16 rules, 16 peers with the dearest heads", piece, 10 + 256, passing, behind(dearest_head(1 << 26)), (struct bytes){cells, 1}, 0);
-    guarded("a message's end and the next head, 16 peers with the dearest heads", end_and_head, 30, passing, behind(dearest_head(1)), dearest_head(1), 0);
+    struct bytes dear = dearest_head(1), byte = {cells, 1};
+    guarded("piece, a byte of a body, 16 rules, 16 peers with the dearest heads", piece, 10 + 256, passing, behind(dearest_head(1 << 26)), byte, 0);
+    guarded("a message's end and the next head, 16 peers with the dearest heads", end_and_head, 20 + 10, passing, behind(dear), dear, 0);
     guarded("call and its return, 16 rules, 16 peers", call_and_return, 0, passing, served(PEERS), call, 0);
     guarded("own, a name of its own, 16 rules, 16 peers", own_again, 0, passing, served(PEERS), call, 0);
     guarded("start", start, 0, passing, started(0), call, 0);

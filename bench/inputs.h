@@ -30,7 +30,7 @@ struct message {
     const struct value *extra, *content;
 };
 
-// Values as real messages have them: properties as in PropertiesChanged; twenty names; a text of 1,900 bytes; menu items.
+// Values as real messages have them: properties as in PropertiesChanged; twenty names; a text of 1,900 bytes; menu items; a number.
 extern const struct value PROPERTIES, NAMES, TEXT, STRUCTS, NUMBER;
 
 

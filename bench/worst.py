@@ -40,8 +40,7 @@ def put_array(out, value, room):
     while count != value[1]:
         before = len(out)
         put(out, elements[count % len(elements)], room)
-        # an element that needs nothing from the room would be written for ever
-        if value[1] == ALL and (len(out) > room or len(out) == before):
+        if value[1] == ALL and len(out) > room:
             del out[before:]
             break
         count += 1
@@ -181,7 +180,8 @@ def elements():
             yield f"{n} parentheses round {type_of(value)} {value[1][0] if value[0] == 'v' else ''}", parens(n, value)
     # eight bytes each, so that nothing is lost to the padding in front of the next
     for n in (1, 2, 8, 16, 31, 32):
-        for inner in ([V, V], [chain(2, G)], [V, G, G], [G] * 4, [("v", G), Y, G], [chain(2, Y), Y], [V] + [Y] * 4, [Y] * 8, [V, none_of(Y)], [V, B], [V, none_of(G)]):
+        for inner in ([V, V], [chain(2, G)], [V, G, G], [G] * 4, [("v", G), Y, G], [chain(2, Y), Y], [V] + [Y] * 4, [Y] * 8, [V, none_of(Y)], [V, B],
+                      [V, none_of(G)]):
             yield f"{n} parentheses round {brief(inner)}", parens(n - 1, row(*inner))
     for n in (2, 3, 4, 8, 16, 32, 64, 100, 250):
         for value in (Y, G, V, B, S, ("n", 1), ("x", 1), none_of(Y), none_of(none_of(Y)), ("v", row(Y)), row(Y), row(G)):
