@@ -16,6 +16,7 @@
 
 bool bench_name_valid(uint8_t form, const uint8_t *s, size_t n);
 bool bench_signature_valid(const uint8_t *s, size_t n);
+bool bench_utf8_valid(const uint8_t *s, size_t n);
 uint8_t bench_header_read(const uint8_t *s, size_t n);
 uint8_t bench_image_check(const uint8_t *image, size_t n);
 bool bench_memory_good(const uint8_t *memory, size_t n);
@@ -59,11 +60,14 @@ static struct bytes text(char *s) { return (struct bytes){(unsigned char *)s, st
 static uint64_t nothing(const struct job *j) { return j->expect; }
 static uint64_t our_name(const struct job *j) { return bench_name_valid(j->n, j->a.at, j->a.len); }
 static uint64_t our_signature(const struct job *j) { return bench_signature_valid(j->a.at, j->a.len); }
+static uint64_t our_utf8(const struct job *j) { return bench_utf8_valid(j->a.at, j->a.len); }
 static uint64_t our_head(const struct job *j) { return bench_header_read(j->a.at, j->a.len); }
 static uint64_t our_image(const struct job *j) { return bench_image_check(j->image.at, j->image.len); }
 static uint64_t our_memory(const struct job *j) { return bench_memory_good(j->memory.at, j->memory.len); }
 static uint64_t dbus_text(const struct job *j) { return j->dbus((const char *)j->a.at, NULL); }
 static uint64_t glib_text(const struct job *j) { return j->glib((const char *)j->a.at); }
+
+static gboolean glib_utf8(const gchar *s) { return g_utf8_validate(s, -1, NULL); }
 
 static uint64_t dbus_head(const struct job *j) {
     DBusMessage *m = dbus_message_demarshal((const char *)j->a.at, j->a.len, NULL);
@@ -118,6 +122,12 @@ static uint64_t cuts(const struct job *j) {
 }
 
 static struct bytes call, answer;
+
+// The last byte of a message, and the head of the next: the state is the same again.
+static uint64_t end_and_head(const struct job *j) {
+    uint64_t a = one_piece(j, 2, (const unsigned char *)"", 1), b = one_piece(j, 2, j->a.at, j->a.len);
+    return a % 256 + b % 256;
+}
 
 static uint64_t call_and_return(const struct job *j) {
     uint64_t a = one_piece(j, 2, call.at, call.len), b = one_piece(j, 1, answer.at, answer.len);
@@ -176,6 +186,14 @@ static struct bytes halfway(struct bytes head) {
     return m;
 }
 
+// Each peer's stream is behind a whole head, and the body has not begun: its head is kept, and every test of the memory reads it.
+static struct bytes behind(struct bytes head) {
+    struct bytes m = started(PEERS);
+    for (int i = 1; i <= PEERS; i++)
+        must(bench_piece(passing.at, passing.len, m.at, m.len, i, head.at, head.len) == 10 + 256 * head.len, "behind");
+    return m;
+}
+
 // Four names of 255 bytes and 16 waits for each peer.
 static struct bytes full(void) {
     struct bytes m = started(PEERS);
@@ -195,9 +213,7 @@ static struct bytes full(void) {
 
 // ---- the jobs of each kind
 
-static struct bytes head(const char *work, struct message m, size_t want) {
-    struct bytes b = message_bytes(&m);
-    must(!want || b.len == want, work);
+static struct bytes head_bytes(const char *work, struct bytes b) {
     add(work, "ours", our_head, 0)->a = b;
     add(work, "libdbus", dbus_head, 0)->a = b;
     add(work, "GLib", glib_head, 0)->a = b;
@@ -205,14 +221,35 @@ static struct bytes head(const char *work, struct message m, size_t want) {
     return b;
 }
 
-static void texts(const char *work, char *s, int form, dbus_bool_t (*dbus)(const char *, DBusError *), gboolean (*glib)(const gchar *)) {
-    struct job *j = add(work, "ours", form < 0 ? our_signature : our_name, 1);
-    j->n = form, j->a = text(s);
+static struct bytes head(const char *work, struct message m, size_t want) {
+    struct bytes b = message_bytes(&m);
+    must(!want || b.len == want, work);
+    return head_bytes(work, b);
+}
+
+static struct job *texts(const char *work, char *s, uint64_t (*run)(const struct job *), dbus_bool_t (*dbus)(const char *, DBusError *),
+                         gboolean (*glib)(const gchar *)) {
+    struct job *ours = add(work, "ours", run, 1), *j;
+    ours->a = text(s);
     j = add(work, "libdbus", dbus_text, 1);
     j->dbus = dbus, j->a = text(s);
     j = add(work, "GLib", glib_text, 1);
     j->glib = glib, j->a = text(s);
     add(work, "memcpy", copied, 0)->a = text(s);
+    return ours;
+}
+
+static void signatures(const char *work, char *s) { texts(work, s, our_signature, dbus_signature_validate, g_variant_is_signature); }
+static void utf8(const char *work, char *s) { texts(work, s, our_utf8, dbus_validate_utf8, glib_utf8); }
+
+// The value as an unknown field of a return, for us; as the body of a return, for the peers, which test it there.
+static void value(const char *work, const struct value *v) {
+    struct bytes field = message_bytes(&(struct message){.kind = 2, .flags = 1, .reply_serial = 1, .extra = v});
+    struct bytes body = message_bytes(&(struct message){.kind = 2, .flags = 1, .reply_serial = 1, .content = v});
+    add(work, "ours", our_head, 0)->a = field;
+    add(work, "libdbus", dbus_head, 0)->a = body;
+    add(work, "GLib", glib_head, 0)->a = body;
+    add(work, "memcpy", copied, 0)->a = field;
 }
 
 static void names(size_t n) {
@@ -229,7 +266,7 @@ static void names(size_t n) {
     for (size_t i = 0; i < sizeof forms / sizeof *forms; i++) {
         char work[96];
         sprintf(work, "%s of %zu bytes", forms[i].what, n);
-        texts(work, name_of(forms[i].form, n), forms[i].form, forms[i].dbus, forms[i].glib);
+        texts(work, name_of(forms[i].form, n), our_name, forms[i].dbus, forms[i].glib)->n = forms[i].form;
     }
 }
 
@@ -314,16 +351,30 @@ static void all_jobs(void) {
     struct message c = {.kind = 1, .path = PATH, .interface = INTERFACE, .member = MEMBER, .destination = NAME, .signature = ""};
     head("head, 48-byte call C", (struct message){.kind = 1, .path = "/", .member = "M"}, 48);
     call = head("head, 176-byte call", c, 176);
-    struct message l = {1, 1, name_of(5, 967), name_of(0, 255), name_of(4, 255), name_of(1, 255), name_of(2, 255), NULL, 0, 0};
+    struct message l = {.kind = 1, .flags = 1, .path = name_of(5, 967), .interface = name_of(0, 255), .member = name_of(4, 255),
+                        .destination = name_of(1, 255), .sender = name_of(2, 255)};
     struct bytes long_head = head("head, 2,048 bytes", l, 2048);
+    c.extra = &NUMBER;
+    head("head, 176-byte call and an unknown field of u", c, 184);
+    c.extra = NULL;
+    head_bytes("head, 2,048 bytes, the dearest known", dearest_head(0));
+    head_bytes("head, 2,048 bytes, variants of ((y))", variants_head());
     head("head, signal", (struct message){.kind = 4, .path = PATH, .interface = INTERFACE, .member = MEMBER}, 0);
     answer = head("head, return", (struct message){.kind = 2, .flags = 1, .destination = ":1.2", .reply_serial = 1}, 0);
+    value("a{sv} of six properties: unknown field, body", &PROPERTIES);
+    value("as of 20 names: unknown field, body", &NAMES);
+    value("s of 1,900 ASCII bytes: unknown field, body", &TEXT);
+    value("a(iiibiay) of 20: unknown field, body", &STRUCTS);
     names(14);
     names(30);
     names(255);
-    texts("signature sa{sv}as", "sa{sv}as", -1, dbus_signature_validate, g_variant_is_signature);
-    texts("signature, 255 times y", repeated("y", 255, ""), -1, dbus_signature_validate, g_variant_is_signature);
-    texts("signature, 31 times a{s(iu)}, (sasv)y", repeated("a{s(iu)}", 31, "(sasv)y"), -1, dbus_signature_validate, g_variant_is_signature);
+    signatures("signature sa{sv}as", "sa{sv}as");
+    signatures("signature, 255 times y", repeated("y", 255, ""));
+    signatures("signature, 31 times a{s(iu)}, (sasv)y", repeated("a{s(iu)}", 31, "(sasv)y"));
+    utf8("text of 30 ASCII bytes", repeated("abcdefghij", 3, ""));
+    utf8("text of 255 ASCII bytes", repeated("abcdefghijklmno", 17, ""));
+    utf8("text of 2,000 ASCII bytes", repeated("abcdefghij", 200, ""));
+    utf8("text of 2,000 bytes, characters of three", wide_text(2000));
     for (int i = 0; i < 6; i += 2) {
         const char *s = i == 0 ? PATH : i == 2 ? INTERFACE : MEMBER;
         places[i] = (unsigned char *)memmem(call.at, call.len, s, strlen(s)) - call.at, places[i + 1] = strlen(s);
@@ -335,6 +386,7 @@ static void all_jobs(void) {
     memory("memory test, 16 idle peers", started(PEERS));
     memory("memory test, 16 idle peers with a name each", named());
     memory("memory test, 16 peers within 2 KB heads", halfway(long_head));
+    memory("memory test, 16 peers with the dearest heads", behind(dearest_head(1)));
     memory("memory test, 16 peers, 64 names of 255 bytes, 256 waits", full());
     c.flags = 1;
     struct bytes quiet = message_bytes(&c), signal = message_bytes(&(struct message){.kind = 4, .path = PATH, .interface = INTERFACE, .member = MEMBER});
@@ -343,6 +395,9 @@ static void all_jobs(void) {
     guarded("piece, 176-byte call, 512 rules, 16 peers", piece, 256 * 176, image_of(PASSING, 512), served(PEERS), quiet, 0);
     guarded("piece, signal to 16 peers, 16 rules", piece, 256 * signal.len, passing, served(PEERS), signal, 0);
     guarded("piece, 2,048-byte head, 16 rules, 16 peers", piece, 256 * 2048, passing, served(PEERS), long_head, 0);
+    struct bytes dear = dearest_head(1), byte = {cells, 1};
+    guarded("piece, a byte of a body, 16 rules, 16 peers with the dearest heads", piece, 10 + 256, passing, behind(dearest_head(1 << 26)), byte, 0);
+    guarded("a message's end and the next head, 16 peers with the dearest heads", end_and_head, 20 + 10, passing, behind(dear), dear, 0);
     guarded("call and its return, 16 rules, 16 peers", call_and_return, 0, passing, served(PEERS), call, 0);
     guarded("own, a name of its own, 16 rules, 16 peers", own_again, 0, passing, served(PEERS), call, 0);
     guarded("start", start, 0, passing, started(0), call, 0);

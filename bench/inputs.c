@@ -11,7 +11,116 @@ static void word(unsigned char *at, uint32_t x) {
 
 static size_t rounded(size_t n) { return (n + 7) / 8 * 8; }
 
+// ---- values
+
+static void pad(struct writer *w, size_t k) {
+    while (w->at % k) w->b[w->at++] = 0;
+}
+
+static void put_byte(struct writer *w, unsigned char x) { w->b[w->at++] = x; }
+
+static void put_word(struct writer *w, uint32_t x) {
+    pad(w, 4);
+    word(w->b + w->at, x);
+    w->at += 4;
+}
+
+static void put_double(struct writer *w, double x) {
+    pad(w, 8);
+    memcpy(w->b + w->at, &x, 8);
+    w->at += 8;
+}
+
+static void put_chars(struct writer *w, const char *s) {
+    size_t n = strlen(s) + 1;
+    memcpy(w->b + w->at, s, n);
+    w->at += n;
+}
+
+static void put_text(struct writer *w, const char *s) {
+    put_word(w, strlen(s));
+    put_chars(w, s);
+}
+
+static void put_signature(struct writer *w, const char *s) {
+    put_byte(w, strlen(s));
+    put_chars(w, s);
+}
+
+// k is the alignment of the elements.
+static void put_array(struct writer *w, size_t k, void (*put_elements)(struct writer *)) {
+    put_word(w, 0);
+    size_t length_at = w->at - 4;
+    pad(w, k);
+    size_t start = w->at;
+    put_elements(w);
+    word(w->b + length_at, w->at - start);
+}
+
+static void put_entry(struct writer *w, const char *key, const char *signature) {
+    pad(w, 8);
+    put_text(w, key);
+    put_signature(w, signature);
+}
+
+static void put_uuids(struct writer *w) {
+    for (int i = 0; i < 3; i++) put_text(w, "0000110b-0000-1000-8000-00805f9b34fb");
+}
+
+static void put_details(struct writer *w) {
+    put_entry(w, "Vendor", "s");
+    put_text(w, "Example Devices");
+    put_entry(w, "Index", "u");
+    put_word(w, 7);
+}
+
+static void put_properties(struct writer *w) {
+    put_entry(w, "Name", "s");
+    put_text(w, "Living room speaker");
+    put_entry(w, "State", "u");
+    put_word(w, 3);
+    put_entry(w, "Connected", "b");
+    put_word(w, 1);
+    put_entry(w, "Volume", "d");
+    put_double(w, 0.75);
+    put_entry(w, "UUIDs", "as");
+    put_array(w, 4, put_uuids);
+    put_entry(w, "Details", "a{sv}");
+    put_array(w, 8, put_details);
+}
+
+static void put_bytes(struct writer *w) {
+    for (int i = 0; i < 12; i++) put_byte(w, i);
+}
+
+static void put_items(struct writer *w) {
+    for (int i = 0; i < 20; i++) {
+        pad(w, 8);
+        put_word(w, i), put_word(w, 2 * i), put_word(w, 3 * i), put_word(w, i % 2), put_word(w, 4 * i);
+        put_array(w, 1, put_bytes);
+    }
+}
+
+static void put_names(struct writer *w) {
+    char name[32];
+    for (int i = 0; i < 20; i++) {
+        sprintf(name, "org.example.Service.Name%02d", i);
+        put_text(w, name);
+    }
+}
+
+static void properties(struct writer *w) { put_array(w, 8, put_properties); }
+static void names(struct writer *w) { put_array(w, 4, put_names); }
+static void text(struct writer *w) { put_text(w, repeated("A sentence of forty characters or some. ", 47, "Twenty more letters.")); }
+static void structs(struct writer *w) { put_array(w, 8, put_items); }
+static void number(struct writer *w) { put_word(w, 7); }
+
+const struct value PROPERTIES = {"a{sv}", properties}, NAMES = {"as", names}, TEXT = {"s", text}, STRUCTS = {"a(iiibiay)", structs}, NUMBER = {"u", number};
+
 // ---- heads
+
+// A code that nobody knows: libdbus 1.14 has a meaning for 10.
+enum { UNKNOWN = 11 };
 
 static size_t text_field(unsigned char *b, size_t at, int code, char letter, const char *s) {
     if (!s) return at;
@@ -37,9 +146,18 @@ static size_t number_field(unsigned char *b, size_t at, int code, uint32_t x) {
     return at + 8;
 }
 
+static size_t value_field(unsigned char *b, size_t at, const struct value *v) {
+    if (!v) return at;
+    struct writer w = {b, rounded(at)};
+    put_byte(&w, UNKNOWN);
+    put_signature(&w, v->signature);
+    v->put(&w);
+    return w.at;
+}
+
 struct bytes message_bytes(const struct message *m) {
-    unsigned char *b = aligned_alloc(64, 4096 + (m->body + 63) / 64 * 64);
-    memset(b, 0, 4096 + m->body);
+    unsigned char *b = aligned_alloc(64, 8192 + (m->body + 63) / 64 * 64);
+    memset(b, 0, 8192 + m->body);
     b[0] = 'l', b[1] = m->kind, b[2] = m->flags, b[3] = 1;
     word(b + 4, m->body);
     word(b + 8, 1);
@@ -50,10 +168,57 @@ struct bytes message_bytes(const struct message *m) {
     at = number_field(b, at, 5, m->reply_serial);
     at = text_field(b, at, 6, 's', m->destination);
     at = text_field(b, at, 7, 's', m->sender);
-    at = text_field(b, at, 8, 'g', m->signature);
+    at = text_field(b, at, 8, 'g', m->content ? m->content->signature : m->signature);
+    at = value_field(b, at, m->extra);
     word(b + 12, at - 16);
-    return (struct bytes){b, rounded(at) + m->body};
+    struct writer w = {b, rounded(at)};
+    if (m->content) {
+        m->content->put(&w);
+        word(b + 4, w.at - rounded(at));
+    }
+    return (struct bytes){b, w.at + m->body};
 }
+
+static void put_parenthesized(struct writer *w) {
+    while (w->at + 8 <= 2048) {
+        put_signature(w, "v");
+        put_signature(w, "g");
+        put_signature(w, "");
+    }
+}
+
+static void put_variants(struct writer *w) {
+    while (w->at + 9 <= 2048) {
+        put_signature(w, "((y))");
+        pad(w, 8);
+        put_byte(w, 1);
+    }
+}
+
+static struct bytes filled(const char *signature, size_t k, void (*put_elements)(struct writer *), uint32_t body) {
+    struct writer w = {aligned_alloc(64, 2048), 16};
+    memset(w.b, 0, 2048);
+    put_byte(&w, UNKNOWN);
+    put_signature(&w, "((v))");
+    pad(&w, 8);
+    put_signature(&w, signature);
+    put_array(&w, k, put_elements);
+    memcpy(w.b, "l\5\0\1", 4);
+    word(w.b + 4, body);
+    word(w.b + 8, 1);
+    word(w.b + 12, w.at - 16);
+    return (struct bytes){w.b, rounded(w.at)};
+}
+
+// The elements have eight bytes, so that nothing is lost to padding: a variant of a variant of an empty signature, in 32 parentheses that are opened
+// for each of them.
+struct bytes dearest_head(uint32_t body) {
+    char *signature = repeated("(", 32, "v");
+    return filled(strcat(strcat(strcpy(malloc(80), "a"), signature), repeated(")", 32, "")), 8, put_parenthesized, body);
+}
+
+// The elements have eight bytes here too, and each needs the table of a signature of more than one letter.
+struct bytes variants_head(void) { return filled("av", 1, put_variants, 0); }
 
 // ---- names and signatures
 
@@ -67,6 +232,8 @@ char *name_of(int form, size_t n) {
     s[n] = 0;
     return s;
 }
+
+char *wide_text(size_t n) { return repeated("\u20ac", n / 3, n % 3 == 2 ? "ab" : n % 3 ? "a" : ""); }
 
 char *repeated(const char *s, size_t times, const char *end) {
     char *r = calloc(1, strlen(s) * times + strlen(end) + 1);

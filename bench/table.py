@@ -47,6 +47,15 @@ def goal(work):
         return share("libdbus", 6)
     if work == "head, 2,048 bytes":
         return share("libdbus", 4)
+    if work.startswith("head, 2,048 bytes, "):
+        return below(150000)
+    if work.endswith(": unknown field, body"):
+        return share("libdbus", 3)
+    ascii_bytes = re.fullmatch(r"text of ([\d,]+) ASCII bytes", work)
+    if ascii_bytes:
+        return "≤ 4 a byte", lambda by, k: k == 0 and by["ours"][0] <= 4 * int(ascii_bytes[1].replace(",", ""))
+    if work == "memory test, 16 peers with the dearest heads":
+        return below(2500000)
     if re.search(r" of 30 bytes$", work):
         return share("libdbus", 2)
     if re.search(r" of 255 bytes$", work):

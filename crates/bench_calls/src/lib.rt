@@ -8,6 +8,7 @@ use policy::Uid;
 ghost use mathlib.Core.Path.{_≡_};
 ghost use Prim.Native.Nat.{_+_, _≤_};
 ghost use Rattle.signature.specs.Signature.{validSignature};
+ghost use Rattle.utf8.specs.Utf8.{validUtf8};
 ghost use Rattle.header.specs.Header.{readHeader, readingAnswer};
 ghost use Rattle.memory.specs.Good.{good};
 ghost use Rattle.memory.specs.Calls.{startOn, ownOn, Did};
@@ -42,6 +43,13 @@ pub extern "C" fn bench_signature_valid(bytes: &[u8]) -> bool
     ensures { λ r. ⌜ r ≡ validSignature (now (bytes .entry)) ⌝ }
 {
     signature::is_valid(bytes)
+}
+
+#[no_mangle]
+pub extern "C" fn bench_utf8_valid(bytes: &[u8]) -> bool
+    ensures { λ r. ⌜ r ≡ validUtf8 (now (bytes .entry)) ⌝ }
+{
+    utf8::is_valid(bytes)
 }
 
 // The answer number of a head: 0 where it is whole and good, 10 where bytes are missing.
