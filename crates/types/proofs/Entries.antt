@@ -3,7 +3,7 @@ use mathlib.Core.Path.{_≡_, refl, sym, _∙_}
 use mathlib.Core.Bool.{Bool, true, false, not, _&&_, _||_, false≢true}
 use mathlib.Core.List.{List, _∷_}
 use mathlib.Core.Option.{none, some}
-use Prim.Native.Nat.{ℕ, _+_, _*_, _≤_, _<_, min}
+use Prim.Native.Nat.{ℕ, _+_, _-_, _*_, _≤_, _<_, min}
 use native.Mathlib.Decide.{decLe}
 use native.Mathlib.Omega.{arith}
 use lib.Dec.{eqb, ltb}
@@ -16,7 +16,7 @@ use Rattle.wire.proofs.Texts.{both-first, both-second}
 use Rattle.signature.specs.Signature.{basic, closedBy, tuple, row}
 use Rattle.types.specs.Letters.{opens, closes}
 use Rattle.types.specs.Types.{behind}
-use Rattle.types.specs.Contracts.{EndAt, ClosedAt, EndsFrom, OpenedAt, ShutAt}
+use Rattle.types.specs.Contracts.{EndAt, ClosedAt, EndsFrom, Opens, OpenedAt, ShutAt}
 use Rattle.types.specs.Nest.{kept, fits, Nested, RowAt, NestAt, NestsFrom}
 use Rattle.types.proofs.Letters.{opens-only, plain-closes, plain-opens, plain-array}
 use Rattle.types.proofs.Behind.{close-last, open-one, array-on, letter-on}
@@ -164,21 +164,57 @@ pub ruleset runs = (run-past, run-none, run-is, needs)
 
 -- ---- opening bytes in a row
 
+-- a byte more
+opens-more : (s : List ℕ) (i j : ℕ) → Opens s i j → getD s j 0 ≡ 40 → Opens s i (j + 1)
+opens-more s i j o e k l m = go (decLe j k)
+  where
+    go : Dec (j ≤ k) → opens (getD s k 0) ≡ true
+    go (yes n) = let z : k ≡ j = omega arith in rw (z, e)
+    go (no n) = o k l (omega (arith, n))
+
+-- a block, of which k bytes have been looked at
+pub record Blocking (s : List ℕ) (at k : ℕ) (good : Bool) : Type 0 where
+  pub inside : at + 8 ≤ length s
+  pub high : k ≤ 8
+  pub all : good ≡ true → Opens s at (at + k)
+
+pub block-begin : {s : List ℕ} {at : ℕ} → at + 8 ≤ length s → Blocking s at 0 true
+block-begin l = record { inside = l; high = omega arith; all = λ t j m n. absurd (omega arith) }
+
+module _ {s : List ℕ} {at k : ℕ} {good : Bool} (p : Blocking s at k good) where
+  pub block-more : k < 8 → Blocking s at (k + 1) (good && eqb (getD s (at + k) 0) 40)
+  block-more l =
+      record {
+        inside = p .inside;
+        high = omega arith;
+        all = λ t. let e : at + k + 1 ≡ at + (k + 1) = omega arith in
+            rw e at (opens-more s at (at + k) (p .all (both-first good _ t)) (eqb-true (getD s (at + k) 0) 40 (both-second good _ t)));
+      }
+
+  pub block-end : 8 ≤ k → good ≡ true → Opens s at (at + 8)
+  block-end l t = let e : k ≡ 8 = omega (arith, p .high) in rw e at (p .all t)
+
 module _ {s : List ℕ} {i : ℕ} where
   pub opened-begin : OpenedAt s i i
   opened-begin = record { low = omega arith; high = λ l. l; all = λ j l m. absurd (omega arith) }
 
+  pub opened-here : {j : ℕ} → OpenedAt s i j → OpenedAt s i j
+  opened-here o = o
+
   pub opened-more : {j : ℕ} → OpenedAt s i j → j < length s → getD s j 0 ≡ 40 → OpenedAt s i (j + 1)
-  opened-more {j} o h e = record { low = omega (arith, o .low); high = λ l. omega arith; all = all }
+  opened-more {j} o h e = record { low = omega (arith, o .low); high = λ l. omega arith; all = opens-more s i j (o .all) e }
+
+  pub opened-block : {j : ℕ} → OpenedAt s i j → 8 ≤ length s - j → {r : Bool} → (r ≡ true → Opens s j (j + 8)) → not r ≡ false → OpenedAt s i (j + 8)
+  opened-block {j} o h {r} w t = record { low = omega (arith, o .low); high = λ l. omega arith; all = all }
     where
-      all : (k : ℕ) → i ≤ k → k < j + 1 → opens (getD s k 0) ≡ true
+      all : Opens s i (j + 8)
       all k l m = go (decLe j k)
         where
           go : Dec (j ≤ k) → opens (getD s k 0) ≡ true
-          go (yes n) = let z : k ≡ j = omega arith in rw (z, e)
+          go (yes n) = w (not-false r t) k n m
           go (no n) = o .all k l (omega (arith, n))
 
-pub ruleset opened = (opened-begin, opened-more, needs)
+pub ruleset opened = (block-begin, block-more, block-end, opened-begin, opened-here, opened-more, opened-block, needs)
 
 -- ---- the end of a type, and the table from a later byte on
 

@@ -15,7 +15,7 @@ use borrow.Author.Tests.{le-leb, leb-true, eq-eqb, ne-eqb, eqb-true}
 use Rattle.wire.proofs.From.{past}
 use Rattle.wire.proofs.Texts.{agree}
 use Rattle.signature.specs.Signature.{Row, basic, oneMore, one, row}
-use Rattle.types.specs.Letters.{opens, closes}
+use Rattle.types.specs.Letters.{opens, closes, letter}
 use Rattle.types.specs.Types.{behind, alone, single}
 use Rattle.types.specs.Contracts.{EndAt, ClosedAt, EndsFrom, EndsOf}
 use Rattle.types.specs.Nest.{kept, fits, Nested, NestAt, NestsFrom, NestsBehind}
@@ -106,7 +106,7 @@ filling-begin {s} {ends} f z =
       parens-sized = refl;
       nests = record {
         few = f;
-        table = record { few = f; sized = z; types = λ i l m. absurd (omega arith); rows = λ i l m. absurd (omega arith) };
+        table = record { few = f; sized = omega (arith, z); types = λ i l m. absurd (omega arith); rows = λ i l m. absurd (omega arith) };
         each = λ i l m. rw (past s i l, getD-replicate {A = ℕ} 256 i 33 0 (omega arith)) (nested-shut refl);
       };
     }
@@ -132,7 +132,7 @@ module _ {s ends arrays parens : List ℕ} {i : ℕ} (p : Filling s ends arrays 
             few = z;
             table = record {
               few = z;
-              sized = length-set ends (i - 1) (e % 256) ∙ p .sized;
+              sized = omega (arith, length-set ends (i - 1) (e % 256));
               types = stored (λ j x. j < length s → closes (getD s j 0) ≡ false → EndAt s j x) ends (i - 1) (e % 256) (omega (arith, p .inside))
                   (λ j l. p .nests .table .types j (omega arith)) (λ h c. rw (mod-small (t .type c .high)) (t .type c));
               rows = stored (λ j x. j < length s → closes (getD s j 0) ≡ true → ClosedAt s j x) ends (i - 1) (e % 256) (omega (arith, p .inside))
@@ -157,10 +157,13 @@ module _ {s ends arrays parens : List ℕ} {i : ℕ} (p : Filling s ends arrays 
         table = t .table;
       }
 
+  pub filling-sized : length ends ≡ 256
+  filling-sized = p .sized
+
 -- ---- one letter
 
 module _ (s : List ℕ) (l : length s ≡ 1) where
-  letter-nest : (x : Bool) → basic (getD s 0 0) || eqb (getD s 0 0) 118 ≡ x → NestAt s 0 1 (cond x 0 33) 0
+  letter-nest : (x : Bool) → letter (getD s 0 0) ≡ x → NestAt s 0 1 (cond x 0 33) 0
   letter-nest true t = plain (omega arith) refl t
   letter-nest false t = go (eqb (getD s 0 0) 97) refl (opens (getD s 0 0)) refl (closes (getD s 0 0)) refl
     where
@@ -170,31 +173,27 @@ module _ (s : List ℕ) (l : length s ≡ 1) where
       go false a false o true c = closing-byte (omega arith) c (run-past (omega arith))
       go false a false o false c = other (omega arith) refl t (λ e. false≢true (sym a ∙ eq-eqb (getD s 0 0) 97 e)) o c
 
-  pub one-letter : (ends : List ℕ) → length ends ≡ 256 → {k : Bool} → k ≡ basic (getD s 0 0) → EndsOf s (set ends 0 1) (k || eqb (getD s 0 0) 118)
-  one-letter ends z {k} e = rw e (record { is = is (basic (getD s 0 0) || eqb (getD s 0 0) 118) refl; table = table })
+  -- its table is one byte
+  pub one-letter : EndsOf s (1 ∷ []) (letter (getD s 0 0))
+  one-letter = record { is = is (letter (getD s 0 0)) refl; table = table }
     where
-      nest : NestAt s 0 1 (cond (basic (getD s 0 0) || eqb (getD s 0 0) 118) 0 33) 0
-      nest = letter-nest (basic (getD s 0 0) || eqb (getD s 0 0) 118) refl
+      nest : NestAt s 0 1 (cond (letter (getD s 0 0)) 0 33) 0
+      nest = letter-nest (letter (getD s 0 0)) refl
 
-      table : EndsFrom s (set ends 0 1) 0
+      table : EndsFrom s (1 ∷ []) 0
       table =
           record {
             few = omega arith;
-            sized = length-set ends 0 1 ∙ z;
-            types =
-                stored (λ j x. j < length s → closes (getD s j 0) ≡ false → EndAt s j x) ends 0 1 (omega arith) (λ j m h. absurd (omega arith))
-                (λ h. nest .type);
-            rows =
-                stored (λ j x. j < length s → closes (getD s j 0) ≡ true → ClosedAt s j x) ends 0 1 (omega arith) (λ j m h. absurd (omega arith))
-                (λ h. nest .run);
+            sized = omega arith;
+            types = λ j m h. let z : j ≡ 0 = omega arith in rw z (nest .type);
+            rows = λ j m h. let z : j ≡ 0 = omega arith in rw z (nest .run);
           }
 
-      is : (x : Bool) → basic (getD s 0 0) || eqb (getD s 0 0) 118 ≡ x → x ≡ single s
-      is x t = code x ∙ single-is s 1 (cond x 0 33) 0 (omega arith) (letter-nest x t .nest)
-          (λ o. rw (getD-set-same ends 0 1 0 (omega arith)) at (read-end table 0 (omega arith) o))
+      is : (x : Bool) → letter (getD s 0 0) ≡ x → x ≡ single s
+      is x t = code x ∙ single-is s 1 (cond x 0 33) 0 (omega arith) (letter-nest x t .nest) (λ o. read-end table 0 (omega arith) o)
         where
           code : (x : Bool) → x ≡ (leb (cond x 0 33) 32 && leb 0 32) && leb (length s) 1
           code true = rw l
           code false = refl
 
-pub ruleset filling = (filling-begin, filling-behind, filling-more, filling-end, one-letter, needs)
+pub ruleset filling = (filling-begin, filling-behind, filling-more, filling-end, filling-sized, needs)

@@ -8,7 +8,7 @@ use borrow.Author.Needs.{needs}
 use borrow.Author.Tests.{ne-eqb}
 use Rattle.wire.specs.Bytes.{oneOf}
 use Rattle.signature.specs.Signature.{basic}
-use Rattle.types.specs.Letters.{opens, closes, alignOf, widthOf}
+use Rattle.types.specs.Letters.{opens, closes, letter, alignOf, widthOf}
 
 -- ---- how values are aligned, and how wide numbers are
 
@@ -75,3 +75,6 @@ module _ (b : ℕ) (t : basic b || eqb b 118 ≡ true) where
 
   pub plain-array : b ≡ 97 → ⊥
   plain-array e = false≢true (rw e at t)
+
+pub letter-is : (b : ℕ) {k : Bool} → k ≡ basic b → k || eqb b 118 ≡ letter b
+letter-is b e = rw e

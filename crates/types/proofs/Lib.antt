@@ -3,5 +3,5 @@ pub mod Behind
 mod Nesting
 mod Rows
 mod Entries
-mod Filling
+pub mod Filling
 pub mod Table

@@ -1,7 +1,8 @@
--- The letters of types: what they open and close, and how their values are aligned (rules 2.14 and 2.15).
-use mathlib.Core.Bool.{Bool, false, cond}
+-- The letters of types: what they open and close, and how their values are aligned (rules 2.14, 2.15 and 4.2).
+use mathlib.Core.Bool.{Bool, false, cond, _||_}
 use Prim.Native.Nat.{ℕ}
-use Rattle.wire.specs.Bytes.{oneOf}
+use lib.Dec.{eqb}
+use Rattle.wire.specs.Bytes.{byte, oneOf}
 use Rattle.signature.specs.Signature.{basic}
 
 -- a struct or a dict entry begins
@@ -11,6 +12,10 @@ opens b = oneOf false "({" b
 -- a struct or a dict entry ends
 abbrev pub closes : ℕ → Bool
 closes b = oneOf false ")}" b
+
+-- a type by itself (rule 4.2)
+abbrev pub letter : ℕ → Bool
+letter b = basic b || eqb b (byte "v")
 
 -- a value starts at a multiple of this number (rule 2.14)
 unfoldable pub alignOf : ℕ → ℕ

@@ -4,8 +4,8 @@ ghost use mathlib.Core.Bool.{true, false};
 ghost use Prim.Native.Nat.{_+_, _≤_, _<_, min, max};
 ghost use lib.ListN.{length, getD};
 ghost use Rattle.wire.specs.Bytes.{byte};
-ghost use Rattle.types.specs.Letters.{opens, closes, alignOf, widthOf};
-ghost use Rattle.types.specs.Contracts.{EndAt, EndsFrom, EndsOf, OpenedAt, ShutAt};
+ghost use Rattle.types.specs.Letters.{opens, closes, letter, alignOf, widthOf};
+ghost use Rattle.types.specs.Contracts.{EndAt, EndsFrom, EndsOf, Opens, OpenedAt, ShutAt};
 ghost use Rattle.types.specs.Nest.{RowAt, EntryAt, NestAt, NestsFrom, NestsBehind};
 
 // Of a type or a row of types: where it ends, and how many arrays and how many parentheses it opens in one another at most. A type that is not
@@ -40,6 +40,13 @@ pub fn width_of(b: u8) -> usize
         return align_of(b);
     }
     0
+}
+
+// A type by itself: a basic letter, or a variant's.
+pub fn is_letter(b: u8) -> bool
+    ensures { λ r. ⌜ r ≡ letter b ⌝ }
+{
+    signature::is_basic(b) | (b == b'v')
 }
 
 // ---- one byte's entries
@@ -168,11 +175,11 @@ fn nest_at(s: &[u8], ends: &[u8; 256], arrays: &[u8; 256], parens: &[u8; 256], i
 
 // ---- the table
 
-// One pass, from the last byte to the first. Behind the last one no type begins: the 33 there says so of an empty signature, and of a dict entry
-// that stops behind its key.
-fn fill(s: &[u8], ends: &mut [u8; 256]) -> bool
+// Whether the signature is exactly one complete type; and the ends of its types, which the table holds whatever the answer is. One pass, from the last
+// byte to the first. Behind the last one no type begins: the 33 there spares each `a` a test.
+pub fn ends_of(s: &[u8], ends: &mut [u8; 256]) -> bool
     requires { ⌜ (length (now s) ≤ 255) × (length (now ends) ≡ 256) ⌝ }
-    ensures { λ r. ⌜ EndsOf (now (s .entry)) (now (ends .exit)) r ⌝ }
+    ensures { λ r. ⌜ EndsOf (now (s .entry)) (now (ends .exit)) r × (length (now (ends .exit)) ≡ 256) ⌝ }
 {
     let mut arrays = [33u8; 256];
     let mut parens = [0u8; 256];
@@ -187,20 +194,6 @@ fn fill(s: &[u8], ends: &mut [u8; 256]) -> bool
     (arrays[0] <= 32) & (parens[0] <= 32) & (s.len() <= wire::wide(ends[0]) as usize)
 }
 
-// Whether the signature is exactly one complete type; and the ends of its types, which the table holds whatever the answer is. Most signatures of
-// variants have one letter: they need no pass.
-pub fn ends_of(sig: &[u8], ends: &mut [u8; 256]) -> bool
-    requires { ⌜ (length (now sig) ≤ 255) × (length (now ends) ≡ 256) ⌝ }
-    ensures { λ r. ⌜ EndsOf (now (sig .entry)) (now (ends .exit)) r ⌝ }
-{
-    if sig.len() == 1 {
-        ends[0] = 1;
-        let b = sig[0];
-        return signature::is_basic(b) | (b == b'v');
-    }
-    fill(sig, ends)
-}
-
 // The end of the type at i.
 pub fn hop(sig: &[u8], ends: &[u8], i: usize) -> usize
     requires { ⌜ EndsFrom (now sig) (now ends) 0 × (i < length (now sig)) × (closes (getD (now sig) i 0) ≡ false) ⌝ }
@@ -209,11 +202,42 @@ pub fn hop(sig: &[u8], ends: &[u8], i: usize) -> usize
     wire::wide(ends[i]) as usize
 }
 
+// The eight bytes at `at` are opening parentheses. Each is looked at, with no exit between them, so that the compiler takes them at once.
+fn is_open_block(s: &[u8], at: usize) -> bool
+    requires { ⌜ at + 8 ≤ length (now s) ⌝ }
+    ensures { λ r. ⌜ (r ≡ true → Opens (now (s .entry)) at (at + 8)) ⌝ }
+{
+    let mut good = true;
+    let mut k = 0;
+    while k < 8 {
+        good = good & (s[at + k] == b'(');
+        k += 1;
+    }
+    good
+}
+
+// Past the blocks of eight opening parentheses at i.
+fn past_blocks(s: &[u8], i: usize) -> usize
+    ensures { λ r. ⌜ OpenedAt (now (s .entry)) i r ⌝ }
+{
+    let mut j = i;
+    while j < s.len() {
+        if s.len() - j < 8 {
+            return j;
+        }
+        if !is_open_block(s, j) {
+            return j;
+        }
+        j += 8;
+    }
+    j
+}
+
 // Where the opening parentheses in a row at i end.
 pub fn openings(sig: &[u8], i: usize) -> usize
     ensures { λ r. ⌜ OpenedAt (now (sig .entry)) i r ⌝ }
 {
-    let mut j = i;
+    let mut j = past_blocks(sig, i);
     while j < sig.len() {
         if sig[j] != b'(' {
             return j;

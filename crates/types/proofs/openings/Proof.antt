@@ -18,6 +18,7 @@ openings-spec =
     (tie.spec
     Inv-loop
     μ-loop
+    (λ c κs. search opened)
     (λ c. search opened)
     (λ c. search opened)
     (λ c. search opened)

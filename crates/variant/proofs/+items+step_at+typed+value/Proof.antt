@@ -20,14 +20,15 @@ use Rattle.variant.proofs.+items+step_at+typed+value.Lts-typed as typed
 use Rattle.variant.proofs.value.Reads as value
 use Rattle.variant.proofs.value.Kinds as value-kinds
 use Rattle.variant.proofs.+items+step_at+typed+value.Lts-value as value-lts
-use Rattle.variant.proofs.begin_at.Reads as begin-at-reads
-use Rattle.variant.proofs.numbers.Reads as numbers-reads
-use Rattle.variant.proofs.step_to.Reads as step-to-reads
 use Rattle.types.proofs.closed.Reads as closed-reads
 use Rattle.types.proofs.ends_of.Reads as ends-of-reads
 use Rattle.types.proofs.hop.Reads as hop-reads
+use Rattle.types.proofs.is_letter.Reads as is-letter-reads
 use Rattle.types.proofs.openings.Reads as openings-reads
 use Rattle.types.proofs.width_of.Reads as width-of-reads
+use Rattle.variant.proofs.begin_at.Reads as begin-at-reads
+use Rattle.variant.proofs.numbers.Reads as numbers-reads
+use Rattle.variant.proofs.step_to.Reads as step-to-reads
 use Rattle.wire.proofs.peek.Reads as peek-reads
 use Rattle.variant.proofs.+items+step_at+typed+value.{statement}
 use Rattle.variant.proofs.+items+step_at+typed+value.Tie.{close}
@@ -88,6 +89,10 @@ step-at-calls t = (
   items.Post,
   step-to-reads.Asked,
   step-to-reads.Learnt,
+  is-letter-reads.Asked,
+  is-letter-reads.Learnt,
+  value-below t,
+  value.Post,
   typed-below t,
   typed.Post,
 )
@@ -152,10 +157,30 @@ pub +items+step-at+typed+value-spec : {M : Type 1} → statement M
     (λ c. search needs)
     (λ c. omega (arith, W.begin-in (c .before .before .before .begin-at .ensures) (c .before .from .given .1)))
     (λ c. omega (arith, W.begin-in (c .before .before .before .begin-at .ensures) (c .before .from .given .1)))
-    (λ c. omega (arith, W.begin-in (c .before .before .before .begin-at .ensures) (c .before .from .given .1)))
-    (λ c. omega (arith, W.begin-in (c .before .before .before .begin-at .ensures) (c .before .from .given .1)))
-    (λ c. omega (arith, W.begin-in (c .before .before .before .begin-at .ensures) (c .before .from .given .1)))
-    (λ c κs. let f = W.begin-in (c .before .before .before .before .begin-at .ensures) (c .before .before .from .given .1) in (omega arith, omega arith))
+    (λ c. omega (arith, W.begin-in (c .before .before .before .before .before .begin-at .ensures) (c .before .before .before .from .given .1)))
+    (λ c κs. search needs)
+    (λ c.
+    omega (arith, W.begin-in (c .before .before .before .before .before .before .before .begin-at .ensures) (c .before .before .before .before .before .from .given .1)))
+    (λ c.
+    omega (arith, W.begin-in (c .before .before .before .before .before .before .before .begin-at .ensures) (c .before .before .before .before .before .from .given .1)))
+    (λ c.
+    omega (arith, W.begin-in (c .before .before .before .before .before .before .before .begin-at .ensures) (c .before .before .before .before .before .from .given .1)))
+    (λ c.
+    omega (arith, W.begin-in (c .before .before .before .before .before .before .before .begin-at .ensures) (c .before .before .before .before .before .from .given .1)))
+    (λ c. search needs)
+    (λ c κs.
+    let f = W.begin-in (c .before .before .before .before .before .before .before .before .before .begin-at .ensures)
+    (c .before .before .before .before .before .before .before .from .given .1) in
+    (omega arith, (omega arith, search W.steps)))
+    (λ c κs. search needs)
+    (λ c. search W.steps)
+    (λ c. search W.steps)
+    (λ c. omega (arith, W.begin-in (c .before .before .before .before .begin-at .ensures) (c .before .before .from .given .1)))
+    (λ c. omega (arith, W.begin-in (c .before .before .before .before .begin-at .ensures) (c .before .before .from .given .1)))
+    (λ c. omega (arith, W.begin-in (c .before .before .before .before .begin-at .ensures) (c .before .before .from .given .1)))
+    (λ c. omega (arith, W.begin-in (c .before .before .before .before .begin-at .ensures) (c .before .before .from .given .1)))
+    (λ c κs.
+    (search W.steps, omega (arith, W.begin-in (c .before .before .before .before .before .begin-at .ensures) (c .before .before .before .from .given .1))))
     (λ c κs. search needs)
     (λ c. search needs)
     (λ c. search W.steps)
