@@ -358,7 +358,7 @@ static void all_jobs(void) {
     head("head, 176-byte call and an unknown field of u", c, 184);
     c.extra = NULL;
     head_bytes("head, 2,048 bytes, the dearest known", dearest_head(0));
-    head_bytes("head, 2,048 bytes, variants of ((y))", variants_head());
+    head_bytes("head, 2,048 bytes, variants in 31 parentheses", parenthesized_head());
     head("head, signal", (struct message){.kind = 4, .path = PATH, .interface = INTERFACE, .member = MEMBER}, 0);
     answer = head("head, return", (struct message){.kind = 2, .flags = 1, .destination = ":1.2", .reply_serial = 1}, 0);
     value("a{sv} of six properties: unknown field, body", &PROPERTIES);

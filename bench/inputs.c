@@ -187,22 +187,30 @@ static void put_parenthesized(struct writer *w) {
     }
 }
 
+// Each has eight bytes behind the first. Room is left for the array behind them.
 static void put_variants(struct writer *w) {
-    while (w->at + 9 <= 2048) {
+    while (w->at + 16 <= 2048) {
         put_signature(w, "((y))");
         pad(w, 8);
         put_byte(w, 1);
     }
 }
 
-static struct bytes filled(const char *signature, size_t k, void (*put_elements)(struct writer *), uint32_t body) {
+static void put_arrays(struct writer *w) {
+    put_array(w, 1, put_variants);
+    put_word(w, 0);
+}
+
+static void put_parenthesized_array(struct writer *w) { put_array(w, 8, put_parenthesized); }
+
+// A head of type 5, which needs no field, with one unknown field: a struct, whose values begin at a multiple of 8.
+static struct bytes filled(const char *signature, void (*put_value)(struct writer *), uint32_t body) {
     struct writer w = {aligned_alloc(64, 2048), 16};
     memset(w.b, 0, 2048);
     put_byte(&w, UNKNOWN);
-    put_signature(&w, "((v))");
-    pad(&w, 8);
     put_signature(&w, signature);
-    put_array(&w, k, put_elements);
+    pad(&w, 8);
+    put_value(&w);
     memcpy(w.b, "l\5\0\1", 4);
     word(w.b + 4, body);
     word(w.b + 8, 1);
@@ -210,15 +218,17 @@ static struct bytes filled(const char *signature, size_t k, void (*put_elements)
     return (struct bytes){w.b, rounded(w.at)};
 }
 
-// The elements have eight bytes, so that nothing is lost to padding: a variant of a variant of an empty signature, in 32 parentheses that are opened
-// for each of them.
-struct bytes dearest_head(uint32_t body) {
-    char *signature = repeated("(", 32, "v");
-    return filled(strcat(strcat(strcpy(malloc(80), "a"), signature), repeated(")", 32, "")), 8, put_parenthesized, body);
-}
+static void put_dearest(struct writer *w) { put_array(w, 4, put_arrays); }
 
-// The elements have eight bytes here too, and each needs the table of a signature of more than one letter.
-struct bytes variants_head(void) { return filled("av", 1, put_variants, 0); }
+// Two arrays in a struct, the second empty. The first holds variants, each of which needs the table of a signature of more than one letter, and nothing
+// is lost to padding.
+struct bytes dearest_head(uint32_t body) { return filled("(aav)", put_dearest, body); }
+
+// The elements have eight bytes here too: a variant of a variant of an empty signature, in 31 parentheses that are opened for each of them.
+struct bytes parenthesized_head(void) {
+    char *signature = repeated("(", 31, "v");
+    return filled(strcat(strcat(strcat(strcpy(malloc(80), "(a"), signature), repeated(")", 31, "")), ")"), put_parenthesized_array, 0);
+}
 
 // ---- names and signatures
 

@@ -33,13 +33,12 @@ struct message {
 // Values as real messages have them: properties as in PropertiesChanged; twenty names; a text of 1,900 bytes; menu items; a number.
 extern const struct value PROPERTIES, NAMES, TEXT, STRUCTS, NUMBER;
 
-
 struct bytes message_bytes(const struct message *m);
 
 // Heads of 2,048 bytes, of type 5, which needs no field: one unknown field is all they have. The one that costs the most of all that bench/worst found,
-// in front of a body of so many bytes, which is not there; and an array of variants of ((y)).
+// in front of a body of so many bytes, which is not there; and an array of variants in 31 parentheses each.
 struct bytes dearest_head(uint32_t body);
-struct bytes variants_head(void);
+struct bytes parenthesized_head(void);
 
 // The name of n bytes of a form: 0 interface, 1 well-known, 2 unique, 4 member, 5 path.
 char *name_of(int form, size_t n);
