@@ -10,24 +10,9 @@
 #include <time.h>
 #include <valgrind/callgrind.h>
 
-#include "inputs.h"
+#include "states.h"
 
-// ---- the proved calls: a slice is a pointer and a length
-
-bool bench_name_valid(uint8_t form, const uint8_t *s, size_t n);
-bool bench_signature_valid(const uint8_t *s, size_t n);
-bool bench_utf8_valid(const uint8_t *s, size_t n);
-uint8_t bench_header_read(const uint8_t *s, size_t n);
-uint8_t bench_image_check(const uint8_t *image, size_t n);
-bool bench_memory_good(const uint8_t *memory, size_t n);
-uint8_t bench_decide(const uint8_t *image, size_t n, uint8_t direction, uint8_t kind, uint32_t uid, const uint32_t *gids, size_t gids_n,
-                     const uint8_t *names, size_t names_n, const uint8_t *head, size_t head_n, const uint32_t *places);
-uint8_t bench_start(uint8_t *memory, size_t n);
-uint32_t bench_connect(const uint8_t *image, size_t n, uint8_t *memory, size_t m, uint32_t uid, const uint32_t *gids, size_t gids_n);
-uint8_t bench_own(const uint8_t *image, size_t n, uint8_t *memory, size_t m, uint32_t peer, const uint8_t *name, size_t name_n);
-uint64_t bench_piece(const uint8_t *image, size_t n, uint8_t *memory, size_t m, uint32_t peer, const uint8_t *piece, size_t piece_n);
-
-enum { MEMORY = 52676, ROUNDS = 25, PEERS = 16 };
+enum { ROUNDS = 25 };
 
 // ---- a job is a work item and who does it
 
@@ -94,7 +79,6 @@ static uint64_t copied(const struct job *j) {
 
 static uint64_t compared(const struct job *j) { return compare(j->a.at, j->memory.at, j->a.len) != 0; }
 
-static uint32_t gids[16] = {100, 101, 102, 103, 104, 105, 106, 107, 108, 109, 110, 111, 112, 113, 114, 115};
 // Path, interface and member of the call that is judged; and of the same call without an interface.
 static uint32_t places[6], bare[6];
 static unsigned char cells[1024];
@@ -139,77 +123,6 @@ static uint64_t own_again(const struct job *j) {
 }
 
 static uint64_t start(const struct job *j) { return bench_start(j->memory.at, j->memory.len); }
-
-// ---- states of the guard
-
-static struct bytes passing;
-
-static void must(bool b, const char *what) {
-    if (b) return;
-    fprintf(stderr, "driver: %s\n", what);
-    exit(1);
-}
-
-static struct bytes started(int peers) {
-    struct bytes m = {aligned_alloc(64, (MEMORY + 63) / 64 * 64), MEMORY};
-    bench_start(m.at, m.len);
-    for (int i = 0; i < peers; i++)
-        must(bench_connect(passing.at, passing.len, m.at, m.len, 1000 + i, gids, 2) == (uint32_t)i + 1, "connect");
-    return m;
-}
-
-static void own(struct bytes m, uint32_t peer, const char *name) {
-    must(bench_own(passing.at, passing.len, m.at, m.len, peer, (const uint8_t *)name, strlen(name)) == 0, "own");
-}
-
-// The first peer owns the name of the message that is judged, and the name of 255 bytes.
-static struct bytes served(int peers) {
-    struct bytes m = started(peers);
-    own(m, 1, NAME);
-    own(m, 1, name_of(1, 255));
-    return m;
-}
-
-static struct bytes named(void) {
-    struct bytes m = started(PEERS);
-    for (int i = 1; i <= PEERS; i++) {
-        char name[32];
-        sprintf(name, "org.example.Service.N%03d", i);
-        own(m, i, name);
-    }
-    return m;
-}
-
-static struct bytes halfway(struct bytes head) {
-    struct bytes m = started(PEERS);
-    for (int i = 1; i <= PEERS; i++) must(bench_piece(passing.at, passing.len, m.at, m.len, i, head.at, 2000) == 10 + 256 * 2000, "half");
-    return m;
-}
-
-// Each peer's stream is behind a whole head, and the body has not begun: its head is kept, and every test of the memory reads it.
-static struct bytes behind(struct bytes head) {
-    struct bytes m = started(PEERS);
-    for (int i = 1; i <= PEERS; i++)
-        must(bench_piece(passing.at, passing.len, m.at, m.len, i, head.at, head.len) == 10 + 256 * head.len, "behind");
-    return m;
-}
-
-// Four names of 255 bytes and 16 waits for each peer.
-static struct bytes full(void) {
-    struct bytes m = started(PEERS);
-    for (int i = 0; i < 4 * PEERS; i++) {
-        char *name = name_of(1, 255);
-        name[253] = 'a' + i / 26, name[254] = 'a' + i % 26;
-        own(m, 1 + i / 4, name);
-    }
-    struct bytes c = message_bytes(&(struct message){.kind = 1, .path = "/", .member = "M", .destination = ":1.1"});
-    for (int i = 1; i <= PEERS; i++)
-        for (int k = 1; k <= 16; k++) {
-            c.at[8] = k;
-            must(bench_piece(passing.at, passing.len, m.at, m.len, i, c.at, c.len) % 256 == 0, "wait");
-        }
-    return m;
-}
 
 // ---- the jobs of each kind
 

@@ -5,14 +5,10 @@
 #include <string.h>
 #include <ucontext.h>
 
+#include "calls.h"
 #include "inputs.h"
 
-uint8_t bench_header_read(const uint8_t *s, size_t n);
-uint8_t bench_start(uint8_t *memory, size_t n);
-uint32_t bench_connect(const uint8_t *image, size_t n, uint8_t *memory, size_t m, uint32_t uid, const uint32_t *gids, size_t gids_n);
-uint64_t bench_piece(const uint8_t *image, size_t n, uint8_t *memory, size_t m, uint32_t peer, const uint8_t *piece, size_t piece_n);
-
-enum { STACK = 1 << 20, MEMORY = 52676, PAINT = 0xa5 };
+enum { STACK = 1 << 20, PAINT = 0xa5 };
 
 static unsigned char stack[STACK] __attribute__((aligned(64))), memory[MEMORY];
 static struct bytes image;

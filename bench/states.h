@@ -1,0 +1,18 @@
+// States of the guard that work items begin with.
+#pragma once
+#include "calls.h"
+#include "inputs.h"
+
+// The groups of every peer, and the image under which all of them connect and are passed.
+extern uint32_t gids[16];
+extern struct bytes passing;
+
+// Stops the benchmark where b does not hold.
+void must(bool b, const char *what);
+
+struct bytes started(int peers);
+struct bytes served(int peers);
+struct bytes named(void);
+struct bytes halfway(struct bytes head);
+struct bytes behind(struct bytes head);
+struct bytes full(void);
