@@ -225,7 +225,7 @@ static void all_policy(void) {
         sprintf(work, "decision, %d rules, all fit but for the name", sizes[i]);
         decision(work, decide, image_of(NEARLY, sizes[i]), 0);
         sprintf(work, "decision, %d rules, a mandatory one decides first", sizes[i]);
-        decision(work, decide, image_of(MANDATORY, sizes[i]), 1);
+        decision(work, decide, image_of(MANDATORY, sizes[i]), 3 + 2 * (sizes[i] - 1));
     }
     decision("decision, 512 rules, none fits, no interface", decide_bare, image_of(OTHERS, 512), 0);
     decision("decision, 512 rules, all fit but for the name, no interface", decide_bare, image_of(NEARLY, 512), 0);
@@ -246,11 +246,11 @@ static void growth(struct bytes long_head) {
         struct message c = {.kind = 1, .flags = 1, .interface = INTERFACE, .member = MEMBER, .destination = NAME, .path = name_of(5, 32 + n)};
         struct bytes b = message_bytes(&c);
         sprintf(work, "growth:head:length:%zu", b.len);
-        guarded(work, piece, 256 * b.len, passing, m, b, 0);
+        guarded(work, piece, BY(1) + 256 * b.len, passing, m, b, 0);
         c.path = PATH, c.body = n;
         b = message_bytes(&c);
         sprintf(work, "growth:body:length:%zu", b.len);
-        guarded(work, piece, 256 * b.len, passing, m, b, 0);
+        guarded(work, piece, BY(1) + 256 * b.len, passing, m, b, 0);
     }
     for (int n = 1; n <= 64; n *= 2) {
         sprintf(work, "growth:2,048-byte head:pieces:%d", n);
@@ -303,16 +303,16 @@ static void all_jobs(void) {
     memory("memory test, 16 peers, 64 names of 255 bytes, 256 waits", full());
     c.flags = 1;
     struct bytes quiet = message_bytes(&c), signal = message_bytes(&(struct message){.kind = 4, .path = PATH, .interface = INTERFACE, .member = MEMBER});
-    guarded("piece, 176-byte call, 16 rules, 2 peers", piece, 256 * 176, passing, served(2), quiet, 0);
-    guarded("piece, 176-byte call, 16 rules, 16 peers", piece, 256 * 176, passing, served(PEERS), quiet, 0);
-    guarded("piece, 176-byte call, 512 rules, 16 peers", piece, 256 * 176, image_of(PASSING, 512), served(PEERS), quiet, 0);
+    guarded("piece, 176-byte call, 16 rules, 2 peers", piece, BY(1) + 256 * 176, passing, served(2), quiet, 0);
+    guarded("piece, 176-byte call, 16 rules, 16 peers", piece, BY(1) + 256 * 176, passing, served(PEERS), quiet, 0);
+    guarded("piece, 176-byte call, 512 rules, 16 peers", piece, BY(1) + 256 * 176, image_of(PASSING, 512), served(PEERS), quiet, 0);
     guarded("piece, signal to 16 peers, 16 rules", piece, 256 * signal.len, passing, served(PEERS), signal, 0);
-    guarded("piece, 2,048-byte head, 16 rules, 16 peers", piece, 256 * 2048, passing, served(PEERS), long_head, 0);
+    guarded("piece, 2,048-byte head, 16 rules, 16 peers", piece, BY(1) + 256 * 2048, passing, served(PEERS), long_head, 0);
     struct bytes dear = dearest_head(1), byte = {cells, 1};
     guarded("piece, a byte of a body, 16 rules, 16 peers with the dearest heads", piece, 10 + 256, passing, behind(dearest_head(1 << 26)), byte, 0);
     guarded("a message's end and the next head, 16 peers with the dearest heads", end_and_head, 20 + 10, passing, behind(dear), dear, 0);
     guarded("call and its return, 16 rules, 16 peers", call_and_return, 0, passing, served(PEERS), call, 0);
-    guarded("own, a name of its own, 16 rules, 16 peers", own_again, 0, passing, served(PEERS), call, 0);
+    guarded("own, a name of its own, 16 rules, 16 peers", own_again, BY(0), passing, served(PEERS), call, 0);
     guarded("start", start, 0, passing, started(0), call, 0);
     growth(long_head);
 }

@@ -3,15 +3,19 @@ use header::Header;
 use header::Place;
 use header::Reading;
 use image::Outcome;
+use image::Section;
 use names::Form;
+use policy::Decider;
+use policy::Decision;
 use policy::Uid;
+use rules::Shown;
 ghost use mathlib.Core.Path.{_≡_};
-ghost use Prim.Native.Nat.{_+_, _≤_};
+ghost use Prim.Native.Nat.{_+_, _≤_, _<_};
 ghost use Rattle.signature.specs.Signature.{validSignature};
 ghost use Rattle.utf8.specs.Utf8.{validUtf8};
 ghost use Rattle.header.specs.Header.{readHeader, readingAnswer};
 ghost use Rattle.memory.specs.Good.{good};
-ghost use Rattle.memory.specs.Calls.{startOn, ownOn, Did};
+ghost use Rattle.memory.specs.Calls.{startOn, Did};
 ghost use Rattle.matching.specs.Contracts.{Within};
 
 // ---- reading
@@ -116,7 +120,20 @@ fn message(kind: u8, places: &[u32; 6], head: &[u8]) -> Header
     }
 }
 
-// One decision over the transaction rules: 1 passes, 0 is denied, 50 is a bad image. The image's test is part of it.
+// A decision in one number: 0 where no rule matches, else twice the position of the rule, and 2 where it denies, 3 where it allows.
+fn decision_number(decision: Decision) -> u64 {
+    let rule = decision.rule;
+    let allow = decision.allow;
+    match rule {
+        Decider::Nobody => 0,
+        Decider::Rule(_, position) => {
+            let two = 2 * (position as u64);
+            if allow { two + 3 } else { two + 2 }
+        }
+    }
+}
+
+// One decision over the transaction rules, in one number; 1 is a bad image. The image's test is part of it.
 #[no_mangle]
 pub extern "C" fn bench_decide(
     image: &[u8],
@@ -127,14 +144,14 @@ pub extern "C" fn bench_decide(
     names: &[u8],
     head: &[u8],
     places: &[u32; 6],
-) -> u8 {
+) -> u64 {
     match image::check(image) {
         Outcome::Good => {
             let header = message(kind, places, head);
-            let pass = decide::may_transact(image, direction, Uid(uid), gids, names, head, header);
-            pass as u8
+            let ruling = decide::transact(image, direction, Uid(uid), gids, names, head, header);
+            decision_number(decide::decision_of(Section::Transaction, ruling))
         }
-        Outcome::Bad => 50,
+        Outcome::Bad => 1,
     }
 }
 
@@ -155,17 +172,26 @@ pub extern "C" fn bench_connect(image: &[u8], memory: &mut [u8], uid: u32, gids:
 }
 
 #[no_mangle]
-pub extern "C" fn bench_own(image: &[u8], memory: &mut [u8], peer: u32, name: &[u8]) -> u8
-    ensures { λ r. ⌜ Did (ownOn (now (image .entry)) (now (memory .entry)) peer (now (name .entry))) r (now (memory .exit)) ⌝ }
-{
-    guard::own(image, memory, peer, name)
+pub extern "C" fn bench_own(image: &[u8], memory: &mut [u8], peer: u32, name: &[u8]) -> u64 {
+    let o = guard::own(image, memory, peer, name);
+    let shown = o.rule;
+    (o.answer as u64) + shown_number(shown)
 }
 
-// The answer number, and 256 times the bytes taken.
+// Who decided, behind the first forty bits: its kind, and 4 times its position.
+fn shown_number(shown: Shown) -> u64
+    ensures { λ r. ⌜ r < 9223372036854775808 ⌝ }
+{
+    let rule = rules::rule_numbers(shown);
+    1099511627776 * ((rule.kind % 4 + 4 * (rule.position % 1024)) as u64)
+}
+
+// The answer number, 256 times the bytes taken, and who decided.
 #[no_mangle]
 pub extern "C" fn bench_piece(image: &[u8], memory: &mut [u8], peer: u32, bytes: &[u8]) -> u64 {
     let t = guard::piece(image, memory, peer, bytes);
     let j = t.judgement;
     let taken = wire::least(t.taken, 4294967295);
-    256 * (taken as u64) + (j.answer as u64)
+    let shown = j.rule;
+    256 * (taken as u64) + (j.answer as u64) + shown_number(shown)
 }

@@ -19,7 +19,7 @@ use Rattle.policy.specs.Subjects.{inGroups, subjectFits}
 use Rattle.policy.specs.Names.{owns}
 use Rattle.policy.specs.Precedence.{deciding}
 use Rattle.policy.specs.Matching.{connectFits, ownedFits, ownFits, messageOf, partFits, interfaceFits, partsFit, nameFits, transactionFits, transactionMatches}
-use Rattle.policy.specs.Decisions.{decidesIn, mayConnect, mayOwn, mayTransact}
+use Rattle.policy.specs.Decisions.{decidesIn, connectDecision, ownDecision, transactionDecision}
 use Rattle.stream.specs.Stream.{offer}
 use Rattle.rules.specs.State.{firstBy, dropFirst}
 use Rattle.rules.specs.Addresses.{digits, uniqueName, answersTo, resolve}
@@ -37,8 +37,9 @@ unfolding allZero same wordAt wordBytes startsWith wellKnown unique validName in
     messageLength sizesOf fixedPart letterOf textIn valueAt framed knownAt elementAt walk fieldsOf numberIn goodValue goodField goodValues hasRequired headerOf
     judgedHead readHead readHeader goodCounts goodSections goodHeader goodString goodOrAny goodOwned goodConnectRule goodOwnRule goodStrings
     goodTransactionRule goodRule goodImage outcomeOf imageAnswer inGroups subjectFits owns deciding connectFits ownedFits ownFits messageOf partFits
-    interfaceFits partsFit nameFits transactionFits transactionMatches decidesIn mayConnect mayOwn mayTransact offer firstBy digits uniqueName answersTo
-    resolve dropFirst awaits ended endedAll maskOf countOf judged connect own piece disconnect cutOff modelStep answers callTallied begins tallied
+    interfaceFits partsFit nameFits transactionFits transactionMatches decidesIn connectDecision ownDecision transactionDecision offer firstBy digits
+    uniqueName answersTo resolve dropFirst awaits ended endedAll maskOf countOf judged connect own piece disconnect cutOff modelStep answers callTallied
+    begins tallied
 all-agree = (refl, refl, refl)
 
 pub table-agrees : agrees workedAnswer same workedTable ≡ true

@@ -14,6 +14,7 @@ use Rattle.stream.specs.Tail.{Tail}
 use Rattle.rules.specs.State.{Slot, free, peer, Peer, State, isPeer, firstBy, putSlot, withStream}
 use Rattle.rules.specs.Calls.{Step, empty, slotAt, noPiece, offered, pieceAt, piece}
 use Rattle.rules.specs.declared.Connected.{Connected}
+use Rattle.rules.specs.declared.Owned.{Owned}
 use Rattle.rules.specs.declared.Taken.{Taken}
 use Rattle.rules.specs.View.{seenSlot, seen}
 use Rattle.rules.proofs.View.{same-seen, slot-seen}
@@ -98,7 +99,8 @@ module _ (n : ℕ) where
       choice (λ (z : Step (List ℕ) Connected). Counts n (cond (eqb (z .result .answer) 0 && eqb (z .result .number) n) noCalls t) (z .state))
       (eqb (imageAnswer image) 0) _ _ (λ a. connected-counts n b t (one-slot h n) c books uid gids (low-number h) image) (λ a. rw a c)
   step-counts b t h c (claims image k name) =
-      choice (λ (z : Step (List ℕ) ℕ). Counts n t (z .state)) (eqb (imageAnswer image) 0) _ _ (λ a. owned-counts n b t (one-slot h n) c image k name) (λ a. c)
+      choice (λ (z : Step (List ℕ) Owned). Counts n t (z .state)) (eqb (imageAnswer image) 0) _ _
+      (λ a. owned-counts n b t (one-slot h n) c image k name) (λ a. c)
   step-counts b t h c (releases k name) = released-counts n b t (one-slot h n) c k name
   step-counts b t h c (offers image k bytes) = piece-counts n t image b k bytes (one-slot h n) c
   step-counts b t h c (leaves k) = left-counts n b t (one-slot h n) c books k

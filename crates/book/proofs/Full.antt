@@ -40,13 +40,13 @@ module _ {S : Type 0} (image : List ℕ) (s : State S) (i : ℕ) (sender : Peer 
   full-judged : judged image s i sender h x .judgement .answer ≡ 26 → 16 ≤ length (sender .pending)
   full-judged =
       judged-any image s i sender x (λ (z : Judged S). z .judgement .answer ≡ 26 → 16 ≤ length (sender .pending))
-      (λ a p q e. absurd (clash (eq-eqb a 26 e) q)) (λ l e. l) (λ e. absurd (omega arith)) (λ m k e. absurd (omega arith)) (λ j q y r w e. absurd (omega arith))
-      (λ j q y w a l e. absurd (omega arith)) (λ j q y r a e. absurd (omega arith)) h
+      (λ a p q e. absurd (clash (eq-eqb a 26 e) q)) (λ l e. l) (λ d j f. f) (λ e. absurd (omega arith)) (λ m k e. absurd (omega arith))
+      (λ j q y r w e. absurd (omega arith)) (λ j q y w a l e. absurd (omega arith)) (λ j q y r a e. absurd (omega arith)) h
 
   room-judged : expectsReply x ≡ true → (k : ℕ) → judged image s i sender h x .judgement .receiver ≡ to.Peer k → length (sender .pending) < 16
   room-judged w k =
       judged-any image s i sender x (λ (z : Judged S). z .judgement .receiver ≡ to.Peer k → length (sender .pending) < 16)
-      (λ a p q e. impossible cc) (λ l e. impossible cc) (λ e. impossible cc) (λ m c e. impossible cc) (λ j q y r v e. absurd (clash w v))
+      (λ a p q e. impossible cc) (λ l e. impossible cc) (λ d j f. f) (λ e. impossible cc) (λ m c e. impossible cc) (λ j q y r v e. absurd (clash w v))
       (λ j q y v a l e. l) (λ j q y r a e. absurd (clash w (reply-only x r))) h
 
 -- ---- a piece that ends a message

@@ -9,7 +9,7 @@ use borrow.Author.Tests.{eq-eqb}
 use Rattle.image.specs.Good.{imageAnswer}
 use Rattle.stream.specs.Tail.{Tail, tails}
 use Rattle.rules.specs.State.{State}
-use Rattle.rules.specs.Calls.{Step, empty, connect, own, release, piece, disconnect, noConnect, noPiece, noGone}
+use Rattle.rules.specs.Calls.{Step, empty, connect, own, release, piece, disconnect, noConnect, noOwn, noPiece, noGone}
 use Rattle.wire.proofs.Tests.{choice}
 use Rattle.rules.specs.View.{seen, seenStep}
 use Rattle.rules.proofs.View.{chosen}
@@ -23,7 +23,7 @@ use Rattle.memory.proofs.Frame.{memory-length}
 use Rattle.memory.proofs.Octets.{every-below}
 use Rattle.sound.proofs.Keep.{empty-sound, connect-sound, own-sound, release-sound, piece-sound, disconnect-sound}
 use Rattle.book.specs.Book.{books, tailView}
-use Rattle.book.specs.Lists.{Call, starts, Answer, plain, connected, taken, gone, underImage, ModelStep, toldStep, modelStep, answers, after}
+use Rattle.book.specs.Lists.{Call, starts, Answer, plain, connected, owned, taken, gone, underImage, ModelStep, toldStep, modelStep, answers, after}
 use Rattle.book.specs.Lists.{Ran, ran-start, ran-connect, ran-own, ran-release, ran-piece, ran-leave, Run, done, then, Agrees}
 use Rattle.book.proofs.Tails.{simulates}
 use Rattle.book.proofs.Never.{nevers}
@@ -100,7 +100,7 @@ module _ {m : List ℕ} (b : State (List ℕ)) (h : Holds m b) where
       meets-image connected h noConnect (λ s. connect tails image s uid gids) (connect books image b uid gids)
       (connect-seen books tails tailView simulates image b uid gids) (connect-sound v uid gids (h .sound) u (every-below 4294967296 gids w) image) image d
   one (ran-own {image} {n} {name} d) =
-      meets-image plain h (λ a. a) (λ s. own image s n name) (own image b n name) (own-seen tailView b image n name)
+      meets-image owned h noOwn (λ s. own image s n name) (own image b n name) (own-seen tailView b image n name)
       (own-sound v (h .sound) image n name) image d
   one (ran-release {n} {name} d) =
       meets-memory plain h (λ a. a) (λ s. release s n name) (release b n name) (release-seen tailView b n name) (release-sound v (h .sound) n name) d

@@ -10,6 +10,7 @@ use Rattle.stream.specs.Stream.{broken}
 use Rattle.rules.specs.State.{State}
 use Rattle.rules.specs.Calls.{Step}
 use Rattle.rules.specs.declared.Connected.{Connected}
+use Rattle.rules.specs.declared.Owned.{Owned}
 use Rattle.rules.specs.declared.Taken.{Taken}
 use Rattle.wire.proofs.Tests.{choice}
 use Rattle.sound.proofs.Numbers.{broken-number}
@@ -31,7 +32,7 @@ never b (connects image uid gids) =
     choice (λ (z : Step (List ℕ) Connected). z .result .answer ≡ 51 → ⊥) (eqb (imageAnswer image) 0) _ _
     (λ a. few (connect-modest books b image uid gids .most)) (λ a. image-refuses image a .not51)
 never b (claims image n name) =
-    choice (λ (z : Step (List ℕ) ℕ). z .result ≡ 51 → ⊥) (eqb (imageAnswer image) 0) _ _
+    choice (λ (z : Step (List ℕ) Owned). z .result .answer ≡ 51 → ⊥) (eqb (imageAnswer image) 0) _ _
     (λ a. few (own-modest b image n name .most)) (λ a. image-refuses image a .not51)
 never b (releases n name) = few (release-modest b n name .most)
 never b (offers image n bytes) =

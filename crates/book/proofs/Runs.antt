@@ -13,7 +13,8 @@ use Rattle.memory.specs.Encoding.{stateOf}
 use Rattle.memory.proofs.Sound.{state-again}
 use Rattle.memory.specs.Calls.{MemoryStep, Did, startOn, connectOn, ownOn, releaseOn, pieceOn, disconnectOn}
 use Rattle.book.specs.Book.{tailView}
-use Rattle.book.specs.Lists.{Call, starts, connects, claims, releases, offers, leaves, Answer, plain, connected, taken, gone, after, FitsTypes, AllFit}
+use Rattle.book.specs.Lists.{Call, starts, connects, claims, releases, offers, leaves, Answer, plain, connected, owned, taken, gone, after}
+use Rattle.book.specs.Lists.{FitsTypes, AllFit}
 use Rattle.book.specs.Lists.{Ran, ran-start, ran-connect, ran-own, ran-release, ran-piece, ran-leave, Run, done, then, Reached, since-start, since-empty}
 use Rattle.book.proofs.List.{Holds, empty-holds, all, started}
 
@@ -27,7 +28,7 @@ call-exists m starts f = (plain (startOn m .result), startOn m .memory, ran-star
 call-exists m (connects image uid gids) f =
     let o = connectOn image m uid gids in
     (connected (o .result), o .memory, ran-connect (f .0) (f .1) (itself o))
-call-exists m (claims image n name) f = let o = ownOn image m n name in (plain (o .result), o .memory, ran-own (itself o))
+call-exists m (claims image n name) f = let o = ownOn image m n name in (owned (o .result), o .memory, ran-own (itself o))
 call-exists m (releases n name) f = let o = releaseOn m n name in (plain (o .result), o .memory, ran-release (itself o))
 call-exists m (offers image n bytes) f = let o = pieceOn image m n bytes in (taken (o .result), o .memory, ran-piece f (itself o))
 call-exists m (leaves n) f = let o = disconnectOn m n in (gone (o .result), o .memory, ran-leave (itself o))

@@ -27,7 +27,7 @@ use Rattle.memory.proofs.Good.{good-is, good-sound}
 use Rattle.memory.proofs.Octets.{every-below}
 use Rattle.sound.proofs.Keep.{piece-sound}
 use Rattle.book.specs.Book.{tailView}
-use Rattle.book.specs.Lists.{Call, starts, offers, Answer, plain, connected, taken, gone, underImage, after, Ran, ran-start, ran-connect}
+use Rattle.book.specs.Lists.{Call, starts, offers, Answer, plain, connected, owned, taken, gone, underImage, after, Ran, ran-start, ran-connect}
 use Rattle.book.specs.Lists.{ran-own, ran-release, ran-piece, ran-leave, Run, done, then}
 use Rattle.rules.specs.Places.{isStop}
 use Rattle.book.specs.Split.{said, Offers, ends, again, OffersAll, nothing, next, joinedPieces}
@@ -170,7 +170,7 @@ module _ (image : List ℕ) (n : ℕ) where
 same-ran : {m d e : List ℕ} {c : Call} {x y : Answer} → Ran m d c x → Ran m e c y → (x ≡ y) × (d ≡ e)
 same-ran (ran-start d) (ran-start e) = (ap plain (d .result ∙ sym (e .result)), d .memory ∙ sym (e .memory))
 same-ran (ran-connect u w d) (ran-connect v z e) = (ap connected (d .result ∙ sym (e .result)), d .memory ∙ sym (e .memory))
-same-ran (ran-own d) (ran-own e) = (ap plain (d .result ∙ sym (e .result)), d .memory ∙ sym (e .memory))
+same-ran (ran-own d) (ran-own e) = (ap owned (d .result ∙ sym (e .result)), d .memory ∙ sym (e .memory))
 same-ran (ran-release d) (ran-release e) = (ap plain (d .result ∙ sym (e .result)), d .memory ∙ sym (e .memory))
 same-ran (ran-piece w d) (ran-piece z e) = (ap taken (d .result ∙ sym (e .result)), d .memory ∙ sym (e .memory))
 same-ran (ran-leave d) (ran-leave e) = (ap gone (d .result ∙ sym (e .result)), d .memory ∙ sym (e .memory))
@@ -206,6 +206,7 @@ abbrev pub verdicts : List Answer → List Judgement
 verdicts [] = []
 verdicts (plain a ∷ l) = verdicts l
 verdicts (connected r ∷ l) = verdicts l
+verdicts (owned r ∷ l) = verdicts l
 verdicts (taken r ∷ l) = said r ++ verdicts l
 verdicts (gone r ∷ l) = verdicts l
 

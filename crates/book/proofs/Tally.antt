@@ -5,16 +5,20 @@ use mathlib.Core.List.{List}
 use Prim.Native.Nat.{ℕ, _+_, _≤_, _<_}
 use native.Mathlib.Omega.{arith}
 use native.Mathlib.Decide.{ℕ-discrete}
-use lib.Dec.{eqb}
+use lib.Dec.{eqb, ltb}
 use lib.ListN.{length, getD, set, List·getD-map}
 use borrow.Author.Tests.{eqb-true, eq-eqb, ne-eqb, ltb-true}
 use Rattle.header.specs.declared.Header.{Header}
+use Rattle.policy.specs.Names.{owns}
+use Rattle.policy.specs.Decisions.{connectDecision, ownDecision}
 use Rattle.stream.specs.Stream.{Streams}
-use Rattle.rules.specs.State.{Pending, Slot, free, peer, Peer, State, isPeer, firstBy, putSlot, withPending}
+use Rattle.rules.specs.State.{Pending, Slot, free, peer, Peer, State, isFree, isPeer, firstBy, putSlot, withPending}
+use Rattle.rules.specs.Addresses.{ownable}
 use Rattle.rules.specs.Pending.{removeCallsTo}
 use Rattle.rules.specs.Judge.{Judged, judged}
-use Rattle.rules.specs.Calls.{Step, seated, connect, slotAt, ownAt, own, releaseAt, release, disconnectAt, disconnect}
+use Rattle.rules.specs.Calls.{Step, stays, noConnect, seated, connectAt, connect, slotAt, ownNew, ownAt, own, releaseAt, release, disconnectAt, disconnect}
 use Rattle.rules.specs.declared.Connected.{Connected}
+use Rattle.rules.specs.declared.Owned.{Owned}
 use Rattle.wire.proofs.Tests.{choice, refute}
 use Rattle.rules.proofs.Replies.{reply-only}
 use Rattle.rules.proofs.First.{taken-below, number-found}
@@ -71,7 +75,7 @@ module _ {S : Type 0} (n : ℕ) where
 
       pub judged-counts : (h : List ℕ) → Kept (judged image s i sender h x)
       judged-counts =
-          judged-any image s i sender x Kept (λ a p q. choice (λ (u : Tally). Counts n u s) (eqb a 0) t t (λ z. c) (λ z. c)) (λ l. c) c (λ m k. c)
+          judged-any image s i sender x Kept (λ a p q. choice (λ (u : Tally). Counts n u s) (eqb a 0) t t (λ z. c) (λ z. c)) (λ l. c) (λ d j k. k) c (λ m k. c)
           (λ j q y r w. rw (w, r) c)
           (λ j q y w a l. rw w (own-counts i sender _ _ e (λ r. right-admitted t (q .number) (sender .pending) r (x .serial))))
           (λ j q y r a. rw (reply-only x r, r)
@@ -81,7 +85,12 @@ module _ {S : Type 0} (n : ℕ) where
 
     own-at : (image : List ℕ) (i : ℕ) (y : Slot S) (name : List ℕ) → slotAt s i ≡ y → Counts n t (ownAt image s i y name .state)
     own-at image i free name e = c
-    own-at image i (peer p) name e = search (choice (λ (z : Step S ℕ). Counts n t (z .state)), same-counts) depth 8
+    own-at image i (peer p) name e =
+        let d = ownDecision image (record { 0 = p .uid }) (p .gids) name in
+        choice (λ (z : Step S Owned). Counts n t (z .state)) (ownable name) _ _
+        (λ a. choice (λ (z : Step S ℕ). Counts n t (z .state)) (d .allow) (cond (owns (p .names) name) (stays s 0) (ownNew s i p name)) (stays s 32)
+        (λ b. search (choice (λ (z : Step S ℕ). Counts n t (z .state)), same-counts) depth 8) (λ b. c))
+        (λ a. c)
 
     pub owned-counts : (image : List ℕ) (k : ℕ) (name : List ℕ) → Counts n t (own image s k name .state)
     unfolding own
@@ -115,7 +124,11 @@ module _ {S : Type 0} (n : ℕ) where
 
       pub connected-counts : (image : List ℕ) → After (connect O image s uid gids)
       unfolding connect
-      connected-counts image = search (choice After, seated-after, ltb-true) depth 8
+      connected-counts image =
+          let d = connectDecision image (record { 0 = uid }) gids in
+          choice After (ltb 16 (length gids)) _ _ (λ a. c)
+          (λ a. choice After (d .allow) (connectAt O s (firstBy isFree (s .slots)) uid gids) (stays s (noConnect 36))
+          (λ b. search (choice After, seated-after, ltb-true)) (λ b. c))
 
     -- ---- disconnect
 

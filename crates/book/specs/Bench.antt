@@ -9,9 +9,10 @@ use Rattle.signature.specs.Signature.{validSignature}
 use Rattle.image.specs.Table.{imageOf, head, cites}
 use Rattle.rules.specs.Judge.{bit, refusal}
 use Rattle.rules.specs.Calls.{empty}
-use Rattle.rules.specs.Places.{receiverWords, goesOn}
+use Rattle.rules.specs.Places.{receiverWords, shownWords, goesOn}
+use Rattle.rules.specs.Bench.{unshown, byRule, byNone}
 use Rattle.rules.specs.declared.Taken.{Taken}
-use Rattle.book.specs.Lists.{Call, starts, connects, claims, offers, Answer, plain, connected, taken, gone, answers}
+use Rattle.book.specs.Lists.{Call, starts, connects, claims, offers, Answer, plain, connected, owned, taken, gone, answers}
 use Rattle.book.specs.Book.{books}
 use Rattle.book.specs.Split.{isVerdict}
 
@@ -111,12 +112,13 @@ callBetween image name =
     (starts ∷ connects image 7 [] ∷ connects image 8 [] ∷ claims image 2 (bytes "org.a.x") ∷ claims image 2 (bytes "org.b.y") ∷ offers image 1 (callTo name)
     ∷ [])
 
--- ---- answers as numbers
+-- ---- answers as numbers; who decided are the last two of those that show it
 
 abbrev pub answerShown : Answer → List ℕ
 answerShown (plain a) = a ∷ []
-answerShown (connected r) = r .answer ∷ r .number ∷ r .slot ∷ []
-answerShown (taken r) = r .judgement .answer ∷ r .taken ∷ receiverWords (r .judgement .receiver)
+answerShown (connected r) = r .answer ∷ r .number ∷ r .slot ∷ shownWords (r .rule)
+answerShown (owned r) = r .answer ∷ shownWords (r .rule)
+answerShown (taken r) = r .judgement .answer ∷ r .taken ∷ (receiverWords (r .judgement .receiver) ++ shownWords (r .judgement .rule))
 answerShown (gone r) = r .answer ∷ r .bytes ∷ []
 
 abbrev pub lastOf : List Answer → List ℕ
@@ -132,15 +134,15 @@ workedAnswer (answered a n k) =
     bit (goesOn r (replicate k 0)) ∷ bit (isVerdict a) ∷ []
 workedAnswer (holds xs) = bit (books .closed xs) ∷ books .count xs ∷ []
 
--- an answer with the bytes taken, for nobody, the bus and a peer
-abbrev pub saysRefused : ℕ → ℕ → List ℕ
-saysRefused a n = a ∷ n ∷ 0 ∷ 0 ∷ 0 ∷ []
+-- an answer with the bytes taken, for nobody, the bus and a peer, and with who decided
+abbrev pub saysRefused : ℕ → ℕ → List ℕ → List ℕ
+saysRefused a n who = a ∷ n ∷ 0 ∷ 0 ∷ 0 ∷ who
 
-abbrev pub saysToBus : ℕ → List ℕ
-saysToBus n = 0 ∷ n ∷ 1 ∷ 0 ∷ 0 ∷ []
+abbrev pub saysToBus : ℕ → List ℕ → List ℕ
+saysToBus n who = 0 ∷ n ∷ 1 ∷ 0 ∷ 0 ∷ who
 
-abbrev pub saysToPeer : ℕ → ℕ → List ℕ
-saysToPeer n number = 0 ∷ n ∷ 2 ∷ number ∷ 0 ∷ []
+abbrev pub saysToPeer : ℕ → ℕ → List ℕ → List ℕ
+saysToPeer n number who = 0 ∷ n ∷ 2 ∷ number ∷ 0 ∷ who
 
 abbrev pub saysGood : List ℕ
 saysGood = 1 ∷ []
@@ -155,21 +157,21 @@ WorkedRow = WorkedQuestion × List ℕ
 
 abbrev pub workedTable : List WorkedRow
 workedTable =
-    (sends noRules [], saysRefused 10 0)  -- T1
-    ∷ (sends noRules (take 15 callC), saysRefused 10 15)  -- T2
-    ∷ (sends noRules callC, saysRefused 22 48)  -- T3
-    ∷ (sends allowAll callC, saysToBus 48)  -- T4
-    ∷ (sends noRules (set callC 0 (byte "L")), saysRefused 1 16)  -- T5: byte 0 as 4c
-    ∷ (sends noRules (littleFixed 1 0 2032), saysRefused 10 16)  -- T6
-    ∷ (sends noRules (littleFixed 1 0 2033), saysRefused 5 16)
-    ∷ (sends noRules (littleFixed 5 134217712 0), saysRefused 10 16)  -- T7
-    ∷ (sends noRules (littleFixed 5 134217713 0), saysRefused 6 16)
-    ∷ (sends denyFirst callC, saysRefused 22 48)  -- T8: of send, and of own
-    ∷ (owning denyFirst (bytes "org.foo"), 32 ∷ [])
-    ∷ (sends userAllow callC, saysToBus 48)  -- without the deny it passes
-    ∷ (owning prefix (bytes "org.foo"), 0 ∷ [])  -- T9
-    ∷ (owning prefix (bytes "org.foo.bar"), 0 ∷ [])
-    ∷ (owning prefix (bytes "org.foobar"), 32 ∷ [])
+    (sends noRules [], saysRefused 10 0 unshown)  -- T1
+    ∷ (sends noRules (take 15 callC), saysRefused 10 15 unshown)  -- T2
+    ∷ (sends noRules callC, saysRefused 22 48 byNone)  -- T3
+    ∷ (sends allowAll callC, saysToBus 48 (byRule 0))  -- T4
+    ∷ (sends noRules (set callC 0 (byte "L")), saysRefused 1 16 unshown)  -- T5: byte 0 as 4c
+    ∷ (sends noRules (littleFixed 1 0 2032), saysRefused 10 16 unshown)  -- T6
+    ∷ (sends noRules (littleFixed 1 0 2033), saysRefused 5 16 unshown)
+    ∷ (sends noRules (littleFixed 5 134217712 0), saysRefused 10 16 unshown)  -- T7
+    ∷ (sends noRules (littleFixed 5 134217713 0), saysRefused 6 16 unshown)
+    ∷ (sends denyFirst callC, saysRefused 22 48 (byRule 0))  -- T8: of send, and of own; the deny decides, not the allow behind it
+    ∷ (owning denyFirst (bytes "org.foo"), 32 ∷ byRule 0)
+    ∷ (sends userAllow callC, saysToBus 48 (byRule 0))  -- without the deny it passes
+    ∷ (owning prefix (bytes "org.foo"), 0 ∷ byRule 0)  -- T9
+    ∷ (owning prefix (bytes "org.foo.bar"), 0 ∷ byRule 0)
+    ∷ (owning prefix (bytes "org.foobar"), 32 ∷ byNone)
     ∷ (types (bytes ""), saysGood)  -- T10
     ∷ (types (bytes "a{sv}"), saysGood)
     ∷ (types (bytes "{sv}"), saysBad)
@@ -178,12 +180,12 @@ workedTable =
     ∷ (types (bytes "a{vs}"), saysBad)
     ∷ (types (replicate 32 (byte "a") ++ bytes "y"), saysGood)  -- T11
     ∷ (types (replicate 33 (byte "a") ++ bytes "y"), saysBad)
-    ∷ (callBetween allowDeny (bytes "org.b.y"), saysRefused 22 64)  -- T12
-    ∷ (callBetween allowDeny (bytes "org.a.x"), saysRefused 22 64)  -- whichever name is addressed
-    ∷ (callBetween denyAllow (bytes "org.b.y"), saysToPeer 64 2)  -- the rules the other way round
+    ∷ (callBetween allowDeny (bytes "org.b.y"), saysRefused 22 64 (byRule 2))  -- T12: the receive rule is counted too
+    ∷ (callBetween allowDeny (bytes "org.a.x"), saysRefused 22 64 (byRule 2))  -- whichever name is addressed
+    ∷ (callBetween denyAllow (bytes "org.b.y"), saysToPeer 64 2 (byRule 0))  -- the rules the other way round: it passes by the receive rule
     ∷ []
 
--- ---- more lines: calls without an interface, several messages on one stream, a second start, and the ends of an offering
+-- ---- more lines: calls without an interface, several messages on one stream, a second start, the ends of an offering, and who decided
 
 -- a whole message of type 5, and one that is broken by its type
 abbrev pub fifth : List ℕ
@@ -191,6 +193,22 @@ fifth = littleFixed 5 0 0
 
 abbrev pub typeless : List ℕ
 typeless = littleFixed 0 0 0
+
+-- a signal from / of the interface i.f and the member M, to everybody
+abbrev pub signalToAll : List ℕ
+signalToAll =
+    littleFixed 4 0 42
+    ++ ((1 ∷ 1 ∷ byte "o" ∷ 0 ∷ wordBytes 1) ++ (byte "/" ∷ replicate 7 0)
+    ++ ((2 ∷ 1 ∷ byte "s" ∷ 0 ∷ wordBytes 3) ++ (bytes "i.f" ++ replicate 5 0)
+    ++ ((3 ∷ 1 ∷ byte "s" ∷ 0 ∷ wordBytes 1) ++ (byte "M" ∷ replicate 7 0))))
+
+-- nobody may connect
+abbrev pub noRulesAtAll : List ℕ
+noRulesAtAll = imageOf [] [] [] []
+
+-- everybody may own and send, and nobody receive
+abbrev pub sendOnly : List ℕ
+sendOnly = openImage (ownRuleOf 0 1 0 0 0 0) (transactionRuleOf 0 1 0 0 0 0) []
 
 abbrev pub furtherRows : List WorkedRow
 furtherRows =
@@ -206,13 +224,17 @@ furtherRows =
     ∷ (holds typeless, 1 ∷ 16 ∷ [])  -- a broken head closes its stream (rule 9.3), and is counted (rule 8.7)
     ∷ (holds (fifth ++ take 10 fifth), 0 ∷ 10 ∷ [])  -- so is an unfinished message
     ∷ (holds fifth, 0 ∷ 0 ∷ [])  -- and nothing between two
-    ∷ (asks (starts ∷ connects noRules 7 [] ∷ starts ∷ connects noRules 7 [] ∷ []), 0 ∷ 1 ∷ 0 ∷ [])  -- a start gives numbers anew (rule 8.2)
-    ∷ (sends noRules (littleFixed 5 8 0 ++ replicate 8 0), saysRefused 20 24)  -- a message is its head and its body (rule 2.3)
-    ∷ (sendsThen fifth typeless, saysRefused 3 16)  -- the second message is judged by its own head (rule 11.2)
-    ∷ (sendsThen typeless fifth, saysRefused 40 0)  -- a broken stream is closed (rule 9.3)
-    ∷ (callBetween (interfaceRule 1 0 0 0 0) (bytes "org.b.y"), saysRefused 22 64)  -- C has no interface, and to send one is denied (rule 6.8)
-    ∷ (sends (interfaceRule 1 0 0 0 0) callC, saysRefused 22 48)  -- to the bus too
-    ∷ (callBetween (interfaceRule 1 0 1 0 0) (bytes "org.b.y"), saysRefused 23 64)  -- and so is to receive one
-    ∷ (callBetween (interfaceRule 1 0 0 6 1) (bytes "org.b.y"), saysToPeer 64 2)  -- but not with another member, `x`
-    ∷ (callBetween (interfaceRule 0 1 0 0 0) (bytes "org.b.y"), saysRefused 22 64)  -- an allow for an interface does not let C in
+    ∷ (asks (starts ∷ connects noRules 7 [] ∷ starts ∷ connects noRules 7 [] ∷ []), 0 ∷ 1 ∷ 0 ∷ byRule 0)  -- a start gives numbers anew (rule 8.2)
+    ∷ (sends noRules (littleFixed 5 8 0 ++ replicate 8 0), saysRefused 20 24 unshown)  -- a message is its head and its body (rule 2.3)
+    ∷ (sendsThen fifth typeless, saysRefused 3 16 unshown)  -- the second message is judged by its own head (rule 11.2)
+    ∷ (sendsThen typeless fifth, saysRefused 40 0 unshown)  -- a broken stream is closed (rule 9.3)
+    ∷ (callBetween (interfaceRule 1 0 0 0 0) (bytes "org.b.y"), saysRefused 22 64 (byRule 2))  -- C has no interface, and to send one is denied (rule 6.8)
+    ∷ (sends (interfaceRule 1 0 0 0 0) callC, saysRefused 22 48 (byRule 2))  -- to the bus too
+    ∷ (callBetween (interfaceRule 1 0 1 0 0) (bytes "org.b.y"), saysRefused 23 64 (byRule 2))  -- and so is to receive one
+    ∷ (callBetween (interfaceRule 1 0 0 6 1) (bytes "org.b.y"), saysToPeer 64 2 (byRule 0))  -- but not with another member, `x`
+    ∷ (callBetween (interfaceRule 0 1 0 0 0) (bytes "org.b.y"), saysRefused 22 64 (byRule 1))  -- an allow for an interface does not let C in
+    ∷ (callBetween sendOnly (bytes "org.b.y"), saysRefused 23 64 byNone)  -- no rule lets it be received (rule 7.12)
+    ∷ (sends (interfaceRule 1 0 0 6 1) signalToAll, 0 ∷ 64 ∷ 3 ∷ 1 ∷ 1 ∷ unshown)  -- of a broadcast no rule is shown
+    ∷ (asks (starts ∷ connects prefix 7 [] ∷ claims prefix 1 (bytes "org.foo") ∷ claims prefix 1 (bytes "org.foo") ∷ []), 0 ∷ byRule 0)  -- held already
+    ∷ (asks (starts ∷ connects noRulesAtAll 7 [] ∷ []), 36 ∷ 0 ∷ 0 ∷ byNone)
     ∷ []

@@ -8,8 +8,9 @@ use lib.ListN.{length}
 use Rattle.wire.specs.Bytes.{Below}
 use Rattle.image.specs.Good.{imageAnswer}
 use Rattle.rules.specs.State.{State}
-use Rattle.rules.specs.Calls.{Step, stays, empty, connect, own, release, piece, disconnect, noConnect, noPiece}
+use Rattle.rules.specs.Calls.{Step, stays, empty, connect, own, release, piece, disconnect, noConnect, noOwn, noPiece}
 use Rattle.rules.specs.declared.Connected.{Connected}
+use Rattle.rules.specs.declared.Owned.{Owned}
 use Rattle.rules.specs.declared.Taken.{Taken}
 use Rattle.rules.specs.declared.Gone.{Gone}
 use Rattle.memory.specs.Calls.{Did, startOn, connectOn, ownOn, releaseOn, pieceOn, disconnectOn}
@@ -31,6 +32,7 @@ pub data Call : Type 0 where
 pub data Answer : Type 0 where
   plain : ℕ → Answer
   connected : Connected → Answer
+  owned : Owned → Answer
   taken : Taken → Answer
   gone : Gone → Answer
 
@@ -52,7 +54,7 @@ underImage refuse image b step = cond (eqb (imageAnswer image) 0) step (stays b 
 unfoldable pub modelStep : State (List ℕ) → Call → ModelStep
 modelStep b starts = record { answer = plain 0; state = empty }
 modelStep b (connects image uid gids) = toldStep connected (underImage noConnect image b (connect books image b uid gids))
-modelStep b (claims image n name) = toldStep plain (underImage (λ a. a) image b (own image b n name))
+modelStep b (claims image n name) = toldStep owned (underImage noOwn image b (own image b n name))
 modelStep b (releases n name) = toldStep plain (release b n name)
 modelStep b (offers image n bytes) = toldStep taken (underImage noPiece image b (piece books image b n bytes))
 modelStep b (leaves n) = toldStep gone (disconnect books b n)
@@ -88,7 +90,7 @@ pub data Ran (m e : List ℕ) : Call → Answer → Type 0 where
   ran-connect : {image : List ℕ} {uid : ℕ} {gids : List ℕ} {r : Connected} → uid < 4294967296 → Below 4294967296 gids
       → Did (connectOn image m uid gids) r e
       → Ran m e (connects image uid gids) (connected r)
-  ran-own : {image : List ℕ} {n : ℕ} {name : List ℕ} {r : ℕ} → Did (ownOn image m n name) r e → Ran m e (claims image n name) (plain r)
+  ran-own : {image : List ℕ} {n : ℕ} {name : List ℕ} {r : Owned} → Did (ownOn image m n name) r e → Ran m e (claims image n name) (owned r)
   ran-release : {n : ℕ} {name : List ℕ} {r : ℕ} → Did (releaseOn m n name) r e → Ran m e (releases n name) (plain r)
   ran-piece : {image : List ℕ} {n : ℕ} {bytes : List ℕ} {r : Taken} → Below 256 bytes
       → Did (pieceOn image m n bytes) r e
@@ -114,6 +116,7 @@ pub data Reached (m : List ℕ) : List Call → Type 0 where
 abbrev pub numberOf : Answer → ℕ
 numberOf (plain a) = a
 numberOf (connected r) = r .answer
+numberOf (owned r) = r .answer
 numberOf (taken r) = r .judgement .answer
 numberOf (gone r) = r .answer
 

@@ -12,7 +12,7 @@ use Rattle.rules.specs.Calls.{empty, slotAt}
 use Rattle.rules.specs.declared.Receiver.{Receiver}
 use Rattle.rules.specs.declared.Receiver.the-variants as to
 use Rattle.book.specs.Book.{books}
-use Rattle.book.specs.Lists.{Call, starts, connects, claims, releases, offers, leaves, Answer, plain, connected, taken, gone, numberOf, modelStep}
+use Rattle.book.specs.Lists.{Call, starts, connects, claims, releases, offers, leaves, Answer, plain, connected, owned, taken, gone, numberOf, modelStep}
 
 pub record Tally : Type 0 where
   -- its calls that passed to a peer and began to wait for the reply
@@ -70,12 +70,14 @@ piecePassed n k (whole h x) r t = messagePassed n k x r t
 abbrev pub numberGiven : Answer → ℕ
 numberGiven (plain a) = 0
 numberGiven (connected r) = r .number
+numberGiven (owned r) = 0
 numberGiven (taken r) = 0
 numberGiven (gone r) = 0
 
 abbrev pub receiverOf : Answer → Receiver
 receiverOf (plain a) = to.Nobody
 receiverOf (connected r) = to.Nobody
+receiverOf (owned r) = to.Nobody
 receiverOf (taken r) = r .judgement .receiver
 receiverOf (gone r) = to.Nobody
 

@@ -1,7 +1,7 @@
 -- Each call of an entry, and its report.
 use mathlib.Core.Path.{_≡_, refl, ap, _∙_}
 use mathlib.Core.Bool.{true}
-use mathlib.Core.List.{List}
+use mathlib.Core.List.{List, [], _∷_, _++_}
 use Prim.Native.Nat.{ℕ, _+_, _-_, _*_, _/_, _%_, _≤_, min, _<_}
 use native.Mathlib.Omega.{arith}
 use native.Mathlib.Nat.{sub-zero}
@@ -17,12 +17,16 @@ use Rattle.tables.specs.Tables.{cells}
 use Rattle.tables.proofs.Words.{bytes-drop}
 use Rattle.wire.proofs.Tests.{by-test}
 use Rattle.rules.specs.Calls.{connect}
+use Rattle.rules.specs.Places.{receiverWords, shownWords}
 use Rattle.rules.specs.declared.Connected.{Connected}
+use Rattle.rules.specs.declared.Owned.{Owned}
+use Rattle.rules.specs.declared.RuleNumbers.{RuleNumbers}
 use Rattle.rules.specs.declared.Taken.{Taken}
 use Rattle.rules.specs.declared.Gone.{Gone}
+use Rattle.rules.specs.declared.Receiver.{Receiver}
 use Rattle.rules.specs.declared.Receiver.the-variants as to
 use Rattle.memory.specs.Calls.{Did, MemoryStep, startOn, connectOn, ownOn, releaseOn, pieceOn, disconnectOn}
-use Rattle.book.specs.Lists.{plain, connected, taken, gone, connects, Ran, ran-start, ran-connect, ran-own, ran-release, ran-piece, ran-leave}
+use Rattle.book.specs.Lists.{plain, connected, owned, taken, gone, connects, Ran, ran-start, ran-connect, ran-own, ran-release, ran-piece, ran-leave}
 use Rattle.calls.specs.declared.Report.{Report}
 use Rattle.calls.specs.declared.Gids.{Gids}
 use Rattle.calls.specs.Script.{sizeOf, wellSized, words, gidsOf, peerCall, callOf}
@@ -53,33 +57,46 @@ low-word n =
       low-digit (n / 256 / 256 / 256) (m / 256 / 256 / 256) q h,
     )
 
-pub shows-plain : (a : ℕ) → Shows (plain a) (record { answer = a; taken = 0; kind = 0; number = 0; count = 0 })
+abbrev noRule : RuleNumbers
+noRule = record { kind = 0; position = 0 }
+
+pub shows-plain : (a : ℕ) (k : RuleNumbers) → k ≡ noRule → Shows (plain a) (record { answer = a; taken = 0; kind = 0; number = 0; count = 0; rule = k })
 unfolding answerPlace
-shows-plain a = record { are = refl }
+shows-plain a k e = record { are = rw e }
 
-module _ (t : Taken) (w : ℕ) (e : w ≡ t .taken % 4294967296) where
-  low-taken : wordBytes w ≡ wordBytes (t .taken)
-  low-taken = rw e (low-word (t .taken))
+pub shows-owned : (o : Owned) (k : RuleNumbers) → k .kind ∷ k .position ∷ [] ≡ shownWords (o .rule)
+    → Shows (owned o) (record { answer = o .answer; taken = 0; kind = 0; number = 0; count = 0; rule = k })
+unfolding answerPlace
+shows-owned o k e = record { are = rw (← e) }
 
-  pub shows-nobody : t .judgement .receiver ≡ to.Nobody → Shows (taken t) (record { answer = t .judgement .answer; taken = w; kind = 0; number = 0; count = 0 })
-  unfolding answerPlace cells
-  shows-nobody q = record { are = rw (q, low-taken) }
+-- the words of a report to each kind of receiver
+module _ (a w : ℕ) (k : RuleNumbers) where
+  abbrev words-to : Receiver → List ℕ
+  words-to x = a ∷ w ∷ (receiverWords x ++ (k .kind ∷ k .position ∷ []))
 
-  pub shows-bus : t .judgement .receiver ≡ to.Bus → Shows (taken t) (record { answer = t .judgement .answer; taken = w; kind = 1; number = 0; count = 0 })
-  unfolding answerPlace cells
-  shows-bus q = record { are = rw (q, low-taken) }
+  pub to-nobody : {x : Receiver} → x ≡ to.Nobody → a ∷ w ∷ 0 ∷ 0 ∷ 0 ∷ k .kind ∷ k .position ∷ [] ≡ words-to x
+  to-nobody e = rw e
 
-  pub shows-peer : (n : ℕ) → t .judgement .receiver ≡ to.Peer n
-      → Shows (taken t) (record { answer = t .judgement .answer; taken = w; kind = 2; number = n; count = 0 })
-  unfolding answerPlace cells
-  shows-peer n q = record { are = rw (q, low-taken) }
+  pub to-bus : {x : Receiver} → x ≡ to.Bus → a ∷ w ∷ 1 ∷ 0 ∷ 0 ∷ k .kind ∷ k .position ∷ [] ≡ words-to x
+  to-bus e = rw e
 
-  pub shows-slots : (mask n : ℕ) → t .judgement .receiver ≡ to.Slots mask n
-      → Shows (taken t) (record { answer = t .judgement .answer; taken = w; kind = 3; number = mask; count = n })
-  unfolding answerPlace cells
-  shows-slots mask n q = record { are = rw (q, low-taken) }
+  pub to-peer : {x : Receiver} (n : ℕ) → x ≡ to.Peer n → a ∷ w ∷ 2 ∷ n ∷ 0 ∷ k .kind ∷ k .position ∷ [] ≡ words-to x
+  to-peer n e = rw e
 
-pub ruleset showing = (shows-plain, shows-nobody, shows-bus, shows-peer, shows-slots, needs)
+  pub to-slots : {x : Receiver} (mask n : ℕ) → x ≡ to.Slots mask n → a ∷ w ∷ 3 ∷ mask ∷ n ∷ k .kind ∷ k .position ∷ [] ≡ words-to x
+  to-slots mask n e = rw e
+
+pub ruleset reporting = (to-nobody, to-bus, to-peer, to-slots, needs)
+
+pub shows-taken : (t : Taken) (w : ℕ) → w ≡ t .taken % 4294967296 → (k : RuleNumbers) → k .kind ∷ k .position ∷ [] ≡ shownWords (t .judgement .rule)
+    → (r : Report) → reportWords r ≡ t .judgement .answer ∷ w ∷ (receiverWords (t .judgement .receiver) ++ (k .kind ∷ k .position ∷ []))
+    → Shows (taken t) r
+unfolding answerPlace cells
+shows-taken t w e k f r q =
+    let l : wordBytes w ≡ wordBytes (t .taken) = rw e (low-word (t .taken)) in
+    record { are = ap (cells wordBytes) q ∙ rw (l, ← f) }
+
+pub ruleset showing = (shows-plain, shows-owned, shows-taken, needs)
 
 -- ---- connect: more gids than sixteen are as many as seventeen
 
@@ -101,9 +118,11 @@ connect-front image m e gids uid count r d = rw (sub-zero count) at d
 pub connect-reported : (image m a e : List ℕ) (uid : ℕ) (g : Gids) (c : Connected) (w : ℕ) → Octets a → uid ≡ wordAt Little a 0 → uid < 4294967296 → GidsIn a g
     → Did (connectOn image m uid (take (g .count) (g .list))) c e
     → w ≡ c .slot % 4294967296
-    → Reported (connects image (wordAt Little a 0) (gidsOf a)) m (record { answer = c .answer; taken = 0; kind = 0; number = c .number; count = w }) e
+    → (k : RuleNumbers) → k .kind ∷ k .position ∷ [] ≡ shownWords (c .rule)
+    → Reported (connects image (wordAt Little a 0) (gidsOf a)) m
+    (record { answer = c .answer; taken = 0; kind = 0; number = c .number; count = w; rule = k }) e
 unfolding answerPlace cells
-connect-reported image m a e uid g c w f u l h d q =
+connect-reported image m a e uid g c w f u l h d q k s =
     let n = (length a - 4) / 4 in
     let x : connectOn image m uid (take (g .count) (g .list)) ≡ connectOn image m (wordAt Little a 0) (gidsOf a)
     = ap (connectOn image m uid) (h .are ∙ ap (λ (k : ℕ). words k (drop 4 a)) (h .count))
@@ -114,7 +133,7 @@ connect-reported image m a e uid g c w f u l h d q =
       ran =
           ran-connect {uid = wordAt Little a 0} (rw (← u) l) (words-below n (drop 4 a) (bytes-drop 4 a (λ j. f j .fits)))
           (record { result = d .result ∙ ap (λ (o : MemoryStep Connected). o .result) x; memory = d .memory ∙ ap (λ (o : MemoryStep Connected). o .memory) x });
-      shows = record { are = rw (q, low-word (c .slot)) };
+      shows = record { are = rw (q, low-word (c .slot), ← s) };
     }
 
 pub ruleset connecting = (connect-front, connect-reported, needs)
@@ -122,9 +141,9 @@ pub ruleset connecting = (connect-front, connect-reported, needs)
 -- ---- a call with a peer's number and more
 
 module _ (image m rest e : List ℕ) (kind n : ℕ) (r : Report) where
-  pub own-reported : kind ≡ 2 → (a : ℕ) → Did (ownOn image m n rest) a e → Shows (plain a) r → Reported (peerCall image kind n rest) m r e
+  pub own-reported : kind ≡ 2 → (a : Owned) → Did (ownOn image m n rest) a e → Shows (owned a) r → Reported (peerCall image kind n rest) m r e
   unfolding peerCall
-  own-reported k a d s = rw (eq-eqb kind 2 k) (record { answer = plain a; ran = ran-own d; shows = s })
+  own-reported k a d s = rw (eq-eqb kind 2 k) (record { answer = owned a; ran = ran-own d; shows = s })
 
   pub release-reported : (kind ≡ 2 → ⊥) → kind ≡ 3 → (a : ℕ) → Did (releaseOn m n rest) a e → Shows (plain a) r → Reported (peerCall image kind n rest) m r e
   unfolding peerCall
@@ -150,11 +169,11 @@ module _ (image m a e : List ℕ) (kind : ℕ) where
     connect-called r k s = rw (ne-eqb kind 0 h, eq-eqb kind 1 k) s
 
     module _ (j : kind ≡ 1 → ⊥) (n : ℕ) (p : n ≡ wordAt Little a 0) where
-      pub leave-called : kind ≡ 5 → (g : Gone) → Did (disconnectOn m n) g e
-          → Reported (callOf image kind a) m (record { answer = g .answer; taken = 0; kind = 0; number = g .bytes; count = 0 }) e
+      pub leave-called : kind ≡ 5 → (g : Gone) → Did (disconnectOn m n) g e → (x : RuleNumbers) → x ≡ noRule
+          → Reported (callOf image kind a) m (record { answer = g .answer; taken = 0; kind = 0; number = g .bytes; count = 0; rule = x }) e
       unfolding callOf answerPlace
-      leave-called k g d =
-          rw (ne-eqb kind 0 h, ne-eqb kind 1 j, eq-eqb kind 5 k) (record { answer = gone g; ran = ran-leave (rw p at d); shows = record { are = refl } })
+      leave-called k g d x s =
+          rw (ne-eqb kind 0 h, ne-eqb kind 1 j, eq-eqb kind 5 k) (record { answer = gone g; ran = ran-leave (rw p at d); shows = record { are = rw s } })
 
       pub peer-called : (r : Report) → (kind ≡ 5 → ⊥) → Reported (peerCall image kind n (take (length a - 4) (drop 4 a))) m r e
           → Reported (callOf image kind a) m r e

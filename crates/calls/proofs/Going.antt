@@ -16,13 +16,18 @@ use Rattle.tables.proofs.Cells.{cells-length, cells-snoc}
 use Rattle.wire.proofs.Tests.{by-test}
 use Rattle.rules.specs.State.{State}
 use Rattle.rules.specs.Calls.{empty}
+use Rattle.policy.specs.Decisions.{deciderWords}
+use Rattle.policy.specs.declared.Decider.{Decider}
+use Rattle.policy.specs.declared.Decider.the-variants.{Nobody, Rule}
+use Rattle.rules.specs.declared.Shown.{Shown}
+use Rattle.rules.specs.declared.Shown.the-variants.{Nothing, By}
 use Rattle.rules.specs.declared.Receiver.{Receiver}
 use Rattle.rules.specs.declared.Receiver.the-variants as to
 use Rattle.memory.specs.Layout.{memoryLength}
 use Rattle.memory.specs.Encoding.{memoryOf}
 use Rattle.memory.specs.Calls.{Did, startOn}
-use Rattle.book.specs.Lists.{Call, starts, Answer, plain, connected, taken, gone, modelStep, answers, after, Run, done, then}
-use Rattle.rules.specs.Places.{receiverWords}
+use Rattle.book.specs.Lists.{Call, starts, Answer, plain, connected, owned, taken, gone, modelStep, answers, after, Run, done, then}
+use Rattle.rules.specs.Places.{receiverWords, shownWords}
 use Rattle.book.proofs.List.{empty-claim}
 use Rattle.book.proofs.Runs.{run-append}
 use Rattle.calls.specs.declared.Count.{Count}
@@ -49,10 +54,25 @@ place-length a = cells-length 4 wordBytes word-length (wordsOf a) ∙ omega (ari
     to-three (to.Peer n) = refl
     to-three (to.Slots mask n) = refl
 
+    by-two : (d : Decider) → length (deciderWords d) ≡ 2
+    by-two Nobody = refl
+    by-two (Rule s i) = refl
+
+    in-two : (x : Shown) → length (shownWords x) ≡ 2
+    in-two Nothing = refl
+    in-two (By d) = by-two d
+
     seven : (x : Answer) → length (wordsOf x) ≡ 7
     seven (plain n) = refl
-    seven (connected r) = refl
-    seven (taken r) = omega (arith, length-append (receiverWords (r .judgement .receiver)) (0 ∷ 0 ∷ []), to-three (r .judgement .receiver))
+    seven (connected r) = omega (arith, in-two (r .rule))
+    seven (owned r) = omega (arith, in-two (r .rule))
+    seven (taken r) =
+        omega (
+          arith,
+          length-append (receiverWords (r .judgement .receiver)) (shownWords (r .judgement .rule)),
+          to-three (r .judgement .receiver),
+          in-two (r .judgement .rule),
+        )
     seven (gone r) = refl
 
 -- ---- the entries behind `rest` are to come; those before it have run

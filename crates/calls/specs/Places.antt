@@ -10,17 +10,18 @@ use Rattle.wire.specs.Words.{wordBytes}
 use Rattle.tables.specs.Tables.{cells}
 use Rattle.rules.specs.Calls.{empty}
 use Rattle.rules.specs.View.{seen}
-use Rattle.rules.specs.Places.{plainWords, connectedWords, takenWords, goneWords}
+use Rattle.rules.specs.Places.{plainWords, connectedWords, ownedWords, takenWords, goneWords}
 use Rattle.memory.specs.Layout.{memoryLength}
 use Rattle.memory.specs.Encoding.{memoryOf}
 use Rattle.book.specs.Book.{tailView}
-use Rattle.book.specs.Lists.{Call, Answer, plain, connected, taken, gone, answers, after}
+use Rattle.book.specs.Lists.{Call, Answer, plain, connected, owned, taken, gone, answers, after}
 use Rattle.calls.specs.Script.{decode}
 
 -- the seven words of a report (rule 12.3)
 abbrev pub wordsOf : Answer → List ℕ
 wordsOf (plain a) = plainWords a
 wordsOf (connected r) = connectedWords r
+wordsOf (owned r) = ownedWords r
 wordsOf (taken r) = takenWords r
 wordsOf (gone r) = goneWords r
 

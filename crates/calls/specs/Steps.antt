@@ -18,7 +18,7 @@ use Rattle.calls.specs.Script.{entryKind, sizeOf, argumentOf, wellSized,
 use Rattle.calls.specs.Places.{answerPlace}
 
 abbrev pub reportWords : Report → List ℕ
-reportWords r = r .answer ∷ r .taken ∷ r .kind ∷ r .number ∷ r .count ∷ 0 ∷ 0 ∷ []
+reportWords r = r .answer ∷ r .taken ∷ r .kind ∷ r .number ∷ r .count ∷ r .rule .kind ∷ r .rule .position ∷ []
 
 -- the report says the answer
 pub record Shows (a : Answer) (r : Report) : Type 0 where

@@ -5,8 +5,11 @@ use Prim.Native.Nat.{ℕ}
 use lib.ListN.{length, take}
 use Rattle.wire.specs.Bytes.{byte}
 use Rattle.wire.specs.Words.{wordBytes}
+use Rattle.image.specs.declared.Section.the-variants as of
+use Rattle.policy.specs.declared.Decider.the-variants.{Nobody, Rule}
 use Rattle.rules.specs.declared.Receiver.the-variants as to
-use Rattle.book.specs.Lists.{Call, starts, connects, claims, releases, offers, leaves, Answer, plain, connected, taken, gone}
+use Rattle.rules.specs.declared.Shown.the-variants.{Nothing, By}
+use Rattle.book.specs.Lists.{Call, starts, connects, claims, releases, offers, leaves, Answer, plain, connected, owned, taken, gone}
 use Rattle.calls.specs.Script.{decode}
 use Rattle.calls.specs.Places.{wordsOf}
 
@@ -62,8 +65,14 @@ scriptTable =
     ∷ (script (entryOf 5 (wordBytes 9 ++ (0 ∷ []))), 67 ∷ [])  -- a disconnect has nothing behind it
     ∷ (script (entryOf 6 (wordBytes 9)), 67 ∷ [])
     ∷ (script (take 11 (entryOf 5 (wordBytes 9))), 67 ∷ [])  -- an argument is whole
-    ∷ (report (plain 34), 34 ∷ 0 ∷ 0 ∷ 0 ∷ 0 ∷ 0 ∷ 0 ∷ [])
-    ∷ (report (connected (record { answer = 0; number = 3; slot = 2 })), 0 ∷ 0 ∷ 0 ∷ 3 ∷ 2 ∷ 0 ∷ 0 ∷ [])
-    ∷ (report (taken (record { judgement = record { answer = 0; receiver = to.Slots 5 2 }; taken = 48 })), 0 ∷ 48 ∷ 3 ∷ 5 ∷ 2 ∷ 0 ∷ 0 ∷ [])
+    ∷ (report (plain 35), 35 ∷ 0 ∷ 0 ∷ 0 ∷ 0 ∷ 0 ∷ 0 ∷ [])
+    ∷ (report (connected (record { answer = 0; number = 3; slot = 2; rule = By (Rule of.Connect 4) })), 0 ∷ 0 ∷ 0 ∷ 3 ∷ 2 ∷ 1 ∷ 4 ∷ [])
+    ∷ (report (connected (record { answer = 36; number = 0; slot = 0; rule = By Nobody })), 36 ∷ 0 ∷ 0 ∷ 0 ∷ 0 ∷ 2 ∷ 0 ∷ [])
+    ∷ (report (owned (record { answer = 34; rule = By (Rule of.Own 7) })), 34 ∷ 0 ∷ 0 ∷ 0 ∷ 0 ∷ 1 ∷ 7 ∷ [])
+    ∷ (report (taken (record { judgement = record { answer = 0; receiver = to.Slots 5 2; rule = Nothing }; taken = 48 })), 0 ∷ 48 ∷ 3 ∷ 5 ∷ 2 ∷ 0 ∷ 0 ∷ [])
+    ∷ (
+      report (taken (record { judgement = record { answer = 23; receiver = to.Nobody; rule = By (Rule of.Transaction 9) }; taken = 64 })),
+      23 ∷ 64 ∷ 0 ∷ 0 ∷ 0 ∷ 1 ∷ 9 ∷ [],
+    )
     ∷ (report (gone (record { answer = 0; bytes = 10 })), 0 ∷ 0 ∷ 0 ∷ 10 ∷ 0 ∷ 0 ∷ 0 ∷ [])
     ∷ []

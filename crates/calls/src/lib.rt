@@ -1,28 +1,34 @@
 // Runs a list of calls that stands in bytes, one call after the other on one guard, and writes their answers down.
 use rules::Connected;
+use rules::Owned;
 use rules::Receiver;
+use rules::RuleNumbers;
 use rules::Taken;
+use rules::rule_numbers;
 use wire::Order;
 ghost use mathlib.Core.Path.{_≡_};
 ghost use mathlib.Core.Bool.{true};
+ghost use mathlib.Core.List.{[], _∷_, _++_};
 ghost use Prim.Native.Nat.{_*_, _%_, _≤_};
 ghost use lib.ListN.{length, take};
 ghost use Rattle.wire.specs.Words.{wordAt, wordBytes};
 ghost use Rattle.wire.specs.declared.Order.the-variants.{Little};
 ghost use Rattle.tables.specs.Tables.{cells};
+ghost use Rattle.rules.specs.Places.{receiverWords};
 ghost use Rattle.memory.specs.Calls.{connectOn, Did};
-ghost use Rattle.book.specs.Lists.{connects, plain, taken};
+ghost use Rattle.book.specs.Lists.{connects, plain, owned, taken};
 ghost use Rattle.calls.specs.Script.{wellSized, gidsOf, peerCall, callOf};
 ghost use Rattle.calls.specs.Places.{outcome, EndsAs};
 ghost use Rattle.calls.specs.Steps.{reportWords, Shows, Reported, Stepped, GidsIn, Sized, Entry, Counted, Ready, Replayed};
 
-// The words of a place that may be other than 0.
+// The words of a place.
 struct Report {
     answer: u32,
     taken: u32,
     kind: u32,
     number: u32,
     count: u32,
+    rule: RuleNumbers,
 }
 
 // The first `count` of a list of gids: one more than a peer may have at most.
@@ -55,7 +61,20 @@ fn put(place: &mut [u8], report: Report)
     words[2] = report.kind;
     words[3] = report.number;
     words[4] = report.count;
+    let rule = report.rule;
+    words[5] = rule.kind;
+    words[6] = rule.position;
     tables::put_words(place, 0, &words[0..7]);
+}
+
+// A report without a rule.
+fn no_rule() -> RuleNumbers
+    ensures { λ r. ⌜ r ≡ record { kind = 0; position = 0 } ⌝ }
+{
+    RuleNumbers {
+        kind: 0,
+        position: 0,
+    }
 }
 
 fn plain_report(answer: u8) -> Report
@@ -67,46 +86,72 @@ fn plain_report(answer: u8) -> Report
         kind: 0,
         number: 0,
         count: 0,
+        rule: no_rule(),
+    }
+}
+
+fn owned_report(o: Owned) -> Report
+    ensures { λ r. ⌜ Shows (owned o) r ⌝ }
+{
+    let shown = o.rule;
+    Report {
+        answer: o.answer as u32,
+        taken: 0,
+        kind: 0,
+        number: 0,
+        count: 0,
+        rule: rule_numbers(shown),
+    }
+}
+
+// The report of a piece to that receiver.
+fn report_to(answer: u32, taken: u32, receiver: Receiver, rule: RuleNumbers) -> Report
+    ensures { λ r. ⌜ reportWords r ≡ answer ∷ taken ∷ (receiverWords receiver ++ (rule .kind ∷ rule .position ∷ [])) ⌝ }
+{
+    match receiver {
+        Receiver::Nobody => Report {
+            answer,
+            taken,
+            kind: 0,
+            number: 0,
+            count: 0,
+            rule,
+        },
+        Receiver::Bus => Report {
+            answer,
+            taken,
+            kind: 1,
+            number: 0,
+            count: 0,
+            rule,
+        },
+        Receiver::Peer(number) => Report {
+            answer,
+            taken,
+            kind: 2,
+            number,
+            count: 0,
+            rule,
+        },
+        Receiver::Slots(mask, count) => Report {
+            answer,
+            taken,
+            kind: 3,
+            number: mask as u32,
+            count,
+            rule,
+        },
     }
 }
 
 fn taken_report(t: Taken) -> Report
     ensures { λ r. ⌜ Shows (taken t) r ⌝ }
 {
-    let count = low(t.taken);
     let judgement = t.judgement;
-    let answer = judgement.answer as u32;
     let receiver = judgement.receiver;
-    match receiver {
-        Receiver::Nobody => Report {
-            answer,
-            taken: count,
-            kind: 0,
-            number: 0,
-            count: 0,
-        },
-        Receiver::Bus => Report {
-            answer,
-            taken: count,
-            kind: 1,
-            number: 0,
-            count: 0,
-        },
-        Receiver::Peer(n) => Report {
-            answer,
-            taken: count,
-            kind: 2,
-            number: n,
-            count: 0,
-        },
-        Receiver::Slots(mask, set) => Report {
-            answer,
-            taken: count,
-            kind: 3,
-            number: mask as u32,
-            count: set,
-        },
-    }
+    let shown = judgement.rule;
+    let rule = rule_numbers(shown);
+    report_to(judgement.answer as u32, low(t.taken), receiver, rule)
 }
 
 // ---- one call
@@ -145,12 +190,14 @@ fn connect(image: &[u8], memory: &mut [u8], argument: &[u8]) -> Report
     let list = gids.list;
     let count = gids.count;
     let c = connect_as(image, memory, uid, list, count);
+    let shown = c.rule;
     Report {
         answer: c.answer as u32,
         taken: 0,
         kind: 0,
         number: c.number,
         count: low(c.slot),
+        rule: rule_numbers(shown),
     }
 }
 
@@ -159,7 +206,7 @@ fn peer_call(image: &[u8], memory: &mut [u8], kind: u32, peer: u32, rest: &[u8])
     ensures { λ r. ⌜ Reported (peerCall (now (image .entry)) kind peer (now (rest .entry))) (now (memory .entry)) r (now (memory .exit)) ⌝ }
 {
     if kind == 2 {
-        return plain_report(guard::own(image, memory, peer, rest));
+        return owned_report(guard::own(image, memory, peer, rest));
     }
     if kind == 3 {
         return plain_report(guard::release(memory, peer, rest));
@@ -186,6 +233,7 @@ fn call(image: &[u8], memory: &mut [u8], kind: u32, argument: &[u8]) -> Report
             kind: 0,
             number: g.bytes,
             count: 0,
+            rule: no_rule(),
         };
     }
     peer_call(image, memory, kind, peer, &argument[4..])

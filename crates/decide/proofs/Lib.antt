@@ -1,3 +1,4 @@
+mod Rulings
 mod Section
 mod Decisions
 mod Transactions

@@ -5,7 +5,7 @@ use mathlib.Core.List.{List}
 use Prim.Native.Nat.{ℕ, _+_, _-_, _*_, _/_, _^_, _≤_, _<_}
 use native.Mathlib.Omega.{arith}
 use lib.Dec.{eqb}
-use lib.ListN.{length, drop}
+use lib.ListN.{length, take, drop}
 use borrow.Author.Needs.{needs}
 use borrow.Author.Tests.{eq-eqb, ne-eqb, eqb-true}
 use Rattle.wire.specs.Bytes.{same}
@@ -19,12 +19,14 @@ use Rattle.header.specs.declared.Header.{Header}
 use Rattle.policy.specs.Names.{nameWidth, nameOf, namesIn, owns}
 use Rattle.policy.specs.Matching.{messageOf, nameFits, transactionFits, transactionMatches}
 use Rattle.matching.specs.Contracts.{Cited, TransactionAt, Within, RuleAsked}
+use Rattle.decide.specs.Rulings.{rulingOf, nobody, decisionOf}
 use Rattle.decide.specs.Contracts.{Asked}
-use Rattle.policy.specs.Decisions.{mayTransact}
+use Rattle.policy.specs.Decisions.{transactionDecision}
 use Rattle.policy.specs.declared.Uid.{Uid}
 use Rattle.policy.proofs.Cells.{Among, among-begins, among-here, among-more, among-ends}
 use Rattle.matching.proofs.Fits.{cited-length}
-use Rattle.decide.proofs.Section.{Search, search-begins, search-down, search-over, search-at, search-pass, search-found}
+use Rattle.decide.proofs.Section.{Stands, Search, search-begins, search-down, search-over, search-at, search-pass, search-stands}
+use Rattle.decide.proofs.Section.{search-found}
 
 transaction-at : {image : List ℕ} → GoodImage image → (k : ℕ) → k < ruleCount Transaction image → TransactionAt image (rulePlace Transaction image k)
 transaction-at {image} g k l =
@@ -40,32 +42,22 @@ transaction-at {image} g k l =
 -- the decision is left to the rules below a context and a place
 pub record Deciding (image : List ℕ) (direction : ℕ) (uid : Uid) (gids names head : List ℕ) (m : Header) (base end context at : ℕ) : Type 0 where
   pub within : Within head m
-  pub small : length names < 2 ^ 64
   pub rules : Search Transaction image (λ k. transactionMatches image (ruleFrom image k) direction uid gids (namesIn names) (messageOf head m))
       (ruleSize Transaction) base end context at
 
--- the rule at `at` matches if its name is one of the names, and among those from cell j on
-pub record Naming (image : List ℕ) (direction : ℕ) (uid : Uid) (gids names head : List ℕ) (m : Header) (base end context at : ℕ) (name : List ℕ) (j : ℕ)
-    : Type 0 where
-  pub room : at + ruleSize Transaction ≤ length image
-  pub small : length names < 2 ^ 64
-  pub among : Among names name j
-  pub owned : owns (namesIn names) name ≡ true
-      → eqb (ruleFrom image at .verdict) 1 ≡ mayTransact image direction uid gids (namesIn names) (messageOf head m)
-  pub unowned : owns (namesIn names) name ≡ false → Deciding image direction uid gids names head m base end context at
-
 module _ {image : List ℕ} (direction : ℕ) (uid : Uid) (gids names : List ℕ) {head : List ℕ} {m : Header} {base n : ℕ} where
-  pub decide-begins : Asked image head m → length names < 2 ^ 64 → base ≡ ruleOffset Transaction image → n ≡ ruleCount Transaction image
+  pub decide-begins : Asked image head m → base ≡ ruleOffset Transaction image → n ≡ ruleCount Transaction image
       → Deciding image direction uid gids names head m base (base + ruleSize Transaction * n) 3 (base + ruleSize Transaction * n)
-  decide-begins a f s e = record { within = a .within; small = f; rules = search-begins (a .good) refl s e }
+  decide-begins a s e = record { within = a .within; rules = search-begins (a .good) refl s e }
 
 module _ {image : List ℕ} {direction : ℕ} {uid : Uid} {gids names head : List ℕ} {m : Header} {base end context at : ℕ}
     (u : Deciding image direction uid gids names head m base end context at) where
-  pub decide-down : at ≡ base → (context ≡ 0 → ⊥) → Deciding image direction uid gids names head m base end (context - 1) end
-  decide-down z h = record { within = u .within; small = u .small; rules = search-down (u .rules) z h }
+  pub decide-down : at ≤ base → (context ≡ 0 → ⊥) → Deciding image direction uid gids names head m base end (context - 1) end
+  decide-down z h = record { within = u .within; rules = search-down (u .rules) z h }
 
-  pub decide-over : at ≡ base → context ≡ 0 → false ≡ mayTransact image direction uid gids (namesIn names) (messageOf head m)
-  unfolding mayTransact
+  pub decide-over : at ≤ base → context ≡ 0
+      → decisionOf Transaction nobody ≡ transactionDecision image direction uid gids (namesIn names) (messageOf head m)
+  unfolding transactionDecision
   decide-over z h = search-over (u .rules) z h
 
   -- where the rule that ends at `at` begins, and the rule
@@ -75,9 +67,12 @@ module _ {image : List ℕ} {direction : ℕ} {uid : Uid} {gids names head : Lis
   abbrev rule : PolicyRule
   rule = ruleFrom image from
 
-  module _ (z : at ≡ base → ⊥) where
+  module _ (z : base < at) where
     pub decide-place : RuleAsked image from head m
     decide-place = record { rule = search-at (u .rules) z (TransactionAt image) (transaction-at (u .rules .good)); within = u .within }
+
+    pub decide-stands : Stands image base (ruleSize Transaction) from
+    decide-stands = search-stands (u .rules) z
 
     pub decide-cited : Cited image (from + nameSpan)
     decide-cited = decide-place .rule .name
@@ -85,7 +80,7 @@ module _ {image : List ℕ} {direction : ℕ} {uid : Uid} {gids names head : Lis
     decide-pass : (rule .context ≡ context
         → transactionMatches image rule direction uid gids (namesIn names) (messageOf head m) ≡ true → ⊥)
         → Deciding image direction uid gids names head m base end context from
-    decide-pass d = record { within = u .within; small = u .small; rules = search-pass (u .rules) z d }
+    decide-pass d = record { within = u .within; rules = search-pass (u .rules) z d }
 
     abbrev Test : Bool
     Test = eqb (rule .context) context && eqb (rule .direction) direction
@@ -104,54 +99,22 @@ module _ {image : List ℕ} {direction : ℕ} {uid : Uid} {gids names head : Lis
       unfolding transactionMatches
       decide-miss f = decide-pass (λ e h. false≢true (rw (same-direction, ← fits, f) at h))
 
-      module _ (ok : r ≡ true) where
+      module _ (ok : r ≡ true) {n : Bool} (named : n ≡ nameFits image rule (namesIn names)) where
         -- then the name decides
-        named : {b : Bool} → nameFits image rule (namesIn names) ≡ b
-            → transactionMatches image rule direction uid gids (namesIn names) (messageOf head m) ≡ b
+        matches : transactionMatches image rule direction uid gids (namesIn names) (messageOf head m) ≡ n
         unfolding transactionMatches
-        named e = rw (same-direction, ← fits, ok) e
+        matches = rw (same-direction, ← fits, ok, ← named)
 
-        yes : nameFits image rule (namesIn names) ≡ true
-            → eqb (rule .verdict) 1 ≡ mayTransact image direction uid gids (namesIn names) (messageOf head m)
-        unfolding mayTransact
-        yes e =
-            search-found (u .rules) z (eqb-true (rule .context) context (both-first (eqb (rule .context) context) (eqb (rule .direction) direction) t))
-            (named e)
+        pub decide-unnamed : n ≡ false → Deciding image direction uid gids names head m base end context from
+        decide-unnamed f = decide-pass (λ e h. false≢true (sym f ∙ sym matches ∙ h))
 
-        module _ {name : List ℕ} (is : name ≡ textOf image (rule .name)) where
-          len : length name ≡ rule .name .len
-          len = ap length is ∙ cited-length image (from + nameSpan) (decide-place .rule .name)
-
-          pub decide-any : length name ≡ 0 → eqb (rule .verdict) 1 ≡ mayTransact image direction uid gids (namesIn names) (messageOf head m)
-          unfolding nameFits
-          decide-any e = yes (rw (← len, e))
-
-          pub decide-named : (length name ≡ 0 → ⊥) → Naming image direction uid gids names head m base end context from name 0
-          unfolding nameFits
-          decide-named n =
-              record {
-                room = decide-place .rule .room;
-                small = u .small;
-                among = among-begins;
-                owned = λ o. yes (rw (← is, o, or-true));
-                unowned = λ o. decide-pass (λ e f. false≢true (sym (named (rw (ne-eqb (rule .name .len) 0 (λ k. n (len ∙ k)), ← is, o))) ∙ f));
-              }
-
--- ---- the names
-
-module _ {image : List ℕ} {direction : ℕ} {uid : Uid} {gids names head : List ℕ} {m : Header} {base end context at : ℕ} {name : List ℕ} {j : ℕ}
-    (u : Naming image direction uid gids names head m base end context at name j) where
-  pub naming-ends : length names / nameWidth ≤ j → Deciding image direction uid gids names head m base end context at
-  naming-ends h = u .unowned (among-ends (u .among) h)
-
-  module _ (h : j < length names / nameWidth) {b : Bool} (e : b ≡ same (nameOf (drop (nameWidth * j) names)) name) where
-    pub naming-more : b ≡ false → Naming image direction uid gids names head m base end context at name (j + 1)
-    naming-more f = record { room = u .room; small = u .small; among = among-more (u .among) h e f; owned = u .owned; unowned = u .unowned }
-
-    pub naming-here : b ≡ true → eqb (ruleFrom image at .verdict) 1 ≡ mayTransact image direction uid gids (namesIn names) (messageOf head m)
-    naming-here t = u .owned (among-here (u .among) h e t)
-
-pub ruleset naming = (naming-ends, naming-more, naming-here)
+        pub decide-found : n ≡ true → {k : ℕ} → k ≡ rulingOf ((from - base) / ruleSize Transaction) (rule .verdict)
+            → decisionOf Transaction k ≡ transactionDecision image direction uid gids (namesIn names) (messageOf head m)
+        unfolding transactionDecision
+        decide-found y q =
+            ap (decisionOf Transaction) q
+            ∙ search-found (u .rules) z (eqb-true (rule .context) context (both-first (eqb (rule .context) context) (eqb (rule .direction) direction) t))
+            (matches ∙ y)
 
 pub ruleset deciding =
-    (decide-begins, decide-down, decide-over, decide-place, decide-cited, decide-other, decide-miss, decide-any, decide-named, naming, needs)
+    (decide-begins, decide-down, decide-over, decide-place, decide-stands, decide-cited, decide-other, decide-miss, decide-unnamed, decide-found, needs)

@@ -13,8 +13,9 @@ use Rattle.image.specs.Contracts.{GoodImage}
 use Rattle.image.specs.declared.Outcome.{Outcome}
 use Rattle.image.specs.declared.Outcome.the-variants.{Good, Bad}
 use Rattle.image.proofs.Holds.{image-holds}
-use Rattle.rules.specs.Calls.{noConnect, noPiece}
+use Rattle.rules.specs.Calls.{noConnect, noOwn, noPiece}
 use Rattle.rules.specs.declared.Connected.{Connected}
+use Rattle.rules.specs.declared.Owned.{Owned}
 use Rattle.rules.specs.declared.Taken.{Taken}
 use Rattle.memory.specs.Layout.{memoryLength}
 use Rattle.memory.specs.Good.{good}
@@ -70,9 +71,9 @@ module _ (image : List ℕ) (a : ℕ) (e : a ≡ imageAnswer image) where
       → Did (cond (eqb (imageAnswer image) 0) o (unchanged m (noConnect (imageAnswer image)))) r m
   connect-refused = refused-image noConnect
 
-  pub own-refused : (a ≡ 0 → ⊥) → (m : List ℕ) (o : MemoryStep ℕ) {r : ℕ} → r ≡ a
-      → Did (cond (eqb (imageAnswer image) 0) o (unchanged m (imageAnswer image))) r m
-  own-refused = refused-image (λ x. x)
+  pub own-refused : (a ≡ 0 → ⊥) → (m : List ℕ) (o : MemoryStep Owned) {r : Owned} → r ≡ noOwn a
+      → Did (cond (eqb (imageAnswer image) 0) o (unchanged m (noOwn (imageAnswer image)))) r m
+  own-refused = refused-image noOwn
 
   pub piece-refused : (a ≡ 0 → ⊥) → (m : List ℕ) (o : MemoryStep Taken) {r : Taken} → r ≡ noPiece a
       → Did (cond (eqb (imageAnswer image) 0) o (unchanged m (noPiece (imageAnswer image)))) r m

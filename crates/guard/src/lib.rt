@@ -3,9 +3,11 @@ use image::Outcome;
 use memory::MEMORY_LENGTH;
 use rules::Connected;
 use rules::Gone;
+use rules::Owned;
 use rules::Taken;
 use rules::no_connect;
 use rules::no_gone;
+use rules::no_own;
 use rules::no_piece;
 ghost use mathlib.Core.Path.{_≡_};
 ghost use Rattle.image.specs.Good.{imageAnswer};
@@ -32,7 +34,7 @@ pub fn start(memory: &mut [u8]) -> u8
     0
 }
 
-// A new peer, with its uid and gids: its number and slot (rule 8.3).
+// A new peer, with its uid and gids: its number and slot (rule 8.3), and who decided (rule 8.10).
 pub fn connect(image: &[u8], memory: &mut [u8], uid: u32, gids: &[u32]) -> Connected
     ensures { λ r. ⌜ Did (connectOn (now (image .entry)) (now (memory .entry)) uid (now (gids .entry))) r (now (memory .exit)) ⌝ }
 {
@@ -46,16 +48,16 @@ pub fn connect(image: &[u8], memory: &mut [u8], uid: u32, gids: &[u32]) -> Conne
     peers::connect(image, memory, uid, gids)
 }
 
-// A peer asks to own a well-known name (rule 8.4).
-pub fn own(image: &[u8], memory: &mut [u8], peer: u32, name: &[u8]) -> u8
+// A peer asks to own a well-known name (rule 8.4); who decided is shown (rule 8.10).
+pub fn own(image: &[u8], memory: &mut [u8], peer: u32, name: &[u8]) -> Owned
     ensures { λ r. ⌜ Did (ownOn (now (image .entry)) (now (memory .entry)) peer (now (name .entry))) r (now (memory .exit)) ⌝ }
 {
     let answer = image_answer(image);
     if answer != 0 {
-        return answer;
+        return no_own(answer);
     }
     if !audit::is_good(memory) {
-        return 51;
+        return no_own(51);
     }
     owners::own(image, memory, peer, name)
 }

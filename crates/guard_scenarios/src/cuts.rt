@@ -8,10 +8,19 @@ use rules::Receiver;
 use rules::Taken;
 ghost use Prim.Native.Nat.{_<_};
 
-// A judgement as one number.
+// A judgement as one number: its answer, its receiver and who decided.
 pub fn mark(j: Judgement) -> u64 {
-    let answer = wire::wide(j.answer) as u64;
-    let r = j.receiver;
+    let receiver = j.receiver;
+    let shown = j.rule;
+    let rule = rules::rule_numbers(shown);
+    let decided = (rule.kind % 4) as u64 + 4 * ((rule.position % 1024) as u64);
+    mark_to(j.answer, receiver) + 1099511627776 * decided
+}
+
+fn mark_to(answer: u8, r: Receiver) -> u64
+    ensures { λ r. ⌜ r < 1099511627776 ⌝ }
+{
+    let answer = wire::wide(answer) as u64;
     match r {
         Receiver::Nobody => answer,
         Receiver::Bus => answer + 256,

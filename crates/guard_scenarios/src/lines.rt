@@ -2,6 +2,7 @@
 use crate::messages;
 use memory::MEMORY_LENGTH;
 use rules::Receiver;
+use rules::Shown;
 use rules::Taken;
 
 pub fn number(before: &[u8], n: u64) {
@@ -36,12 +37,25 @@ pub fn receiver(r: Receiver) {
     }
 }
 
+// Who decided, where that is shown.
+pub fn rule(shown: Shown) {
+    let r = rules::rule_numbers(shown);
+    if r.kind == 1 {
+        number(b", rule ", r.position as u64);
+    }
+    if r.kind == 2 {
+        io::write_all(1, b", no rule");
+    }
+}
+
 pub fn taken(t: Taken) {
     let j = t.judgement;
     let r = j.receiver;
+    let shown = j.rule;
     number(b": ", j.answer as u64);
     receiver(r);
     number(b", taken ", t.taken as u64);
+    rule(shown);
 }
 
 pub fn start(memory: &mut [u8; MEMORY_LENGTH], title: &[u8]) {
@@ -57,6 +71,8 @@ pub fn connect(image: &[u8], memory: &mut [u8; MEMORY_LENGTH], uid: u32, gids: &
     number(b"connect: ", c.answer as u64);
     number(b" number ", c.number as u64);
     number(b" slot ", c.slot as u64);
+    let shown = c.rule;
+    rule(shown);
     end(&before, memory);
 }
 
@@ -65,7 +81,10 @@ pub fn own(image: &[u8], memory: &mut [u8; MEMORY_LENGTH], peer: u32, name: &[u8
     number(b"own ", peer as u64);
     io::write_all(1, b" ");
     io::write_all(1, name);
-    number(b": ", guard::own(image, memory, peer, name) as u64);
+    let o = guard::own(image, memory, peer, name);
+    number(b": ", o.answer as u64);
+    let shown = o.rule;
+    rule(shown);
     end(&before, memory);
 }
 

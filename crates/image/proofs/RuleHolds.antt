@@ -1,4 +1,4 @@
--- What holds of each rule of a good image: its bytes and its strings lie inside, and its context is one of the four.
+-- What holds of each rule of a good image: its bytes and its strings lie inside, its context is one of the four and its verdict one of the two.
 use mathlib.Core.Path.{_≡_, refl}
 use mathlib.Core.Logic.{⊎-elim}
 use mathlib.Core.Bool.{Bool, true, false, cond, _&&_, _||_}
@@ -57,9 +57,16 @@ module _ (image : List ℕ) (s : Span) where
 
 -- ---- rules
 
-connect-context : {image : List ℕ} → GoodImage image → (i : ℕ) → i < ruleCount Connect image → policyRule Connect image i .context ≤ 3
+matcher-verdict : (r : PolicyRule) → goodMatcher r ≡ true → r .verdict ≤ 1
+matcher-verdict r h = leb-true (r .verdict) 1 (both-first (leb (r .verdict) 1) _ (both-first _ (eqb (r .reserved) 0) h))
+
+pub record ConnectHolds (image : List ℕ) (i : ℕ) : Type 0 where
+  pub context : policyRule Connect image i .context ≤ 3
+  pub verdict : policyRule Connect image i .verdict ≤ 1
+
+connect-holds : {image : List ℕ} → GoodImage image → (i : ℕ) → i < ruleCount Connect image → ConnectHolds image i
 unfolding goodRule goodConnectRule
-connect-context {image} g i l =
+connect-holds {image} g i l =
     let r = policyRule Connect image i in
     let k =
     row-each
@@ -67,10 +74,14 @@ connect-context {image} g i l =
     ((eqb (r .context) 0 || eqb (r .context) 3) ∷ goodMatcher r ∷ (leb 1 (r .matcher) || eqb (r .id) 0) ∷ [])
     (below-at (goodRule Connect image) (ruleCount Connect image) (each-part image (g .is) 1) i l)
     in
-    ⊎-elim
-    (λ (e : eqb (r .context) 0 ≡ true). omega (arith, eqb-true))
-    (λ (e : eqb (r .context) 3 ≡ true). omega (arith, eqb-true))
-    (either (eqb (r .context) 0) (eqb (r .context) 3) (k 0))
+    record {
+      context =
+          ⊎-elim
+          (λ (e : eqb (r .context) 0 ≡ true). omega (arith, eqb-true))
+          (λ (e : eqb (r .context) 3 ≡ true). omega (arith, eqb-true))
+          (either (eqb (r .context) 0) (eqb (r .context) 3) (k 0));
+      verdict = matcher-verdict r (k 1);
+    }
 
 subject-context : (r : PolicyRule) → goodSubject r ≡ true → r .context ≤ 3
 subject-context r h =
@@ -79,6 +90,7 @@ subject-context r h =
 pub record OwnHolds (image : List ℕ) (i : ℕ) : Type 0 where
   pub place : rulePlace Own image i + ruleSize Own ≤ length image
   pub context : policyRule Own image i .context ≤ 3
+  pub verdict : policyRule Own image i .verdict ≤ 1
   pub name : Inside image (policyRule Own image i .name)
 
 pub own-holds : {image : List ℕ} → GoodImage image → (i : ℕ) → i < ruleCount Own image → OwnHolds image i
@@ -94,12 +106,14 @@ own-holds {image} g i l =
     record {
       place = omega arith;
       context = subject-context r (k 0);
+      verdict = matcher-verdict r (k 1);
       name = owned-inside image (r .name) (g .header .strings-inside) (r .matcher) (k 2);
     }
 
 pub record TransactionHolds (image : List ℕ) (i : ℕ) : Type 0 where
   pub place : rulePlace Transaction image i + ruleSize Transaction ≤ length image
   pub context : policyRule Transaction image i .context ≤ 3
+  pub verdict : policyRule Transaction image i .verdict ≤ 1
   pub name : Inside image (policyRule Transaction image i .name)
   pub path : Inside image (policyRule Transaction image i .path)
   pub interface : Inside image (policyRule Transaction image i .interface)
@@ -134,14 +148,21 @@ transaction-holds {image} g i l =
     record {
       place = omega arith;
       context = subject-context r (k 0);
+      verdict = leb-true (r .verdict) 1 (k 1);
       name = or-any-inside image (r .name) in-image WellKnown (s 0);
       path = or-any-inside image (r .path) in-image Path (s 1);
       interface = or-any-inside image (r .interface) in-image Interface (s 2);
       member = or-any-inside image (r .member) in-image Member (s 3);
     }
 
--- a rule of any section has one of the four contexts
-pub rule-context : {image : List ℕ} → GoodImage image → (s : Section) (i : ℕ) → i < ruleCount s image → policyRule s image i .context ≤ 3
-rule-context g Connect i l = connect-context g i l
-rule-context g Own i l = own-holds g i l .context
-rule-context g Transaction i l = transaction-holds g i l .context
+-- a rule of any section has one of the four contexts, and one of the two verdicts
+module _ {image : List ℕ} (g : GoodImage image) where
+  pub rule-context : (s : Section) (i : ℕ) → i < ruleCount s image → policyRule s image i .context ≤ 3
+  rule-context Connect i l = connect-holds g i l .context
+  rule-context Own i l = own-holds g i l .context
+  rule-context Transaction i l = transaction-holds g i l .context
+
+  pub rule-verdict : (s : Section) (i : ℕ) → i < ruleCount s image → policyRule s image i .verdict ≤ 1
+  rule-verdict Connect i l = connect-holds g i l .verdict
+  rule-verdict Own i l = own-holds g i l .verdict
+  rule-verdict Transaction i l = transaction-holds g i l .verdict

@@ -14,6 +14,7 @@ use Rattle.policy.specs.Matching.{messageOf}
 use Rattle.rules.specs.State.{free}
 use Rattle.rules.specs.Judge.{bit, maskOf, countOf, reaches}
 use Rattle.rules.specs.declared.Receiver.the-variants as to
+use Rattle.rules.specs.declared.Shown.the-variants.{Nothing}
 use Rattle.rules.proofs.Mask.{mask-ones, mask-from, mask-past, mask-room}
 use Rattle.memory.specs.Encoding.{stateOf}
 use Rattle.memory.proofs.Reading.{sixteen}
@@ -64,11 +65,11 @@ module _ {image m : List ℕ} {i : ℕ} {head : List ℕ} {x : Header} {mask k :
         is = e ∙ sym (mask-from (bits image m i head x) (k - 1) (omega (arith, bits-length image m i head x)) ∙ rw (b, f, g .is));
       }
 
-  pub masking-ends : k ≤ 0 → ToAll image m i head x (record { answer = 0; receiver = to.Slots mask (ones mask) })
+  pub masking-ends : k ≤ 0 → ToAll image m i head x (record { answer = 0; receiver = to.Slots mask (ones mask); rule = Nothing })
   masking-ends h =
       let z : k ≡ 0 = omega arith in
       let e : mask ≡ maskOf (bits image m i head x) = rw z at (g .is) in
       let f : ones mask ≡ countOf (bits image m i head x) = ap ones e ∙ mask-ones (bits image m i head x) in
-      record { is = λ j. record { answer = 0; receiver = to.Slots (e j) (f j) } }
+      record { is = λ j. record { answer = 0; receiver = to.Slots (e j) (f j); rule = Nothing } }
 
 pub ruleset masking = (masking-begins, masking-room, masking-more, masking-ends, needs)

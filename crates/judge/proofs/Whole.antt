@@ -12,7 +12,9 @@ use Rattle.header.proofs.Readings.{Fitting, whole-fits}
 use Rattle.policy.specs.Matching.{messageOf}
 use Rattle.decide.specs.Contracts.{Asked}
 use Rattle.policy.specs.Names.{busName}
-use Rattle.rules.specs.Judge.{refusal, refused, passed, maySend, toBus, isReply, reply, judged}
+use Rattle.policy.specs.declared.Decider.{Decider}
+use Rattle.stream.specs.Tail.{Tail}
+use Rattle.rules.specs.Judge.{Judged, refusal, refused, passed, judgedBy, sendDecision, toBus, isReply, reply, judged}
 use Rattle.rules.specs.declared.Judgement.{Judgement}
 use Rattle.rules.specs.declared.Receiver.the-variants as to
 use Rattle.memory.specs.Encoding.{stateOf}
@@ -30,12 +32,16 @@ use Rattle.waits.proofs.Waits.{left-as-is}
 -- the bus is told, and nothing waits
 told : {image m : List ℕ} {i : ℕ} {head : List ℕ} {x : Header} → Seated m i → Octets m
     → {r : Judgement} → ToBus image m i head x r → JudgementLeft (toBus image (stateOf m) (peerAt m i) (messageOf head x)) r m
-told {image} {m} {i} {head} {x} a b {r} t = go (maySend image (peerAt m i) (busName ∷ []) (messageOf head x)) (t .is)
+told {image} {m} {i} {head} {x} a b {r} t =
+    let d = sendDecision image (peerAt m i) (busName ∷ []) (messageOf head x) in
+    go (d .rule) (d .allow) (t .is)
   where
-    go : (c : Bool) → r ≡ cond c (passed (stateOf m) to.Bus) (refused (stateOf m) 22) .judgement
-        → JudgementLeft (cond c (passed (stateOf m) to.Bus) (refused (stateOf m) 22)) r m
-    go true e = left-as-is a b e
-    go false e = left-as-is a b e
+    told-by : Decider → Bool → Judged Tail
+    told-by d c = judgedBy d (cond c (passed (stateOf m) to.Bus) (refused (stateOf m) 22))
+
+    go : (d : Decider) (c : Bool) → r ≡ told-by d c .judgement → JudgementLeft (told-by d c) r m
+    go d true e = left-as-is a b e
+    go d false e = left-as-is a b e
 
 -- the peer that is addressed
 pub stands-at : {m : List ℕ} {d : Destination} → Stands m d → {j : ℕ} → d ≡ At j → Seated m j

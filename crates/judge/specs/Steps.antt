@@ -1,17 +1,16 @@
 -- What the private functions of a judgement require and ensure, each in the terms of a part of `judged`.
 use mathlib.Core.Path.{_≡_}
-use mathlib.Core.Bool.{Bool, cond}
+use mathlib.Core.Bool.{Bool}
 use mathlib.Core.List.{List}
 use Prim.Native.Nat.{ℕ}
 use Rattle.header.specs.declared.Header.{Header}
 use Rattle.policy.specs.Matching.{messageOf}
-use Rattle.policy.specs.Decisions.{mayTransact}
+use Rattle.policy.specs.Decisions.{transactionDecision}
+use Rattle.policy.specs.declared.Decision.{Decision}
 use Rattle.policy.specs.Names.{namesIn}
-use Rattle.rules.specs.State.{Peer}
-use Rattle.rules.specs.Judge.{passed, maySend, mayReceive, toBus, waits, expectsReply, toPeer, reaches, toAll, reply, directed}
+use Rattle.rules.specs.Judge.{toBus, delivered, toPeer, reaches, toAll, reply, directed}
 use Rattle.rules.specs.Calls.{slotAt}
 use Rattle.rules.specs.declared.Judgement.{Judgement}
-use Rattle.rules.specs.declared.Receiver.the-variants as to
 use Rattle.memory.specs.Encoding.{stateOf}
 use Rattle.slots.specs.Slots.{peerAt}
 use Rattle.waits.specs.Waits.{JudgementLeft}
@@ -21,13 +20,13 @@ use Rattle.addresses.specs.Destinations.{addressOf}
 -- ---- policy between two slots
 
 -- what policy says of a message, asked of the peer in slot i about the names in some cells
-pub record Asks (image : List ℕ) (direction : ℕ) (m : List ℕ) (i : ℕ) (names head : List ℕ) (x : Header) (r : Bool) : Type 0 where
-  pub is : r ≡ mayTransact image direction (record { 0 = peerAt m i .uid }) (peerAt m i .gids) (namesIn names) (messageOf head x)
+pub record Asks (image : List ℕ) (direction : ℕ) (m : List ℕ) (i : ℕ) (names head : List ℕ) (x : Header) (r : Decision) : Type 0 where
+  pub is : r ≡ transactionDecision image direction (record { 0 = peerAt m i .uid }) (peerAt m i .gids) (namesIn names) (messageOf head x)
 
 -- what policy says of a message, asked of the subject about the other's names
-pub record Says (image : List ℕ) (direction : ℕ) (m : List ℕ) (subject other : ℕ) (head : List ℕ) (x : Header) (r : Bool) : Type 0 where
+pub record Says (image : List ℕ) (direction : ℕ) (m : List ℕ) (subject other : ℕ) (head : List ℕ) (x : Header) (r : Decision) : Type 0 where
   pub is : r
-      ≡ mayTransact image direction (record { 0 = peerAt m subject .uid }) (peerAt m subject .gids) (peerAt m other .names) (messageOf head x)
+      ≡ transactionDecision image direction (record { 0 = peerAt m subject .uid }) (peerAt m subject .gids) (peerAt m other .names) (messageOf head x)
 
 -- ---- what is judged
 
@@ -42,15 +41,7 @@ pub record ToAll (image m : List ℕ) (i : ℕ) (head : List ℕ) (x : Header) (
 
 -- a message that may pass to a peer
 pub record Delivers (m : List ℕ) (i j : ℕ) (x : Header) (r : Judgement) (m′ : List ℕ) : Type 0 where
-  pub left :
-      JudgementLeft (cond (expectsReply x) (waits (stateOf m) i (peerAt m i) (peerAt m j) x) (passed (stateOf m) (to.Peer (peerAt m j .number)))) r m′
-
--- 22, 23, or 0 where policy lets it pass
-pub record PolicyAnswer (image m : List ℕ) (i j : ℕ) (head : List ℕ) (x : Header) (r : ℕ) : Type 0 where
-  pub is : r
-      ≡ cond (maySend image (peerAt m i) (peerAt m j .names) (messageOf head x))
-      (cond (mayReceive image (peerAt m j) (peerAt m i .names) (messageOf head x)) 0 23)
-      22
+  pub left : JudgementLeft (delivered (stateOf m) i (peerAt m i) (peerAt m j) x) r m′
 
 pub record ToPeer (image m : List ℕ) (i j : ℕ) (head : List ℕ) (x : Header) (r : Judgement) (m′ : List ℕ) : Type 0 where
   pub left : JudgementLeft (toPeer image (stateOf m) i (peerAt m i) (peerAt m j) (messageOf head x) x) r m′

@@ -1,25 +1,29 @@
-// The judgement of a whole message over the guard's memory: its answer, its receiver, and the pending calls that it begins or ends.
+// The judgement of a whole message over the guard's memory: its answer, its receiver, who decided, and the pending calls that it begins or ends.
 use addresses::Destination;
 use header::CALL;
 use header::ERROR;
 use header::Header;
 use header::RETURN;
 use header::SIGNAL;
+use image::Section;
 use memory::FIRST_NAME;
 use memory::GID_ROOM;
 use memory::NAME_WIDTH;
 use memory::SLOT_LENGTH;
 use memory::SLOTS_AT;
 use memory::UID_AT;
+use policy::Decision;
 use policy::Uid;
 use rules::Judgement;
 use rules::Receiver;
+use rules::Shown;
+use rules::judged_by;
 use rules::refused;
 ghost use mathlib.Core.Path.{_≡_};
 ghost use Prim.Native.Nat.{_+_, _*_, _≤_, _<_};
 ghost use lib.ListN.{take};
 ghost use Rattle.decide.specs.Contracts.{Asked};
-ghost use Rattle.policy.specs.Decisions.{mayTransact};
+ghost use Rattle.policy.specs.Decisions.{transactionDecision};
 ghost use Rattle.policy.specs.Matching.{messageOf};
 ghost use Rattle.policy.specs.Names.{namesIn};
 ghost use Rattle.rules.specs.Judge.{bit};
@@ -27,7 +31,7 @@ ghost use Rattle.memory.specs.Layout.{gidRoom};
 ghost use Rattle.slots.specs.Slots.{At, Seated};
 ghost use Rattle.judge.specs.Judging.{JudgedMessage, Judges};
 ghost use Rattle.addresses.specs.Destinations.{Stands};
-ghost use Rattle.judge.specs.Steps.{Asks, Says, ToBus, Reaches, ToAll, Delivers, PolicyAnswer, ToPeer, Replies, Directs};
+ghost use Rattle.judge.specs.Steps.{Asks, Says, ToBus, Reaches, ToAll, Delivers, ToPeer, Replies, Directs};
 
 // ---- policy
 
@@ -41,12 +45,14 @@ fn ask(
     names: &[u8],
     head: &[u8],
     header: Header,
-) -> bool
+) -> Decision
     requires { ⌜ (Asked (now image) (now head) header) × (count ≤ gidRoom) ⌝ }
     ensures { λ r.
-        ⌜ r ≡ mayTransact (now (image .entry)) direction uid (take count gids) (namesIn (now (names .entry))) (messageOf (now (head .entry)) header) ⌝ }
+        ⌜ r ≡ transactionDecision (now (image .entry)) direction uid (take count gids) (namesIn (now (names .entry)))
+        (messageOf (now (head .entry)) header) ⌝ }
 {
-    decide::may_transact(image, direction, uid, &gids[0..count], names, head, header)
+    let ruling = decide::transact(image, direction, uid, &gids[0..count], names, head, header);
+    decide::decision_of(Section::Transaction, ruling)
 }
 
 // The same, asked of the peer of slot i.
@@ -58,7 +64,7 @@ fn ask_peer(
     names: &[u8],
     head: &[u8],
     header: Header,
-) -> bool
+) -> Decision
     requires { ⌜ (Asked (now image) (now head) header) × (At (now memory) i) ⌝ }
     ensures { λ r. ⌜ Asks (now (image .entry)) direction (now (memory .entry)) i (now (names .entry)) (now (head .entry)) header r ⌝ }
 {
@@ -78,7 +84,7 @@ fn may(
     other: usize,
     head: &[u8],
     header: Header,
-) -> bool
+) -> Decision
     requires { ⌜ (Asked (now image) (now head) header) × (subject < 16) × (Seated (now memory) other) ⌝ }
     ensures { λ r. ⌜ Says (now (image .entry)) direction (now (memory .entry)) subject other (now (head .entry)) header r ⌝ }
 {
@@ -98,18 +104,21 @@ fn may(
 
 // ---- judgements
 
-// To the bus: only send is asked, and no call becomes pending (rule 7.5).
+// To the bus: only send is asked, and shown (rule 7.12), and no call becomes pending (rule 7.5).
 fn to_bus(image: &[u8], memory: &[u8], i: usize, head: &[u8], header: Header) -> Judgement
     requires { ⌜ (Asked (now image) (now head) header) × (Seated (now memory) i) ⌝ }
     ensures { λ r. ⌜ ToBus (now (image .entry)) (now (memory .entry)) i (now (head .entry)) header r ⌝ }
 {
     let cell = policy::bus_cell();
-    if !ask_peer(image, policy::SEND, memory, i, &cell, head, header) {
-        return refused(22);
+    let sends = ask_peer(image, policy::SEND, memory, i, &cell, head, header);
+    let rule = sends.rule;
+    if !sends.allow {
+        return judged_by(rule, refused(22));
     }
     Judgement {
         answer: 0,
         receiver: Receiver::Bus,
+        rule: Shown::By(rule),
     }
 }
 
@@ -121,10 +130,12 @@ fn reaches(image: &[u8], memory: &[u8], i: usize, k: usize, head: &[u8], header:
     if slots::number_at(memory, k) == 0 {
         return false;
     }
-    if !may(image, policy::SEND, memory, i, k, head, header) {
+    let sends = may(image, policy::SEND, memory, i, k, head, header);
+    if !sends.allow {
         return false;
     }
-    may(image, policy::RECEIVE, memory, k, i, head, header)
+    let receives = may(image, policy::RECEIVE, memory, k, i, head, header);
+    receives.allow
 }
 
 // The mask with one slot more below its slots.
@@ -149,6 +160,7 @@ fn to_all(image: &[u8], memory: &[u8], i: usize, head: &[u8], header: Header) ->
     Judgement {
         answer: 0,
         receiver: Receiver::Slots(mask, u16::count_ones(mask)),
+        rule: Shown::Nothing,
     }
 }
 
@@ -166,24 +178,11 @@ fn deliver(memory: &mut [u8], i: usize, j: usize, header: Header) -> Judgement
     Judgement {
         answer: 0,
         receiver: Receiver::Peer(receiver),
+        rule: Shown::Nothing,
     }
 }
 
-// What policy answers to a call or a signal of slot i to the peer of slot j: 22, 23, or 0 (rule 7.7).
-fn answer_to(image: &[u8], memory: &[u8], i: usize, j: usize, head: &[u8], header: Header) -> u8
-    requires { ⌜ (Asked (now image) (now head) header) × (Seated (now memory) i) × (Seated (now memory) j) ⌝ }
-    ensures { λ r. ⌜ PolicyAnswer (now (image .entry)) (now (memory .entry)) i j (now (head .entry)) header r ⌝ }
-{
-    if !may(image, policy::SEND, memory, i, j, head, header) {
-        return 22;
-    }
-    if !may(image, policy::RECEIVE, memory, j, i, head, header) {
-        return 23;
-    }
-    0
-}
-
-// A call or a signal of slot i to the peer of slot j.
+// A call or a signal of slot i to the peer of slot j: send is asked before receive, 22 and 23 (rule 7.7), and whoever was asked last is shown (rule 7.12).
 fn to_peer(
     image: &[u8],
     memory: &mut [u8],
@@ -195,11 +194,17 @@ fn to_peer(
     requires { ⌜ (Asked (now image) (now head) header) × (Seated (now memory) i) × (Seated (now memory) j) ⌝ }
     ensures { λ r. ⌜ ToPeer (now (image .entry)) (now (memory .entry)) i j (now (head .entry)) header r (now (memory .exit)) ⌝ }
 {
-    let answer = answer_to(image, memory, i, j, head, header);
-    if answer != 0 {
-        return refused(answer);
+    let sends = may(image, policy::SEND, memory, i, j, head, header);
+    let sender = sends.rule;
+    if !sends.allow {
+        return judged_by(sender, refused(22));
     }
-    deliver(memory, i, j, header)
+    let receives = may(image, policy::RECEIVE, memory, j, i, head, header);
+    let receiver = receives.rule;
+    if !receives.allow {
+        return judged_by(receiver, refused(23));
+    }
+    judged_by(receiver, deliver(memory, i, j, header))
 }
 
 // ---- replies

@@ -28,9 +28,9 @@ use Rattle.policy.proofs.Cells.{cell-name}
 
 -- ---- parts of slices, as the code cuts them
 
-pub cell-same : (names name : List ℕ) (j n : ℕ) → n ≡ getD names (nameWidth * j) 0 → {r : Bool}
-    → r ≡ same (take (nameWidth * j + 1 + n - (nameWidth * j + 1)) (drop (nameWidth * j + 1) names)) name → r ≡ same (nameOf (drop (nameWidth * j) names)) name
-cell-same names name j n e h = rw (← cell-name names (nameWidth * j) n e) h
+pub cell-same : (cells name : List ℕ) (n : ℕ) → n ≡ getD cells 0 0 → {r : Bool} → r ≡ same (take (1 + n - 1) (drop 1 cells)) name
+    → r ≡ same (nameOf cells) name
+cell-same cells name n e h = rw (← cell-name cells n e) h
 
 pub ruleset cuts = (cell-same, cut-at, needs)
 

@@ -1,2 +1,3 @@
 mod Subjects
 pub mod Fits
+mod Names

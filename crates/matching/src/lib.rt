@@ -19,12 +19,12 @@ ghost use mathlib.Core.Path.{_≡_};
 ghost use Prim.Native.Nat.{_+_, _*_, _≤_, _<_};
 ghost use lib.ListN.{length, drop};
 ghost use Rattle.wire.specs.Bytes.{same};
-ghost use Rattle.image.specs.Image.{ruleSize};
+ghost use Rattle.image.specs.Image.{nameSpan, ruleSize};
 ghost use Rattle.image.specs.Rules.{spanAt, textOf, ruleFrom};
 ghost use Rattle.image.specs.declared.Section.the-variants.{Connect};
-ghost use Rattle.policy.specs.Names.{nameWidth, nameOf};
+ghost use Rattle.policy.specs.Names.{nameWidth, nameOf, namesIn};
 ghost use Rattle.policy.specs.Subjects.{sameUser, inGroups, subjectFits};
-ghost use Rattle.policy.specs.Matching.{connectFits, ownedFits, ownFits, partFits, fieldOf, messageOf, interfaceFits, partsFit, transactionFits};
+ghost use Rattle.policy.specs.Matching.{connectFits, ownedFits, ownFits, partFits, fieldOf, messageOf, interfaceFits, partsFit, nameFits, transactionFits};
 ghost use Rattle.matching.specs.Contracts.{Cited, OwnAt, PartAsked, InterfaceAsked, RuleAsked};
 
 // ---- subjects
@@ -64,15 +64,13 @@ fn subject_fits(context: u8, subject: u32, uid: Uid, gids: &[u32]) -> bool
 
 // ---- names
 
-// The name in cell j is the given one.
-pub fn cell_holds(names: &[u8], j: usize, name: &[u8]) -> bool
-    requires { ⌜ nameWidth * j + nameWidth ≤ length (now names) ⌝ }
-    ensures { λ r. ⌜ r ≡ same (nameOf (drop (nameWidth * j) (now (names .entry)))) (now (name .entry)) ⌝ }
+// The name of the cell in front is the given one.
+fn cell_holds(cells: &[u8], name: &[u8]) -> bool
+    requires { ⌜ nameWidth ≤ length (now cells) ⌝ }
+    ensures { λ r. ⌜ r ≡ same (nameOf (now (cells .entry))) (now (name .entry)) ⌝ }
 {
-    let at = NAME_WIDTH * j;
-    let from = at + 1;
-    let to = from + wire::wide(names[at]) as usize;
-    wire::equal(&names[from..to], name)
+    let to = 1 + wire::wide(cells[0]) as usize;
+    wire::equal(&cells[1..to], name)
 }
 
 // ---- rules
@@ -191,4 +189,23 @@ pub fn rule_fits(
         return false;
     }
     parts_fit(image, at, head, header)
+}
+
+// The name of the rule at `at` is any, or one of the names in the cells: each is compared, whichever was addressed (rule 6.6).
+pub fn name_fits(image: &[u8], at: usize, names: &[u8]) -> bool
+    requires { ⌜ Cited (now image) (at + nameSpan) ⌝ }
+    ensures { λ r. ⌜ r ≡ nameFits (now (image .entry)) (ruleFrom (now (image .entry)) at) (namesIn (now (names .entry))) ⌝ }
+{
+    let name = text(image, at + NAME_SPAN);
+    if name.len() == 0 {
+        return true;
+    }
+    let mut cells = names;
+    while NAME_WIDTH <= cells.len() {
+        if cell_holds(cells, name) {
+            return true;
+        }
+        cells = &cells[NAME_WIDTH..];
+    }
+    false
 }

@@ -12,7 +12,7 @@ abbrev pub memoryTable : List (ℕ × ℕ)
 memoryTable =
     (startOn [] .result, 51)
     ∷ (connectOn [] [] 0 [] .result .answer, 50)
-    ∷ (ownOn [] [] 1 [] .result, 50)
+    ∷ (ownOn [] [] 1 [] .result .answer, 50)
     ∷ (releaseOn [] 1 [] .result, 51)
     ∷ (pieceOn [] [] 1 [] .result .judgement .answer, 50)
     ∷ (disconnectOn [] 1 .result .answer, 51)

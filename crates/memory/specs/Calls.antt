@@ -7,8 +7,9 @@ use lib.Dec.{eqb}
 use lib.ListN.{length}
 use Rattle.image.specs.Good.{imageAnswer}
 use Rattle.stream.specs.Tail.{Tail, tails}
-use Rattle.rules.specs.Calls.{Step, empty, connect, own, release, piece, disconnect, noConnect, noPiece, noGone}
+use Rattle.rules.specs.Calls.{Step, empty, connect, own, release, piece, disconnect, noConnect, noOwn, noPiece, noGone}
 use Rattle.rules.specs.declared.Connected.{Connected}
+use Rattle.rules.specs.declared.Owned.{Owned}
 use Rattle.rules.specs.declared.Taken.{Taken}
 use Rattle.rules.specs.declared.Gone.{Gone}
 use Rattle.memory.specs.Layout.{memoryLength}
@@ -44,8 +45,8 @@ unfoldable pub connectOn : List ℕ → List ℕ → ℕ → List ℕ → Memory
 connectOn image m uid gids = onImage noConnect image m (connect tails image (stateOf m) uid gids)
 
 -- own, under an image (rule 8.4)
-unfoldable pub ownOn : List ℕ → List ℕ → ℕ → List ℕ → MemoryStep ℕ
-ownOn image m n name = onImage (λ a. a) image m (own image (stateOf m) n name)
+unfoldable pub ownOn : List ℕ → List ℕ → ℕ → List ℕ → MemoryStep Owned
+ownOn image m n name = onImage noOwn image m (own image (stateOf m) n name)
 
 -- release, which takes no image (rule 8.5)
 unfoldable pub releaseOn : List ℕ → ℕ → List ℕ → MemoryStep ℕ

@@ -32,7 +32,8 @@ fn is_connect_refused(memory: &mut [u8]) -> bool {
 }
 
 fn is_own_refused(memory: &mut [u8]) -> bool {
-    guard::own(&ALLOW, memory, 1, b"x.y") == 51
+    let o = guard::own(&ALLOW, memory, 1, b"x.y");
+    o.answer == 51
 }
 
 fn is_release_refused(memory: &mut [u8]) -> bool {

@@ -15,12 +15,17 @@ use Rattle.wire.specs.declared.Order.the-variants.{Little}
 use Rattle.wire.proofs.Words.{Octets, octets-below, put-at}
 use Rattle.wire.proofs.Parts.{drop-taken, pad-fits, take-zeros}
 use Rattle.tables.proofs.Written.{put-sized, table-unused}
+use Rattle.image.specs.declared.Section.the-variants.{Own}
 use Rattle.policy.specs.Names.{nameLimit, cellOf, owns, nameWidth}
-use Rattle.policy.specs.Decisions.{mayOwn}
+use Rattle.policy.specs.Decisions.{ownDecision}
 use Rattle.policy.specs.declared.Uid.{Uid}
+use Rattle.policy.specs.declared.Decision.{Decision}
+use Rattle.decide.specs.Rulings.{decisionOf}
 use Rattle.rules.specs.State.{isPeer}
 use Rattle.rules.specs.Addresses.{ownable}
-use Rattle.rules.specs.Calls.{isOwner, own}
+use Rattle.rules.specs.Calls.{isOwner, noOwn, own}
+use Rattle.rules.specs.declared.Owned.{Owned}
+use Rattle.rules.specs.declared.Shown.the-variants.{By}
 use Rattle.memory.specs.Layout.{slotStart, namesAt, firstName, nameRoom, namesLength, uidAt}
 use Rattle.memory.specs.Encoding.{stateOf}
 use Rattle.memory.specs.Sound.{Held}
@@ -34,22 +39,23 @@ use Rattle.memory.proofs.Puts.{names-stand, name-appended}
 use Rattle.slots.specs.Slots.{peerAt, Seated, GidsOf}
 use Rattle.slots.specs.declared.Gids.{Gids}
 use Rattle.owners.specs.Writes.{nameBytes, Naming}
-use Rattle.owners.specs.Steps.{granted, claimed}
+use Rattle.owners.specs.Steps.{granted, claimed, obtained}
 use Rattle.slots.proofs.Found.{did-stay, peer-none, peer-place, peer-some, peer-seated, counted}
 use Rattle.slots.proofs.Zeros.{zero-rest}
 
 -- ---- what the policy is asked
 
-pub may-own-front : (image : List ℕ) (uid : Uid) (gids : List ℕ) (count : ℕ) (name : List ℕ) (r : Bool)
-    → r ≡ mayOwn image uid (take (count - 0) gids) name → r ≡ mayOwn image uid (take count gids) name
-may-own-front image uid gids count name r e = e ∙ rw (sub-zero count)
+pub own-front : (image : List ℕ) (uid : Uid) (gids : List ℕ) (count : ℕ) (name : List ℕ) (n : ℕ)
+    → decisionOf Own n ≡ ownDecision image uid (take (count - 0) gids) name
+    → (r : Decision) → r ≡ decisionOf Own n → r ≡ ownDecision image uid (take count gids) name
+own-front image uid gids count name n e r q = q ∙ e ∙ rw (sub-zero count)
 
-pub may-own-is : (image m name : List ℕ) (i u : ℕ) (g : Gids) (r : Bool) → GidsOf m i g → u ≡ wordAt Little m (slotStart i + uidAt)
-    → r ≡ mayOwn image (record { 0 = u }) (take (g .count) (g .list)) name
-    → r ≡ mayOwn image (record { 0 = peerAt m i .uid }) (peerAt m i .gids) name
-may-own-is image m name i u g r h e q = q ∙ rw (h .are, e)
+pub own-is : (image m name : List ℕ) (i u : ℕ) (g : Gids) (r : Decision) → GidsOf m i g → u ≡ wordAt Little m (slotStart i + uidAt)
+    → r ≡ ownDecision image (record { 0 = u }) (take (g .count) (g .list)) name
+    → r ≡ ownDecision image (record { 0 = peerAt m i .uid }) (peerAt m i .gids) name
+own-is image m name i u g r h e q = q ∙ rw (h .are, e)
 
-pub ruleset asking = (may-own-front, may-own-is, needs)
+pub ruleset asking = (own-front, own-is, needs)
 
 -- ---- a name behind its length
 
@@ -134,39 +140,46 @@ module _ (m : List ℕ) (f : Octets m) (i : ℕ) (g : Seated m i) (name : List �
 
 pub ruleset claiming = (claim-granted, claim-other, needs)
 
--- ---- 30, 31, 32, and 0 for a name that the peer has
+-- ---- 0 for a name that the peer has: h says whether it does
+
+module _ (m : List ℕ) (f : Octets m) (i : ℕ) (g : Seated m i) (name : List ℕ) (h : Bool) (e : h ≡ owns (peerAt m i .names) name) where
+  pub obtain-mine : h ≡ true → Did (stored (obtained m i name)) 0 m
+  unfolding obtained
+  obtain-mine s = did-stay m f (g .held) 0 (obtained m i name) (rw (← e, s))
+
+  pub obtain-claimed : h ≡ false → (r : ℕ) (m₁ : List ℕ) → Did (stored (claimed m i name)) r m₁ → Did (stored (obtained m i name)) r m₁
+  unfolding obtained claimed
+  obtain-claimed s r m₁ x = rw (← e, s) x
+
+pub ruleset obtaining = (obtain-mine, obtain-claimed, needs)
+
+-- ---- 30, 31, 32, and who decided
 
 pub own-short : (name : List ℕ) (b : Bool) → b ≡ ownable name → not b ≡ false → length name ≤ nameLimit
 own-short name b e t = ownable-short name (sym e ∙ not-false b t)
 
 module _ (image m : List ℕ) (f : Octets m) (g : Held m) (n i : ℕ) (e : FoundSlot (isPeer n) m 0 i) (name : List ℕ) where
-  pub own-none : i ≡ 16 → Did (stored (own image (stateOf m) n name)) 30 m
+  pub own-none : i ≡ 16 → (r : Owned) → r ≡ noOwn 30 → Did (stored (own image (stateOf m) n name)) r m
   unfolding own
-  own-none q = did-stay m f g 30 (own image (stateOf m) n name) (rw (peer-none n m i e q))
+  own-none q r k = did-stay m f g r (own image (stateOf m) n name) (rw (peer-none n m i e q, k))
 
   module _ (q : i ≡ 16 → ⊥) (b : Bool) (eb : b ≡ ownable name) where
-    pub own-bad : not b ≡ true → Did (stored (own image (stateOf m) n name)) 31 m
+    pub own-bad : not b ≡ true → (r : Owned) → r ≡ noOwn 31 → Did (stored (own image (stateOf m) n name)) r m
     unfolding own
-    own-bad t =
-        did-stay m f g 31 (own image (stateOf m) n name) (rw (peer-place n m i e q, peer-some n m i e q, ← eb, not-true b t))
+    own-bad t r k =
+        did-stay m f g r (own image (stateOf m) n name) (rw (peer-place n m i e q, peer-some n m i e q, ← eb, not-true b t, k))
 
-    module _ (t : not b ≡ false) (d : Bool) (ed : d ≡ mayOwn image (record { 0 = peerAt m i .uid }) (peerAt m i .gids) name) where
-      pub own-denied : not d ≡ true → Did (stored (own image (stateOf m) n name)) 32 m
+    module _ (t : not b ≡ false) (d : Decision) (ed : d ≡ ownDecision image (record { 0 = peerAt m i .uid }) (peerAt m i .gids) name) where
+      pub own-denied : d .allow ≡ false → Did (stored (own image (stateOf m) n name)) (record { answer = 32; rule = By (d .rule) }) m
       unfolding own
       own-denied s =
-          did-stay m f g 32 (own image (stateOf m) n name)
-          (rw (peer-place n m i e q, peer-some n m i e q, ← eb, not-false b t, ← ed, not-true d s))
+          did-stay m f g (record { answer = 32; rule = By (d .rule) }) (own image (stateOf m) n name)
+          (rw (peer-place n m i e q, peer-some n m i e q, ← eb, not-false b t, ← ed, s))
 
-      module _ (k : not d ≡ false) (h : Bool) (eh : h ≡ owns (peerAt m i .names) name) where
-        pub own-mine : h ≡ true → Did (stored (own image (stateOf m) n name)) 0 m
-        unfolding own
-        own-mine s =
-            did-stay m f g 0 (own image (stateOf m) n name)
-            (rw (peer-place n m i e q, peer-some n m i e q, ← eb, not-false b t, ← ed, not-false d k, ← eh, s))
+      pub own-obtained : d .allow ≡ true → (r : ℕ) (m₁ : List ℕ) → Did (stored (obtained m i name)) r m₁
+          → Did (stored (own image (stateOf m) n name)) (record { answer = r; rule = By (d .rule) }) m₁
+      unfolding own obtained
+      own-obtained s r m₁ x =
+          rw (peer-place n m i e q, peer-some n m i e q, ← eb, not-false b t, ← ed, s) (record { result = rw (x .result); memory = x .memory })
 
-        pub own-claimed : h ≡ false → (r : ℕ) (m₁ : List ℕ) → Did (stored (claimed m i name)) r m₁
-            → Did (stored (own image (stateOf m) n name)) r m₁
-        unfolding own claimed
-        own-claimed s r m₁ x = rw (peer-place n m i e q, peer-some n m i e q, ← eb, not-false b t, ← ed, not-false d k, ← eh, s) x
-
-pub ruleset owning = (own-none, own-bad, own-denied, own-mine, own-claimed, own-short, peer-seated, needs)
+pub ruleset owning = (own-none, own-bad, own-denied, own-obtained, own-short, peer-seated, needs)

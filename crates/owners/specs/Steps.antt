@@ -21,6 +21,10 @@ granted m i name =
 unfoldable pub claimed : List ℕ → ℕ → List ℕ → Step Tail ℕ
 claimed m i name = ownNew (stateOf m) i (peerAt m i) name
 
+-- own's last three tests, and its change
+unfoldable pub obtained : List ℕ → ℕ → List ℕ → Step Tail ℕ
+obtained m i name = cond (owns (peerAt m i .names) name) (stays (stateOf m) 0) (ownNew (stateOf m) i (peerAt m i) name)
+
 -- release's last test, and its change
 unfoldable pub givenUp : List ℕ → ℕ → List ℕ → Step Tail ℕ
 givenUp m i name =

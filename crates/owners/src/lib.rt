@@ -1,4 +1,5 @@
 // The calls about names, on a good image and good memory: own, release.
+use image::Section;
 use memory::FIRST_NAME;
 use memory::GID_ROOM;
 use memory::NAME_WIDTH;
@@ -7,13 +8,17 @@ use memory::NAMES_LENGTH;
 use memory::SLOT_LENGTH;
 use memory::SLOTS_AT;
 use memory::UID_AT;
+use policy::Decision;
 use policy::Uid;
+use rules::Owned;
+use rules::Shown;
+use rules::no_own;
 ghost use mathlib.Core.Path.{_≡_};
 ghost use mathlib.Core.List.{_++_};
 ghost use Prim.Native.Nat.{_+_, _-_, _*_, _≤_, _<_};
 ghost use lib.ListN.{length, take, drop};
 ghost use Rattle.image.specs.Contracts.{GoodImage};
-ghost use Rattle.policy.specs.Decisions.{mayOwn};
+ghost use Rattle.policy.specs.Decisions.{ownDecision};
 ghost use Rattle.policy.specs.Names.{nameLimit};
 ghost use Rattle.rules.specs.Calls.{own, release};
 ghost use Rattle.memory.specs.Layout.{memoryLength, gidRoom};
@@ -22,29 +27,31 @@ ghost use Rattle.memory.specs.Sound.{Held};
 ghost use Rattle.memory.specs.Calls.{stored, Did};
 ghost use Rattle.slots.specs.Slots.{peerAt, Seated};
 ghost use Rattle.owners.specs.Writes.{nameBytes, Naming};
-ghost use Rattle.owners.specs.Steps.{granted, claimed, givenUp};
+ghost use Rattle.owners.specs.Steps.{granted, claimed, obtained, givenUp};
 
 // ---- own
 
-// The policy lets a peer of this uid and the first `count` of these gids own the name.
-fn may_own_as(image: &[u8], uid: Uid, gids: [u32; GID_ROOM], count: usize, name: &[u8]) -> bool
+// What policy decides about the name, for a peer of this uid and the first `count` of these gids.
+fn decide_as(image: &[u8], uid: Uid, gids: [u32; GID_ROOM], count: usize, name: &[u8]) -> Decision
     requires { ⌜ (GoodImage (now image)) × (count ≤ gidRoom) ⌝ }
-    ensures { λ r. ⌜ r ≡ mayOwn (now (image .entry)) uid (take count gids) (now (name .entry)) ⌝ }
+    ensures { λ r. ⌜ r ≡ ownDecision (now (image .entry)) uid (take count gids) (now (name .entry)) ⌝ }
 {
-    decide::may_own(image, uid, &gids[0..count], name)
+    let ruling = decide::own(image, uid, &gids[0..count], name);
+    decide::decision_of(Section::Own, ruling)
 }
 
-// The policy lets the peer of slot i own the name.
-fn may_own_at(image: &[u8], memory: &[u8], i: usize, name: &[u8]) -> bool
+// What policy decides about the name, for the peer of slot i.
+fn decide_at(image: &[u8], memory: &[u8], i: usize, name: &[u8]) -> Decision
     requires { ⌜ (GoodImage (now image)) × (length (now memory) ≡ memoryLength) × (i < 16) ⌝ }
     ensures { λ r.
-        ⌜ r ≡ mayOwn (now (image .entry)) (record { 0 = peerAt (now (memory .entry)) i .uid }) (peerAt (now (memory .entry)) i .gids) (now (name .entry)) ⌝ }
+        ⌜ r ≡ ownDecision (now (image .entry)) (record { 0 = peerAt (now (memory .entry)) i .uid }) (peerAt (now (memory .entry)) i .gids)
+        (now (name .entry)) ⌝ }
 {
     let uid = Uid(slots::word_at(memory, i, UID_AT));
     let gids = slots::gids_at(memory, i);
     let list = gids.list;
     let count = gids.count;
-    may_own_as(image, uid, list, count, name)
+    decide_as(image, uid, list, count, name)
 }
 
 // Writes a name behind its length at `at`.
@@ -89,25 +96,40 @@ fn claim(memory: &mut [u8], i: usize, name: &[u8]) -> u8
     33
 }
 
-// Gives a peer a name: 30, 31, 32, 0 where it has it, 33, 34 (rule 8.4).
-pub fn own(image: &[u8], memory: &mut [u8], peer: u32, name: &[u8]) -> u8
+// Gives a name that policy allows to the peer of slot i: 0 where it has it, 33, 34.
+fn obtain(memory: &mut [u8], i: usize, name: &[u8]) -> u8
+    requires { ⌜ (Seated (now memory) i) × (length (now name) ≤ nameLimit) ⌝ }
+    ensures { λ r. ⌜ Did (stored (obtained (now (memory .entry)) i (now (name .entry)))) r (now (memory .exit)) ⌝ }
+{
+    if slots::owns_name(memory, i, name, 0) {
+        return 0;
+    }
+    claim(memory, i, name)
+}
+
+// Gives a peer a name: 30, 31, 32, 0 where it has it, 33, 34 (rule 8.4). All but 30 and 31 show who decided (rule 8.10).
+pub fn own(image: &[u8], memory: &mut [u8], peer: u32, name: &[u8]) -> Owned
     requires { ⌜ (GoodImage (now image)) × (Held (now memory)) ⌝ }
     ensures { λ r. ⌜ Did (stored (own (now (image .entry)) (stateOf (now (memory .entry))) peer (now (name .entry)))) r (now (memory .exit)) ⌝ }
 {
     let i = slots::find(memory, peer, 0);
     if i == 16 {
-        return 30;
+        return no_own(30);
     }
     if !rules::is_ownable(name) {
-        return 31;
+        return no_own(31);
     }
-    if !may_own_at(image, memory, i, name) {
-        return 32;
+    let decision = decide_at(image, memory, i, name);
+    let rule = decision.rule;
+    let answer = if decision.allow {
+        obtain(memory, i, name)
+    } else {
+        32
+    };
+    Owned {
+        answer,
+        rule: Shown::By(rule),
     }
-    if slots::owns_name(memory, i, name, 0) {
-        return 0;
-    }
-    claim(memory, i, name)
 }
 
 // ---- release

@@ -1,6 +1,6 @@
 -- Each way through connect.
 use mathlib.Core.Path.{_≡_, refl, sym, ap, _∙_}
-use mathlib.Core.Bool.{Bool, true, false, not}
+use mathlib.Core.Bool.{true, false, not}
 use mathlib.Core.List.{List, _++_, append-assoc}
 use Prim.Native.Nat.{ℕ, _+_, _-_, _*_, _≤_, _<_}
 use native.Mathlib.Omega.{arith}
@@ -9,10 +9,13 @@ use borrow.Author.Needs.{needs}
 use borrow.Author.Tests.{lt-ltb, le-ltb, not-true, not-false}
 use Rattle.wire.proofs.Words.{Octets, octets-below}
 use Rattle.wire.specs.Words.{wordBytes}
-use Rattle.policy.specs.Decisions.{mayConnect}
+use Rattle.image.specs.declared.Section.the-variants.{Connect}
+use Rattle.policy.specs.Decisions.{connectDecision}
+use Rattle.policy.specs.declared.Decision.{Decision}
+use Rattle.decide.specs.Rulings.{decisionOf}
 use Rattle.stream.specs.Tail.{tails}
 use Rattle.rules.specs.State.{peer, isFree}
-use Rattle.rules.specs.Calls.{newcomer, connect, noConnect}
+use Rattle.rules.specs.Calls.{newcomer, connect, noConnect, connectedBy}
 use Rattle.memory.specs.Layout.{slotLength, slotStart, firstGid, gidWidth, gidRoom, slotsAt}
 use Rattle.memory.specs.Encoding.{slotBytes, stateOf}
 use Rattle.memory.specs.Sound.{Held}
@@ -24,6 +27,7 @@ use Rattle.memory.proofs.Frame.{free-bytes}
 use Rattle.memory.proofs.Newcomer.{newcomer-spread}
 use Rattle.memory.proofs.Good.{seated}
 use Rattle.rules.specs.declared.Connected.{Connected}
+use Rattle.rules.specs.declared.Shown.the-variants.{Nothing}
 use Rattle.peers.specs.Writes.{newBytes}
 use Rattle.peers.specs.Steps.{Free, admitted, entered}
 use Rattle.slots.proofs.Zeros.{zero-rest}
@@ -78,7 +82,7 @@ module _ (m : List ℕ) (f : Octets m) (g : Held m) (i : ℕ) (e : FoundSlot isF
         (rw (found-first isFree m i e, sixteen m, lt-ltb i 16 within, le-ltb (stateOf m .last) 4294967295 (omega arith), d))
 
     pub enter-seated : (l ≡ 4294967295 → ⊥) → l < 4294967296 → (m₁ : List ℕ) → m₁ ≡ admitted m i (l + 1) uid gids
-        → Did (stored (entered m uid gids)) (record { answer = 0; number = l + 1; slot = i }) m₁
+        → Did (stored (entered m uid gids)) (record { answer = 0; number = l + 1; slot = i; rule = Nothing }) m₁
     unfolding entered admitted
     enter-seated z k m₁ e₁ =
         rw (found-first isFree m i e, sixteen m, lt-ltb i 16 within, lt-ltb (stateOf m .last) 4294967295 (omega arith), ← el)
@@ -93,15 +97,21 @@ module _ (image m : List ℕ) (f : Octets m) (g : Held m) (uid : ℕ) (gids : Li
   unfolding connect
   connect-many h r d = did-stay m f g r (connect tails image (stateOf m) uid gids) (rw (lt-ltb 16 (length gids) h, d))
 
-  module _ (h : length gids ≤ gidRoom) (b : Bool) (e : b ≡ mayConnect image (record { 0 = uid }) gids) where
-    pub connect-denied : not b ≡ true → (r : Connected) → r ≡ noConnect 36 → Did (stored (connect tails image (stateOf m) uid gids)) r m
-    unfolding connect
-    connect-denied t r d =
-        did-stay m f g r (connect tails image (stateOf m) uid gids) (rw (le-ltb 16 (length gids) h, ← e, not-true b t, d))
+  module _ (h : length gids ≤ gidRoom) (n : ℕ) (o : decisionOf Connect n ≡ connectDecision image (record { 0 = uid }) gids) (b : Decision)
+      (q : b ≡ decisionOf Connect n) where
+    e : b ≡ connectDecision image (record { 0 = uid }) gids
+    e = q ∙ o
 
-    pub connect-entered : not b ≡ false → (r : Connected) (m₁ : List ℕ) → Did (stored (entered m uid gids)) r m₁
+    pub connect-denied : not (b .allow) ≡ true → (k r : Connected) → k ≡ noConnect 36 → r ≡ connectedBy (b .rule) k
+        → Did (stored (connect tails image (stateOf m) uid gids)) r m
+    unfolding connect
+    connect-denied t k r d w =
+        did-stay m f g r (connect tails image (stateOf m) uid gids) (rw (le-ltb 16 (length gids) h, ← e, not-true (b .allow) t, w, d))
+
+    pub connect-entered : not (b .allow) ≡ false → (k r : Connected) (m₁ : List ℕ) → Did (stored (entered m uid gids)) k m₁ → r ≡ connectedBy (b .rule) k
         → Did (stored (connect tails image (stateOf m) uid gids)) r m₁
     unfolding connect entered
-    connect-entered t r m₁ d = rw (le-ltb 16 (length gids) h, ← e, not-false b t) d
+    connect-entered t k r m₁ d w =
+        rw (le-ltb 16 (length gids) h, ← e, not-false (b .allow) t) (record { result = w ∙ rw (d .result); memory = d .memory })
 
 pub ruleset connecting = (connect-many, connect-denied, connect-entered, needs)

@@ -1,4 +1,5 @@
 // The calls about peers, on a good image and good memory: connect, disconnect.
+use image::Section;
 use memory::CALL_WIDTH;
 use memory::FIRST_GID;
 use memory::GIDS_AT;
@@ -11,6 +12,8 @@ use memory::UID_AT;
 use policy::Uid;
 use rules::Connected;
 use rules::Gone;
+use rules::Shown;
+use rules::connected_by;
 use rules::no_connect;
 use rules::no_gone;
 use wire::Order;
@@ -74,10 +77,11 @@ fn enter(memory: &mut [u8], uid: u32, gids: &[u32]) -> Connected
         answer: 0,
         number: last + 1,
         slot,
+        rule: Shown::Nothing,
     }
 }
 
-// Connects a peer: 37, 36, 38, 39 (rule 8.3).
+// Connects a peer: 37, 36, 38, 39 (rule 8.3). All but 37 show who decided (rule 8.10).
 pub fn connect(image: &[u8], memory: &mut [u8], uid: u32, gids: &[u32]) -> Connected
     requires { ⌜ (GoodImage (now image)) × (Held (now memory)) ⌝ }
     ensures { λ r. ⌜ Did (stored (connect tails (now (image .entry)) (stateOf (now (memory .entry))) uid (now (gids .entry)))) r (now (memory .exit)) ⌝ }
@@ -85,10 +89,13 @@ pub fn connect(image: &[u8], memory: &mut [u8], uid: u32, gids: &[u32]) -> Conne
     if 16 < gids.len() {
         return no_connect(37);
     }
-    if !decide::may_connect(image, Uid(uid), gids) {
-        return no_connect(36);
+    let ruling = decide::connect(image, Uid(uid), gids);
+    let decision = decide::decision_of(Section::Connect, ruling);
+    let rule = decision.rule;
+    if !decision.allow {
+        return connected_by(rule, no_connect(36));
     }
-    enter(memory, uid, gids)
+    connected_by(rule, enter(memory, uid, gids))
 }
 
 // ---- disconnect

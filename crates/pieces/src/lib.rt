@@ -12,6 +12,7 @@ use memory::STREAM_LENGTH;
 use memory::TAKEN_AT;
 use rules::Judgement;
 use rules::Receiver;
+use rules::Shown;
 use rules::Taken;
 use rules::no_piece;
 use stream::Advance;
@@ -124,6 +125,7 @@ fn piece_at(image: &[u8], memory: &mut [u8], i: usize, bytes: &[u8]) -> Taken
             judgement: Judgement {
                 answer: 10,
                 receiver: Receiver::Nobody,
+                rule: Shown::Nothing,
             },
             taken,
         },
@@ -131,6 +133,7 @@ fn piece_at(image: &[u8], memory: &mut [u8], i: usize, bytes: &[u8]) -> Taken
             judgement: Judgement {
                 answer,
                 receiver: Receiver::Nobody,
+                rule: Shown::Nothing,
             },
             taken,
         },

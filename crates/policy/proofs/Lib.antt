@@ -1,5 +1,6 @@
 pub mod Table
 pub mod Decides
+pub mod Deciders
 pub mod WithoutInterface
 pub mod Precedence
 pub mod Cells

@@ -7,7 +7,7 @@ use mathlib.Core.Option.{none, some}
 use Prim.Native.Nat.{ℕ, _+_, _-_, _*_, _^_, _≤_, _<_}
 use native.Mathlib.Nat.{eq-or-lt-of-le}
 use native.Mathlib.Omega.{arith}
-use Rattle.policy.specs.Precedence.{deciding, ruleVerdict, Beats}
+use Rattle.policy.specs.Precedence.{deciding, Beats}
 use Rattle.policy.proofs.Decides.{deciding-only, deciding-nothing}
 
 abbrev pub rank : ℕ → ℕ → ℕ
@@ -49,8 +49,8 @@ module _ {contextOf : ℕ → ℕ} {matches : ℕ → Bool} {n : ℕ} where
     pub down : i ≡ 0 → (context ≡ 0 → ⊥) → Searching contextOf matches n (context - 1) n
     down z h = record { small = u .small; inside = omega arith; top = omega arith; below = λ j l m. omega (arith, u .below j l m) }
 
-    pub over : (allows : ℕ → Bool) → i ≡ 0 → context ≡ 0 → false ≡ ruleVerdict allows (deciding contextOf matches n)
-    over allows z h = rw (nobody contextOf matches n (λ j l m. omega (arith, u .below j l m)))
+    pub over : i ≡ 0 → context ≡ 0 → deciding contextOf matches n ≡ none
+    over z h = nobody contextOf matches n (λ j l m. omega (arith, u .below j l m))
 
     -- the rule below i is none of this context that matches
     pub pass : (i ≡ 0 → ⊥) → (contextOf (i - 1) ≡ context → matches (i - 1) ≡ true → ⊥) → Searching contextOf matches n context (i - 1)
@@ -66,6 +66,5 @@ module _ {contextOf : ℕ → ℕ} {matches : ℕ → Bool} {n : ℕ} where
             (eq-or-lt-of-le (omega (arith, u .below j l m)))
 
     -- it is one
-    pub found : (allows : ℕ → Bool) → (i ≡ 0 → ⊥) → contextOf (i - 1) ≡ context → matches (i - 1) ≡ true
-        → allows (i - 1) ≡ ruleVerdict allows (deciding contextOf matches n)
-    found allows h e m = rw (decides contextOf matches n (i - 1) (u .small) (omega arith) m (λ j l k. omega (arith, u .below j l k)))
+    pub found : (i ≡ 0 → ⊥) → contextOf (i - 1) ≡ context → matches (i - 1) ≡ true → deciding contextOf matches n ≡ some (i - 1)
+    found h e m = decides contextOf matches n (i - 1) (u .small) (omega arith) m (λ j l k. omega (arith, u .below j l k))

@@ -12,7 +12,7 @@ use Rattle.policy.specs.Precedence.{ruleVerdict, Decides}
 use Rattle.policy.specs.Subjects.{subjectFits}
 use Rattle.policy.specs.Matching.{Message, allows, withoutInterface, partFits, interfaceFits, partsFit, typeFits, nameFits}
 use Rattle.policy.specs.Matching.{transactionFits, transactionMatches}
-use Rattle.policy.specs.Decisions.{contextIn, allowsIn, decidesIn, transactionHits, mayTransact}
+use Rattle.policy.specs.Decisions.{contextIn, allowsIn, decidesIn, transactionHits, transactionDecision, mayTransact}
 use Rattle.policy.specs.declared.Uid.{Uid}
 use Rattle.policy.proofs.Decides.{clash, rule-exactly, rule-undecided}
 
@@ -91,7 +91,7 @@ module _ (image : List ℕ) (direction : ℕ) (uid : Uid) (gids : List ℕ) (nam
 
   -- where the message may pass without an interface, it may with its own
   pub bare-no-wider : mayTransact image direction uid gids names (withoutInterface m) ≡ true → mayTransact image direction uid gids names m ≡ true
-  unfolding mayTransact
+  unfolding transactionDecision
   bare-no-wider h = go (decidesIn Transaction image (Hits none)) refl h
     where
       with-own : (i : ℕ) → Decided none i → allows (rule i) ≡ true → (o : Option ℕ) → decidesIn Transaction image (Hits (m .interface)) ≡ o

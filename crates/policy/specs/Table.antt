@@ -1,12 +1,13 @@
 -- Worked examples of the decisions, as a table: precedence, and each matcher. T8, T9 and T12 stand in the worked table (rule 13.1).
-use mathlib.Core.Bool.{Bool, true, false}
+use mathlib.Core.Bool.{cond}
 use mathlib.Core.List.{List, [], _∷_, _++_}
 use mathlib.Core.Option.{none, some}
 use Prim.Native.Nat.{ℕ}
 use Rattle.wire.specs.Bytes.{bytes}
 use Rattle.image.specs.Table.{imageOf, head, cites}
 use Rattle.policy.specs.Matching.{Message}
-use Rattle.policy.specs.Decisions.{mayConnect, mayOwn, mayTransact, send, receive}
+use Rattle.policy.specs.Decisions.{connectDecision, ownDecision, transactionDecision, deciderWords, send, receive}
+use Rattle.policy.specs.declared.Decision.{Decision}
 
 -- ---- images
 
@@ -58,6 +59,10 @@ transactionRuleBytes context verdict direction type subject name path interface 
 abbrev pub to : ℕ → ℕ → ℕ → List ℕ → List ℕ
 to context verdict subject name = transactionRuleBytes context verdict send 0 subject name citesNone citesNone citesNone
 
+-- anything may be received
+abbrev pub received : List ℕ
+received = transactionRuleBytes 0 1 receive 0 0 citesNone citesNone citesNone citesNone
+
 -- a default send allow of the parts
 abbrev pub of : ℕ → List ℕ → List ℕ → List ℕ → List ℕ
 of type path interface member = transactionRuleBytes 0 1 send type 0 citesNone path interface member
@@ -92,70 +97,86 @@ fieldless = record { kind = 1; path = none; interface = none; member = none }
 abbrev pub gids : List ℕ
 gids = 5 ∷ 6 ∷ []
 
-abbrev pub letsConnect : List ℕ → Bool
-letsConnect rules = mayConnect (imageOfRules rules [] []) (record { 0 = 7 }) gids
+-- what is decided, and the two numbers of who decides
+abbrev pub decisionShown : Decision → List ℕ
+decisionShown d = cond (d .allow) 1 0 ∷ deciderWords (d .rule)
 
-abbrev pub letsOwn : List ℕ → List ℕ → Bool
-letsOwn rules name = mayOwn (imageOfRules [] rules []) (record { 0 = 7 }) gids name
+abbrev pub letsConnect : List ℕ → List ℕ
+letsConnect rules = decisionShown (connectDecision (imageOfRules rules [] []) (record { 0 = 7 }) gids)
 
-abbrev pub passes : List ℕ → ℕ → List (List ℕ) → Message → Bool
-passes rules direction names m = mayTransact (imageOfRules [] [] rules) direction (record { 0 = 7 }) gids names m
+abbrev pub letsOwn : List ℕ → List ℕ → List ℕ
+letsOwn rules name = decisionShown (ownDecision (imageOfRules [] rules []) (record { 0 = 7 }) gids name)
 
--- a decision, and what it is to be
+abbrev pub passes : List ℕ → ℕ → List (List ℕ) → Message → List ℕ
+passes rules direction names m = decisionShown (transactionDecision (imageOfRules [] [] rules) direction (record { 0 = 7 }) gids names m)
+
+-- ---- what they are to be: the rule at a position allows or denies, or none matches
+
+abbrev pub allowedBy : ℕ → List ℕ
+allowedBy i = 1 ∷ 1 ∷ i ∷ []
+
+abbrev pub deniedBy : ℕ → List ℕ
+deniedBy i = 0 ∷ 1 ∷ i ∷ []
+
+abbrev pub noneMatches : List ℕ
+noneMatches = 0 ∷ 2 ∷ 0 ∷ []
+
 abbrev pub DecisionRow : Type 0
-DecisionRow = Bool × Bool
+DecisionRow = List ℕ × List ℕ
 
--- deny where no rule matches; of one context the later rule, and any rule of a higher one; a rule about a name that is not owned
+-- deny where no rule matches; of one context the later rule, and any rule of a higher one; a rule about a name that is not owned; a position is counted in
+-- the whole section, whatever its directions (rule 6.9)
 abbrev pub decisionTable : List DecisionRow
 decisionTable =
-    (passes (to 2 1 7 citesNone ++ to 3 0 0 citesNone) send [] aCall, false)
-    ∷ (passes (to 0 1 0 citesAx ++ to 0 0 0 citesBy) send (bytes "org.a.x" ∷ []) aCall, true)
-    ∷ (letsConnect [], false)
-    ∷ (letsOwn [] (bytes "org.foo"), false)
-    ∷ (passes [] send [] aCall, false)
-    ∷ (letsConnect (connectRuleBytes 0 1 0 0 ++ connectRuleBytes 0 0 0 0), false)
-    ∷ (letsConnect (connectRuleBytes 3 1 0 0 ++ connectRuleBytes 0 0 0 0), true)
+    (passes (to 2 1 7 citesNone ++ to 3 0 0 citesNone) send [] aCall, deniedBy 1)
+    ∷ (passes (to 0 1 0 citesAx ++ to 0 0 0 citesBy) send (bytes "org.a.x" ∷ []) aCall, allowedBy 0)
+    ∷ (letsConnect [], noneMatches)
+    ∷ (letsOwn [] (bytes "org.foo"), noneMatches)
+    ∷ (passes [] send [] aCall, noneMatches)
+    ∷ (letsConnect (connectRuleBytes 0 1 0 0 ++ connectRuleBytes 0 0 0 0), deniedBy 1)
+    ∷ (letsConnect (connectRuleBytes 3 1 0 0 ++ connectRuleBytes 0 0 0 0), allowedBy 0)
+    ∷ (passes (received ++ to 0 1 0 citesNone) send [] aCall, allowedBy 1)
     ∷ []
 
 -- connect: anybody, a uid, a gid; own: a name that is equal, and subjects
 abbrev pub people : List DecisionRow
 people =
-    (letsConnect (connectRuleBytes 0 1 1 7), true)
-    ∷ (letsConnect (connectRuleBytes 0 1 1 5), false)
-    ∷ (letsConnect (connectRuleBytes 0 1 2 6), true)
-    ∷ (letsConnect (connectRuleBytes 0 1 2 7), false)
-    ∷ (letsOwn (ownRuleBytes 0 1 1 0 foo) (bytes "org.foo"), true)
-    ∷ (letsOwn (ownRuleBytes 0 1 1 0 foo) (bytes "org.foo.bar"), false)
-    ∷ (letsOwn (ownRuleBytes 1 1 0 5 citesNone) (bytes "org.foo"), true)
-    ∷ (letsOwn (ownRuleBytes 1 1 0 7 citesNone) (bytes "org.foo"), false)
-    ∷ (letsOwn (ownRuleBytes 2 1 0 7 citesNone) (bytes "org.foo"), true)
-    ∷ (letsOwn (ownRuleBytes 2 1 0 5 citesNone) (bytes "org.foo"), false)
+    (letsConnect (connectRuleBytes 0 1 1 7), allowedBy 0)
+    ∷ (letsConnect (connectRuleBytes 0 1 1 5), noneMatches)
+    ∷ (letsConnect (connectRuleBytes 0 1 2 6), allowedBy 0)
+    ∷ (letsConnect (connectRuleBytes 0 1 2 7), noneMatches)
+    ∷ (letsOwn (ownRuleBytes 0 1 1 0 foo) (bytes "org.foo"), allowedBy 0)
+    ∷ (letsOwn (ownRuleBytes 0 1 1 0 foo) (bytes "org.foo.bar"), noneMatches)
+    ∷ (letsOwn (ownRuleBytes 1 1 0 5 citesNone) (bytes "org.foo"), allowedBy 0)
+    ∷ (letsOwn (ownRuleBytes 1 1 0 7 citesNone) (bytes "org.foo"), noneMatches)
+    ∷ (letsOwn (ownRuleBytes 2 1 0 7 citesNone) (bytes "org.foo"), allowedBy 0)
+    ∷ (letsOwn (ownRuleBytes 2 1 0 5 citesNone) (bytes "org.foo"), noneMatches)
     ∷ []
 
 -- direction, type, path, interface and member; a name that is not owned
 abbrev pub messageRows : List DecisionRow
 messageRows =
-    (passes (to 0 1 0 citesNone) receive [] aCall, false)
-    ∷ (passes (of 4 citesNone citesNone citesNone) send [] aCall, false)
-    ∷ (passes (of 1 citesPath citesInterface citesMember) send [] aCall, true)
-    ∷ (passes (of 1 citesRoot citesNone citesNone) send [] aCall, false)
-    ∷ (passes (of 1 citesNone citesNone citesMember) send [] bare, true)
-    ∷ (passes (to 0 1 0 foo) send [] aCall, false)
+    (passes (to 0 1 0 citesNone) receive [] aCall, noneMatches)
+    ∷ (passes (of 4 citesNone citesNone citesNone) send [] aCall, noneMatches)
+    ∷ (passes (of 1 citesPath citesInterface citesMember) send [] aCall, allowedBy 0)
+    ∷ (passes (of 1 citesRoot citesNone citesNone) send [] aCall, noneMatches)
+    ∷ (passes (of 1 citesNone citesNone citesMember) send [] bare, allowedBy 0)
+    ∷ (passes (to 0 1 0 foo) send [] aCall, noneMatches)
     ∷ []
 
 -- a rule that names an interface, against a call without one (rule 6.8): a deny matches in either direction where its type, path and member fit, and an
 -- allow is skipped; a deny does not match another interface, of a call or of a signal, nor an absent path or member
 abbrev pub bareRows : List DecisionRow
 bareRows =
-    (passes (allBut send 1 citesPath citesInterface citesMember) send [] bare, false)
-    ∷ (passes (allBut receive 0 citesNone citesInterface citesNone) receive [] bare, false)
-    ∷ (passes (allBut send 0 citesNone citesInterface citesF) send [] bare, true)
-    ∷ (passes (allBut send 0 citesRoot citesInterface citesNone) send [] bare, true)
-    ∷ (passes (allBut send 4 citesNone citesInterface citesNone) send [] bare, true)
-    ∷ (passes (of 1 citesNone citesInterface citesNone) send [] bare, false)
-    ∷ (passes (allBut send 0 citesNone foo citesNone) send [] aCall, true)
-    ∷ (passes (allBut send 0 citesNone foo citesNone) send [] aSignal, true)
-    ∷ (passes (allBut send 0 citesNone citesInterface citesNone) send [] aSignal, false)
-    ∷ (passes (allBut send 0 citesPath citesNone citesNone) send [] fieldless, true)
-    ∷ (passes (allBut send 0 citesNone citesNone citesMember) send [] fieldless, true)
+    (passes (allBut send 1 citesPath citesInterface citesMember) send [] bare, deniedBy 1)
+    ∷ (passes (allBut receive 0 citesNone citesInterface citesNone) receive [] bare, deniedBy 1)
+    ∷ (passes (allBut send 0 citesNone citesInterface citesF) send [] bare, allowedBy 0)
+    ∷ (passes (allBut send 0 citesRoot citesInterface citesNone) send [] bare, allowedBy 0)
+    ∷ (passes (allBut send 4 citesNone citesInterface citesNone) send [] bare, allowedBy 0)
+    ∷ (passes (of 1 citesNone citesInterface citesNone) send [] bare, noneMatches)
+    ∷ (passes (allBut send 0 citesNone foo citesNone) send [] aCall, allowedBy 0)
+    ∷ (passes (allBut send 0 citesNone foo citesNone) send [] aSignal, allowedBy 0)
+    ∷ (passes (allBut send 0 citesNone citesInterface citesNone) send [] aSignal, deniedBy 1)
+    ∷ (passes (allBut send 0 citesPath citesNone citesNone) send [] fieldless, allowedBy 0)
+    ∷ (passes (allBut send 0 citesNone citesNone citesMember) send [] fieldless, allowedBy 0)
     ∷ []

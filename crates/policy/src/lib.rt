@@ -1,4 +1,5 @@
 // Policy: what its rules say of who may connect, own a name, send and receive. Crate `decide` searches them.
+use image::Section;
 ghost use mathlib.Core.Path.{_≡_};
 ghost use Rattle.wire.specs.Bytes.{same};
 ghost use Rattle.policy.specs.Names.{cellOf, busName};
@@ -7,6 +8,18 @@ ghost use Rattle.policy.specs.Names.{cellOf, busName};
 pub struct Uid(pub u32);
 
 pub struct Gid(pub u32);
+
+// Who decides: the rule at a position of a section, from 0, or none, since none matches.
+pub enum Decider {
+    Nobody,
+    Rule(Section, u32),
+}
+
+// What is decided, and by which rule.
+pub struct Decision {
+    pub allow: bool,
+    pub rule: Decider,
+}
 
 // A cell holds a name behind its length byte.
 pub const NAME_WIDTH: usize = 1 + names::NAME_LIMIT;

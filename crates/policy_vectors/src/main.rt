@@ -1,7 +1,11 @@
 // Decisions over generated images: every context, matcher and direction, strings that overlap, four owned names. Each message is asked about as it is
-// and as a call without an interface. An independent program wrote `stdout` from the same choices.
+// and as a call without an interface. A letter is the position of the rule that decides, a capital where it allows, and a point says that no rule matches. An
+// independent program wrote `stdout` from the same choices.
 use header::Header;
 use header::Place;
+use image::Section;
+use policy::Decider;
+use policy::Decision;
 use policy::Uid;
 ghost use Prim.Native.Nat.{_+_, _≤_, _<_};
 ghost use Rattle.image.specs.Contracts.{GoodImage};
@@ -204,8 +208,21 @@ fn place(which: usize, from: usize, len: usize, other: usize, size: usize) -> Pl
     }
 }
 
-fn bit(b: bool) -> usize {
-    if b { 49 } else { 48 }
+// The letter of a decision.
+fn letter(d: Decision) -> usize {
+    let rule = d.rule;
+    let allow = d.allow;
+    match rule {
+        Decider::Nobody => 46,
+        Decider::Rule(_, position) => {
+            let p = (position % 26) as usize;
+            if allow { 65 + p } else { 97 + p }
+        }
+    }
+}
+
+fn letter_of(section: Section, ruling: usize) -> usize {
+    letter(decide::decision_of(section, ruling))
 }
 
 fn ask_connect(image: &[u8], out: &mut [u8])
@@ -217,7 +234,7 @@ fn ask_connect(image: &[u8], out: &mut [u8])
         byte(
             out,
             (uid - 5) as usize,
-            bit(decide::may_connect(image, Uid(uid), &gids)),
+            letter_of(Section::Connect, decide::connect(image, Uid(uid), &gids)),
         );
         uid += 1;
     }
@@ -233,7 +250,7 @@ fn ask_own(image: &[u8], name: &[u8], at: usize, out: &mut [u8])
         byte(
             out,
             at + (uid - 5) as usize,
-            bit(decide::may_own(image, Uid(uid), &gids, name)),
+            letter_of(Section::Own, decide::own(image, Uid(uid), &gids, name)),
         );
         uid += 1;
     }
@@ -278,7 +295,7 @@ fn message(seed: usize, at: usize, is_bare: bool) -> Header
     }
 }
 
-fn may_pass(
+fn decide_pass(
     image: &[u8],
     seed: usize,
     at: usize,
@@ -286,16 +303,16 @@ fn may_pass(
     direction: u8,
     names: &[u8],
     head: &[u8; 30],
-) -> bool
+) -> usize
     requires { ⌜ (at < 4096) × GoodImage (now image) ⌝ }
 {
     let uid = (5 + choose(seed, at + 4) % 3) as u32;
     let gids = [(5 + choose(seed, at + 5) % 3) as u32, 8];
     let header = message(seed, at, is_bare);
-    decide::may_transact(image, direction, Uid(uid), &gids, names, head, header)
+    decide::transact(image, direction, Uid(uid), &gids, names, head, header)
 }
 
-// One message in both directions: a digit for send, and twelve further on one for receive.
+// One message in both directions: a letter for send, and twelve further on one for receive.
 fn ask_both(
     image: &[u8],
     seed: usize,
@@ -308,10 +325,10 @@ fn ask_both(
 )
     requires { ⌜ (at < 4096) × (to < 64) × GoodImage (now image) ⌝ }
 {
-    let sends = may_pass(image, seed, at, is_bare, policy::SEND, names, head);
-    byte(out, to, bit(sends));
-    let receives = may_pass(image, seed, at, is_bare, policy::RECEIVE, names, head);
-    byte(out, to + 12, bit(receives));
+    let sends = decide_pass(image, seed, at, is_bare, policy::SEND, names, head);
+    byte(out, to, letter_of(Section::Transaction, sends));
+    let receives = decide_pass(image, seed, at, is_bare, policy::RECEIVE, names, head);
+    byte(out, to + 12, letter_of(Section::Transaction, receives));
 }
 
 fn ask_pass(image: &[u8], seed: usize, names: &[u8], head: &[u8; 30], out: &mut [u8])

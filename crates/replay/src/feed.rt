@@ -2,6 +2,7 @@
 use crate::ledger::LEDGER_LENGTH;
 use crate::reader::Reader;
 use rules::Receiver;
+use rules::Shown;
 
 // What one part came to: how many bytes were offered, and how many were taken.
 struct Part {
@@ -10,6 +11,7 @@ struct Part {
     taken: usize,
     answer: u8,
     receiver: Receiver,
+    rule: Shown,
 }
 
 pub struct Feeding {
@@ -17,33 +19,34 @@ pub struct Feeding {
     pub taken: u64,
     pub answer: u8,
     pub receiver: Receiver,
+    pub rule: Shown,
 }
 
 // A receiver in numbers: 0 nobody, 1 the bus, 2 a peer, 3 a mask of slots.
-pub struct Shown {
+pub struct Received {
     pub kind: u64,
     pub value: u64,
     pub count: u64,
 }
 
-pub fn show(receiver: Receiver) -> Shown {
+pub fn show(receiver: Receiver) -> Received {
     match receiver {
-        Receiver::Nobody => Shown {
+        Receiver::Nobody => Received {
             kind: 0,
             value: 0,
             count: 0,
         },
-        Receiver::Bus => Shown {
+        Receiver::Bus => Received {
             kind: 1,
             value: 0,
             count: 0,
         },
-        Receiver::Peer(number) => Shown {
+        Receiver::Peer(number) => Received {
             kind: 2,
             value: number as u64,
             count: 0,
         },
-        Receiver::Slots(mask, count) => Shown {
+        Receiver::Slots(mask, count) => Received {
             kind: 3,
             value: mask as u64,
             count: count as u64,
@@ -67,12 +70,14 @@ fn feed_part(
     let taken = offer(buffer, at, n, image, memory, ledger, peer);
     let judgement = taken.judgement;
     let receiver = judgement.receiver;
+    let rule = judgement.rule;
     Part {
         reader: crate::reader::advance(filled, n),
         offered: n,
         taken: taken.taken,
         answer: judgement.answer,
         receiver,
+        rule,
     }
 }
 
@@ -110,11 +115,13 @@ fn ask(
 fn finish(last: Part, buffer: &mut [u8], before: u64, left: usize) -> Feeding {
     let offered = wire::least(last.offered, left);
     let receiver = last.receiver;
+    let rule = last.rule;
     Feeding {
         reader: crate::reader::skip(last.reader, buffer, left - offered),
         taken: std::num::wrapping_add_u64(before, last.taken as u64),
         answer: last.answer,
         receiver,
+        rule,
     }
 }
 

@@ -60,11 +60,19 @@ fn ask_connect(
 ) -> usize {
     let r = guard::connect(image, memory, uid, gids);
     ledger::connected(ledger, r);
+    let shown = r.rule;
+    let rule = rules::rule_numbers(shown);
     writer::line(
         out,
         used,
         b"connect",
-        &[r.answer as u64, r.number as u64, r.slot as u64],
+        &[
+            r.answer as u64,
+            r.number as u64,
+            r.slot as u64,
+            rule.kind as u64,
+            rule.position as u64,
+        ],
     )
 }
 
@@ -94,6 +102,8 @@ fn connect(
 fn show_piece(fed: Feeding, out: &mut [u8], used: usize) -> usize {
     let receiver = fed.receiver;
     let shown = feed::show(receiver);
+    let decided = fed.rule;
+    let rule = rules::rule_numbers(decided);
     writer::line(
         out,
         used,
@@ -104,6 +114,8 @@ fn show_piece(fed: Feeding, out: &mut [u8], used: usize) -> usize {
             shown.kind,
             shown.value,
             shown.count,
+            rule.kind as u64,
+            rule.position as u64,
         ],
     )
 }
@@ -146,8 +158,15 @@ fn ask(
     used: usize,
 ) -> usize {
     if kind == 2 {
-        let answer = guard::own(image, memory, peer, name);
-        return writer::line(out, used, b"own", &[answer as u64]);
+        let r = guard::own(image, memory, peer, name);
+        let shown = r.rule;
+        let rule = rules::rule_numbers(shown);
+        return writer::line(
+            out,
+            used,
+            b"own",
+            &[r.answer as u64, rule.kind as u64, rule.position as u64],
+        );
     }
     let answer = guard::release(memory, peer, name);
     writer::line(out, used, b"release", &[answer as u64])

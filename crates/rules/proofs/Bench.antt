@@ -11,7 +11,7 @@ use Rattle.policy.specs.Precedence.{deciding}
 use Rattle.policy.specs.Names.{owns}
 use Rattle.policy.specs.Subjects.{subjectFits}
 use Rattle.policy.specs.Matching.{connectFits, ownedFits, ownFits, messageOf, partFits, interfaceFits, partsFit, nameFits, transactionFits, transactionMatches}
-use Rattle.policy.specs.Decisions.{decidesIn, mayConnect, mayOwn, mayTransact}
+use Rattle.policy.specs.Decisions.{decidesIn, connectDecision, ownDecision, transactionDecision}
 use Rattle.stream.specs.Stream.{offer}
 use Rattle.rules.specs.State.{firstBy, dropFirst}
 use Rattle.rules.specs.Addresses.{digits, uniqueName, answersTo, resolve}
@@ -25,20 +25,20 @@ Holds lines = agrees (λ (given : List ℕ). given) same lines ≡ true
 
 pub messages-hold : Holds judgementRows
 unfolding same wordAt wordBytes deciding owns subjectFits messageOf partFits interfaceFits partsFit nameFits transactionFits transactionMatches decidesIn
-    mayTransact firstBy digits uniqueName answersTo resolve awaits maskOf countOf judged
+    transactionDecision firstBy digits uniqueName answersTo resolve awaits maskOf countOf judged
 messages-hold = refl
 
 pub replies-hold : Holds replies
 unfolding same wordAt wordBytes deciding owns subjectFits messageOf partFits interfaceFits partsFit nameFits transactionFits transactionMatches decidesIn
-    mayTransact firstBy dropFirst digits uniqueName answersTo resolve awaits ended endedAll judged disconnect
+    transactionDecision firstBy dropFirst digits uniqueName answersTo resolve awaits ended endedAll judged disconnect
 replies-hold = refl
 
 pub connects-hold : Holds connectRows
-unfolding same wordAt wordBytes deciding connectFits decidesIn mayConnect firstBy connect
+unfolding same wordAt wordBytes deciding connectFits decidesIn connectDecision firstBy connect
 connects-hold = refl
 
 pub claims-hold : Holds claimRows
-unfolding same wordAt wordBytes startsWith wellKnown deciding owns subjectFits ownedFits ownFits decidesIn mayOwn firstBy dropFirst own released release
+unfolding same wordAt wordBytes startsWith wellKnown deciding owns subjectFits ownedFits ownFits decidesIn ownDecision firstBy dropFirst own released release
 claims-hold = refl
 
 pub pieces-hold : Holds pieceRows

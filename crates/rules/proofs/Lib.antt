@@ -8,4 +8,6 @@ pub mod Replies
 pub mod View
 pub mod SeenJudge
 pub mod Seen
+pub mod Shows
 pub mod Bench
+mod Numbers

@@ -1,14 +1,20 @@
 -- Streams seen as other streams: the calls, which are defined once over any streams, answer alike and leave states that are seen alike.
 use mathlib.Core.Path.{_≡_, refl, _∙_, ap}
+use mathlib.Core.Bool.{cond}
 use mathlib.Core.List.{List, [], _∷_}
 use Prim.Native.Nat.{ℕ, _+_}
+use lib.Dec.{ltb}
+use lib.ListN.{length}
 use Rattle.header.specs.declared.Header.{Header}
+use Rattle.policy.specs.Names.{owns}
+use Rattle.policy.specs.Decisions.{connectDecision, ownDecision}
 use Rattle.stream.specs.Stream.{Verdict, more, broken, whole, Streams, Offer, bump, offer, settled}
 use Rattle.stream.specs.Steps.{follows}
 use Rattle.stream.proofs.Offers.{offer-step}
 use Rattle.rules.specs.State.{Slot, free, peer, Peer, State, isFree, isPeer, firstBy, putSlot, withNames, withStream}
+use Rattle.rules.specs.Addresses.{ownable}
 use Rattle.rules.specs.Pending.{removeCallsTo}
-use Rattle.rules.specs.Calls.{Step, stays, newcomer, seated, connect, isOwner, ownAt, slotAt, own}
+use Rattle.rules.specs.Calls.{Step, stays, newcomer, noConnect, seated, connectBy, connectAt, connect, ownBy, isOwner, ownNew, ownAt, slotAt, own}
 use Rattle.rules.specs.Calls.{releaseAt, release, offered, pieceAt, piece, disconnectAt, disconnect}
 use Rattle.rules.specs.declared.Connected.{Connected}
 use Rattle.rules.specs.declared.Taken.{Taken}
@@ -52,9 +58,20 @@ module _ {A B : Type 0} (OA : Streams A) (OB : Streams B) (f : A → B) (h : Sim
   seated-seen : (s : State A) (i uid : ℕ) (gids : List ℕ) → seated OB (seen f s) i uid gids ≡ seenStep f (seated OA s i uid gids)
   seated-seen s i uid gids = rw (h .fresh, set-over (seenSlot f) (s .slots) i (peer (newcomer OA (s .last + 1) uid gids)))
 
+  connect-at : (s : State A) (i uid : ℕ) (gids : List ℕ) → connectAt OB (seen f s) i uid gids ≡ seenStep f (connectAt OA s i uid gids)
+  connect-at s i uid gids = rw (long-seen f s) (search (chosen (seenStep f {R = Connected}), seated-seen))
+
   pub connect-seen : (image : List ℕ) (s : State A) (uid : ℕ) (gids : List ℕ) → connect OB image (seen f s) uid gids ≡ seenStep f (connect OA image s uid gids)
   unfolding connect
-  connect-seen image s uid gids = rw (first-seen f s isFree isFree refl (λ p. refl), long-seen f s) (search (chosen (seenStep f {R = Connected}), seated-seen))
+  connect-seen image s uid gids =
+      let d = connectDecision image (record { 0 = uid }) gids in
+      let i = firstBy isFree (s .slots) in
+      let z = seen f s in
+      rw (first-seen f s isFree isFree refl (λ p. refl))
+      (chosen (seenStep f) (ltb 16 (length gids)) _ _ _ _ refl
+      (ap (connectBy (d .rule))
+      (chosen (seenStep f) (d .allow) (connectAt OA s i uid gids) (stays s (noConnect 36)) (connectAt OB z i uid gids) (stays z (noConnect 36))
+      (connect-at s i uid gids) refl)))
 
   -- ---- piece
 
@@ -112,11 +129,23 @@ module _ {A B : Type 0} (f : A → B) (s : State A) where
       → stays {R = ℕ} (putSlot z i (peer (withNames (seenPeer f p) ns))) 0 ≡ seenStep f (stays (putSlot s i (peer (withNames p ns))) 0)
   named i p ns = rw (put-seen f s i (peer (withNames p ns)))
 
+  -- own where policy allows it
+  abbrev ownGranted : {S : Type 0} → State S → ℕ → Peer S → List ℕ → Step S ℕ
+  ownGranted s i p name = cond (owns (p .names) name) (stays s 0) (ownNew s i p name)
+
+  granted : (i : ℕ) (p : Peer A) (name : List ℕ) → ownGranted z i (seenPeer f p) name ≡ seenStep f (ownGranted s i p name)
+  granted i p name =
+      rw (first-seen f s (isOwner name) (isOwner name) refl (λ p. refl), long-seen f s)
+      (search (chosen (seenStep f {R = ℕ}), named i p) depth 8)
+
   own-at : (image : List ℕ) (i : ℕ) (x : Slot A) (name : List ℕ) → ownAt image z i (seenSlot f x) name ≡ seenStep f (ownAt image s i x name)
   own-at image i free name = refl
   own-at image i (peer p) name =
-      rw (first-seen f s (isOwner name) (isOwner name) refl (λ p. refl), long-seen f s)
-      (search (chosen (seenStep f {R = ℕ}), named i p) depth 8)
+      let d = ownDecision image (record { 0 = p .uid }) (p .gids) name in
+      chosen (seenStep f) (ownable name) _ _ _ _
+      (ap (ownBy (d .rule))
+      (chosen (seenStep f) (d .allow) (ownGranted s i p name) (stays s 32) (ownGranted z i (seenPeer f p) name) (stays z 32) (granted i p name) refl))
+      refl
 
   pub own-seen : (image : List ℕ) (n : ℕ) (name : List ℕ) → own image (seen f s) n name ≡ seenStep f (own image s n name)
   unfolding own

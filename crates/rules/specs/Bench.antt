@@ -16,8 +16,9 @@ use Rattle.stream.specs.Stream.{more, broken, Streams}
 use Rattle.rules.specs.State.{free, peer, Peer, Pending, State}
 use Rattle.rules.specs.Judge.{Judged, refusal, bit, judged}
 use Rattle.rules.specs.Calls.{Step, connect, own, release, piece, disconnect}
-use Rattle.rules.specs.Places.{receiverWords, goesOn}
+use Rattle.rules.specs.Places.{receiverWords, shownWords, goesOn}
 use Rattle.rules.specs.declared.Connected.{Connected}
+use Rattle.rules.specs.declared.Owned.{Owned}
 use Rattle.rules.specs.declared.Taken.{Taken}
 use Rattle.rules.specs.declared.Gone.{Gone}
 
@@ -29,6 +30,11 @@ imageOfNothing = imageOfRules [] [] []
 -- everybody may connect, and own any name
 abbrev pub mayJoin : List ℕ
 mayJoin = imageOfRules (connectRuleBytes 0 1 0 0) (ownRuleBytes 0 1 0 0 citesNone) []
+
+-- the same, and behind it both are denied to the user 7
+abbrev pub allButSeven : List ℕ
+allButSeven =
+    imageOfRules (connectRuleBytes 0 1 0 0 ++ connectRuleBytes 0 0 1 7) (ownRuleBytes 0 1 0 0 citesNone ++ ownRuleBytes 2 0 0 7 citesNone) []
 
 -- everybody may do that with any message
 abbrev pub allow : ℕ → List ℕ
@@ -127,19 +133,22 @@ fromFull flags serial = judged both full 0 (one (callsToTwo 16) (nameAx ∷ []))
 abbrev pub fromTwo : State ℕ → ℕ → ℕ → List ℕ → Judged ℕ
 fromTwo s kind serial to = judged imageOfNothing s 1 two (0 ∷ to) (header kind 0 serial to)
 
--- ---- what is reported, as numbers
+-- ---- what is reported, as numbers: of every report but those of release and disconnect the last two say who decided
 
 abbrev pub judgement : Judged ℕ → List ℕ
-judgement j = j .judgement .answer ∷ receiverWords (j .judgement .receiver)
+judgement j = j .judgement .answer ∷ (receiverWords (j .judgement .receiver) ++ shownWords (j .judgement .rule))
 
 abbrev pub connection : Step ℕ Connected → List ℕ
-connection s = s .result .answer ∷ s .result .number ∷ s .result .slot ∷ []
+connection s = s .result .answer ∷ s .result .number ∷ s .result .slot ∷ shownWords (s .result .rule)
 
-abbrev pub resultShown : Step ℕ ℕ → List ℕ
-resultShown s = s .result ∷ []
+abbrev pub owning : Step ℕ Owned → List ℕ
+owning s = s .result .answer ∷ shownWords (s .result .rule)
+
+abbrev pub releasing : Step ℕ ℕ → List ℕ
+releasing s = s .result ∷ []
 
 abbrev pub taking : Step ℕ Taken → List ℕ
-taking s = s .result .judgement .answer ∷ s .result .taken ∷ []
+taking s = s .result .judgement .answer ∷ s .result .taken ∷ shownWords (s .result .judgement .rule)
 
 abbrev pub parting : Step ℕ Gone → List ℕ
 parting s = s .result .answer ∷ s .result .bytes ∷ []
@@ -149,100 +158,116 @@ parting s = s .result .answer ∷ s .result .bytes ∷ []
 abbrev pub CallRow : Type 0
 CallRow = List ℕ × List ℕ
 
-abbrev pub refusedRow : ℕ → List ℕ
-refusedRow a = a ∷ 0 ∷ 0 ∷ 0 ∷ []
+-- who decided: nothing is shown, the rule at a position of its section, or none that matches (rule 6.9)
+abbrev pub unshown : List ℕ
+unshown = 0 ∷ 0 ∷ []
 
-abbrev pub toBusRow : List ℕ
-toBusRow = 0 ∷ 1 ∷ 0 ∷ 0 ∷ []
+abbrev pub byRule : ℕ → List ℕ
+byRule i = 1 ∷ i ∷ []
 
-abbrev pub toPeerRow : ℕ → List ℕ
-toPeerRow n = 0 ∷ 2 ∷ n ∷ 0 ∷ []
+abbrev pub byNone : List ℕ
+byNone = 2 ∷ 0 ∷ []
+
+-- an answer, and who decided
+abbrev pub refusedRow : ℕ → List ℕ → List ℕ
+refusedRow a who = a ∷ 0 ∷ 0 ∷ 0 ∷ who
+
+abbrev pub toBusRow : List ℕ → List ℕ
+toBusRow who = 0 ∷ 1 ∷ 0 ∷ 0 ∷ who
+
+abbrev pub toPeerRow : ℕ → List ℕ → List ℕ
+toPeerRow n who = 0 ∷ 2 ∷ n ∷ 0 ∷ who
 
 abbrev pub toSlots : ℕ → ℕ → List ℕ
-toSlots mask count = 0 ∷ 3 ∷ mask ∷ count ∷ []
+toSlots mask count = 0 ∷ 3 ∷ mask ∷ count ∷ unshown
 
 -- calls and signals: 20, 21, the bus, everybody; send before receive; 25 before 26, and only for a call that expects a reply; a call without an interface
--- is denied where an interface is, to a peer and to the bus (rule 6.8)
+-- is denied where an interface is, to a peer and to the bus (rule 6.8). Who was asked last is shown: send of the bus and of 22, receive of 23, 25, 26 and
+-- of what passes to a peer, and nobody of 20, of 21 and of what goes to everybody (rule 7.12)
 abbrev pub judgementRows : List CallRow
 judgementRows =
-    (judgement (fromOne both waiting 5 0 1 nameBy), refusedRow 20)
-    ∷ (judgement (fromOne both waiting 5 0 1 (bytes "org.x.x")), refusedRow 20)
-    ∷ (judgement (fromOne imageOfNothing waiting call 0 1 (bytes "org.x.x")), refusedRow 21)
-    ∷ (judgement (fromOne both waiting call 0 1 (bytes ":1.02")), refusedRow 21)
-    ∷ (judgement (fromOne both waiting call 0 1 (bytes ":1.2")), toPeerRow 2)
-    ∷ (judgement (fromOne sendOnly waiting call 0 1 []), toBusRow)
-    ∷ (judgement (fromOne sendOnly waiting signal 0 1 busName), toBusRow)
-    ∷ (judgement (fromOne receiveOnly waiting call 0 1 []), refusedRow 22)
+    (judgement (fromOne both waiting 5 0 1 nameBy), refusedRow 20 unshown)
+    ∷ (judgement (fromOne both waiting 5 0 1 (bytes "org.x.x")), refusedRow 20 unshown)
+    ∷ (judgement (fromOne imageOfNothing waiting call 0 1 (bytes "org.x.x")), refusedRow 21 unshown)
+    ∷ (judgement (fromOne both waiting call 0 1 (bytes ":1.02")), refusedRow 21 unshown)
+    ∷ (judgement (fromOne both waiting call 0 1 (bytes ":1.2")), toPeerRow 2 (byRule 1))
+    ∷ (judgement (fromOne sendOnly waiting call 0 1 []), toBusRow (byRule 0))
+    ∷ (judgement (fromOne sendOnly waiting signal 0 1 busName), toBusRow (byRule 0))
+    ∷ (judgement (fromOne receiveOnly waiting call 0 1 []), refusedRow 22 byNone)
+    ∷ (judgement (fromOne both waiting call 0 1 []), toBusRow (byRule 0))
     ∷ (judgement (fromOne both waiting signal 0 1 []), toSlots 3 2)
     ∷ (judgement (fromOne sendOnly waiting signal 0 1 []), toSlots 0 0)
-    ∷ (judgement (fromOne imageOfNothing waiting call 0 1 nameBy), refusedRow 22)
-    ∷ (judgement (fromOne sendOnly waiting call 0 1 nameBy), refusedRow 23)
-    ∷ (judgement (fromOne both waiting call 0 1 nameBy), toPeerRow 2)
-    ∷ (judgement (fromOne both waiting call 0 9 nameBy), refusedRow 25)
-    ∷ (judgement (fromOne both waiting call 1 9 nameBy), toPeerRow 2)
-    ∷ (judgement (fromFull 0 16), refusedRow 25)
-    ∷ (judgement (fromFull 0 17), refusedRow 26)
-    ∷ (judgement (fromFull 1 17), toPeerRow 2)
-    ∷ (judgement (fromOne (allButInterface send) waiting call 0 1 nameBy), refusedRow 22)
-    ∷ (judgement (fromOne (allButInterface send) waiting call 0 1 []), refusedRow 22)
-    ∷ (judgement (fromOne (allButInterface receive) waiting call 0 1 nameBy), refusedRow 23)
-    ∷ (judgement (fromOne (allButInterface receive) waiting call 0 1 []), toBusRow)
+    ∷ (judgement (fromOne imageOfNothing waiting call 0 1 nameBy), refusedRow 22 byNone)
+    ∷ (judgement (fromOne sendOnly waiting call 0 1 nameBy), refusedRow 23 byNone)
+    ∷ (judgement (fromOne both waiting call 0 1 nameBy), toPeerRow 2 (byRule 1))
+    ∷ (judgement (fromOne both waiting signal 0 1 nameBy), toPeerRow 2 (byRule 1))
+    ∷ (judgement (fromOne both waiting call 0 9 nameBy), refusedRow 25 (byRule 1))
+    ∷ (judgement (fromOne both waiting call 1 9 nameBy), toPeerRow 2 (byRule 1))
+    ∷ (judgement (fromFull 0 16), refusedRow 25 (byRule 1))
+    ∷ (judgement (fromFull 0 17), refusedRow 26 (byRule 1))
+    ∷ (judgement (fromFull 1 17), toPeerRow 2 (byRule 1))
+    ∷ (judgement (fromOne (allButInterface send) waiting call 0 1 nameBy), refusedRow 22 (byRule 2))
+    ∷ (judgement (fromOne (allButInterface send) waiting call 0 1 []), refusedRow 22 (byRule 2))
+    ∷ (judgement (fromOne (allButInterface receive) waiting call 0 1 nameBy), refusedRow 23 (byRule 2))
+    ∷ (judgement (fromOne (allButInterface receive) waiting call 0 1 []), toBusRow (byRule 0))
     ∷ []
 
--- replies: peer 2's to serial 9 passes, once, whatever policy says; no other does
+-- replies: peer 2's to serial 9 passes, once, whatever policy says; no other does; no rule is asked, and none is shown
 abbrev pub replies : List CallRow
 replies =
-    (judgement (fromTwo waiting return 9 nameAx), toPeerRow 1)
-    ∷ (judgement (fromTwo waiting error 9 (bytes ":1.1")), toPeerRow 1)
-    ∷ (judgement (fromTwo waiting return 8 nameAx), refusedRow 24)
-    ∷ (judgement (fromTwo waiting return 9 nameBy), refusedRow 24)
-    ∷ (judgement (fromTwo waiting return 9 busName), refusedRow 24)
-    ∷ (judgement (fromTwo waiting return 9 []), refusedRow 24)
-    ∷ (judgement (fromOne both waiting return 0 9 nameAx), refusedRow 24)
-    ∷ (judgement (fromTwo (fromTwo waiting return 9 nameAx .state) return 9 nameAx), refusedRow 24)
-    ∷ (judgement (fromTwo (fromTwo waiting return 8 nameAx .state) return 9 nameAx), toPeerRow 1)
-    ∷ (judgement (fromTwo (fromOne both waiting call 0 1 nameBy .state) return 1 nameAx), toPeerRow 1)
-    ∷ (judgement (fromTwo (fromOne both waiting call 1 1 nameBy .state) return 1 nameAx), refusedRow 24)
-    ∷ (judgement (fromTwo (disconnect counter waiting 2 .state) return 9 nameAx), refusedRow 24)
+    (judgement (fromTwo waiting return 9 nameAx), toPeerRow 1 unshown)
+    ∷ (judgement (fromTwo waiting error 9 (bytes ":1.1")), toPeerRow 1 unshown)
+    ∷ (judgement (fromTwo waiting return 8 nameAx), refusedRow 24 unshown)
+    ∷ (judgement (fromTwo waiting return 9 nameBy), refusedRow 24 unshown)
+    ∷ (judgement (fromTwo waiting return 9 busName), refusedRow 24 unshown)
+    ∷ (judgement (fromTwo waiting return 9 []), refusedRow 24 unshown)
+    ∷ (judgement (fromOne both waiting return 0 9 nameAx), refusedRow 24 unshown)
+    ∷ (judgement (fromTwo (fromTwo waiting return 9 nameAx .state) return 9 nameAx), refusedRow 24 unshown)
+    ∷ (judgement (fromTwo (fromTwo waiting return 8 nameAx .state) return 9 nameAx), toPeerRow 1 unshown)
+    ∷ (judgement (fromTwo (fromOne both waiting call 0 1 nameBy .state) return 1 nameAx), toPeerRow 1 unshown)
+    ∷ (judgement (fromTwo (fromOne both waiting call 1 1 nameBy .state) return 1 nameAx), refusedRow 24 unshown)
+    ∷ (judgement (fromTwo (disconnect counter waiting 2 .state) return 9 nameAx), refusedRow 24 unshown)
     ∷ []
 
--- connect: 37, 36, 38, 39 in this order
+-- connect: 37, 36, 38, 39 in this order; all but 37 show who decided (rule 8.10)
 abbrev pub connectRows : List CallRow
 connectRows =
-    (connection (connect counter imageOfNothing waiting 7 (replicate 17 0)), 37 ∷ 0 ∷ 0 ∷ [])
-    ∷ (connection (connect counter imageOfNothing (crowded 2) 7 []), 36 ∷ 0 ∷ 0 ∷ [])
-    ∷ (connection (connect counter mayJoin (crowded 4294967295) 7 []), 38 ∷ 0 ∷ 0 ∷ [])
-    ∷ (connection (connect counter mayJoin (record { last = 4294967295; slots = free ∷ [] }) 7 []), 39 ∷ 0 ∷ 0 ∷ [])
-    ∷ (connection (connect counter mayJoin (record { last = 4294967294; slots = free ∷ [] }) 7 []), 0 ∷ 4294967295 ∷ 0 ∷ [])
-    ∷ (connection (connect counter mayJoin waiting 7 (replicate 16 0)), 0 ∷ 3 ∷ 2 ∷ [])
+    (connection (connect counter imageOfNothing waiting 7 (replicate 17 0)), 37 ∷ 0 ∷ 0 ∷ unshown)
+    ∷ (connection (connect counter imageOfNothing (crowded 2) 7 []), 36 ∷ 0 ∷ 0 ∷ byNone)
+    ∷ (connection (connect counter mayJoin (crowded 4294967295) 7 []), 38 ∷ 0 ∷ 0 ∷ byRule 0)
+    ∷ (connection (connect counter mayJoin (record { last = 4294967295; slots = free ∷ [] }) 7 []), 39 ∷ 0 ∷ 0 ∷ byRule 0)
+    ∷ (connection (connect counter mayJoin (record { last = 4294967294; slots = free ∷ [] }) 7 []), 0 ∷ 4294967295 ∷ 0 ∷ byRule 0)
+    ∷ (connection (connect counter mayJoin waiting 7 (replicate 16 0)), 0 ∷ 3 ∷ 2 ∷ byRule 0)
+    ∷ (connection (connect counter allButSeven waiting 7 []), 36 ∷ 0 ∷ 0 ∷ byRule 1)
     ∷ []
 
--- own: 30, 31, 32, the peer's already, 33, 34 in this order; release: 30, 31, 35
+-- own: 30, 31, 32, the peer's already, 33, 34 in this order; all but 30 and 31 show who decided (rule 8.10); release: 30, 31, 35
 abbrev pub claimRows : List CallRow
 claimRows =
-    (resultShown (own mayJoin waiting 3 nameBy), 30 ∷ [])
-    ∷ (resultShown (own imageOfNothing waiting 1 (bytes "x")), 31 ∷ [])
-    ∷ (resultShown (own mayJoin waiting 1 busName), 31 ∷ [])
-    ∷ (resultShown (own imageOfNothing waiting 1 nameAx), 32 ∷ [])
-    ∷ (resultShown (own mayJoin full 1 nameAx), 0 ∷ [])
-    ∷ (resultShown (own mayJoin full 1 nameBy), 33 ∷ [])
-    ∷ (resultShown (own mayJoin full 1 (bytes "n.d")), 34 ∷ [])
-    ∷ (resultShown (own mayJoin waiting 1 (bytes "n.d")), 0 ∷ [])
-    ∷ (resultShown (release waiting 3 nameBy), 30 ∷ [])
-    ∷ (resultShown (release waiting 1 busName), 31 ∷ [])
-    ∷ (resultShown (release waiting 1 nameBy), 35 ∷ [])
-    ∷ (resultShown (release (release waiting 1 nameAx .state) 1 nameAx), 35 ∷ [])
-    ∷ (resultShown (release (own mayJoin waiting 1 (bytes "n.d") .state) 1 (bytes "n.d")), 0 ∷ [])
+    (owning (own mayJoin waiting 3 nameBy), 30 ∷ unshown)
+    ∷ (owning (own imageOfNothing waiting 1 (bytes "x")), 31 ∷ unshown)
+    ∷ (owning (own mayJoin waiting 1 busName), 31 ∷ unshown)
+    ∷ (owning (own imageOfNothing waiting 1 nameAx), 32 ∷ byNone)
+    ∷ (owning (own mayJoin full 1 nameAx), 0 ∷ byRule 0)
+    ∷ (owning (own mayJoin full 1 nameBy), 33 ∷ byRule 0)
+    ∷ (owning (own mayJoin full 1 (bytes "n.d")), 34 ∷ byRule 0)
+    ∷ (owning (own mayJoin waiting 1 (bytes "n.d")), 0 ∷ byRule 0)
+    ∷ (owning (own allButSeven waiting 1 (bytes "n.d")), 32 ∷ byRule 1)
+    ∷ (releasing (release waiting 3 nameBy), 30 ∷ [])
+    ∷ (releasing (release waiting 1 busName), 31 ∷ [])
+    ∷ (releasing (release waiting 1 nameBy), 35 ∷ [])
+    ∷ (releasing (release (release waiting 1 nameAx .state) 1 nameAx), 35 ∷ [])
+    ∷ (releasing (release (own mayJoin waiting 1 (bytes "n.d") .state) 1 (bytes "n.d")), 0 ∷ [])
     ∷ []
 
 -- piece: 30, 40, and the bytes up to the one that breaks the message; disconnect: 30, and the bytes taken
 abbrev pub pieceRows : List CallRow
 pieceRows =
-    (taking (piece counter both waiting 3 (0 ∷ [])), 30 ∷ 0 ∷ [])
-    ∷ (taking (piece counter both waiting 2 (0 ∷ [])), 40 ∷ 0 ∷ [])
-    ∷ (taking (piece counter both waiting 1 []), 10 ∷ 0 ∷ [])
-    ∷ (taking (piece counter both waiting 1 (0 ∷ 0 ∷ [])), 7 ∷ 1 ∷ [])
-    ∷ (taking (piece counter both (piece counter both waiting 1 (0 ∷ 0 ∷ []) .state) 1 (0 ∷ [])), 40 ∷ 0 ∷ [])
+    (taking (piece counter both waiting 3 (0 ∷ [])), 30 ∷ 0 ∷ unshown)
+    ∷ (taking (piece counter both waiting 2 (0 ∷ [])), 40 ∷ 0 ∷ unshown)
+    ∷ (taking (piece counter both waiting 1 []), 10 ∷ 0 ∷ unshown)
+    ∷ (taking (piece counter both waiting 1 (0 ∷ 0 ∷ [])), 7 ∷ 1 ∷ unshown)
+    ∷ (taking (piece counter both (piece counter both waiting 1 (0 ∷ 0 ∷ []) .state) 1 (0 ∷ [])), 40 ∷ 0 ∷ unshown)
     ∷ (parting (disconnect counter waiting 3), 30 ∷ 0 ∷ [])
     ∷ (parting (disconnect counter waiting 1), 0 ∷ 2 ∷ [])
     ∷ (parting (disconnect counter (disconnect counter waiting 1 .state) 1), 30 ∷ 0 ∷ [])

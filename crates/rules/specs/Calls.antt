@@ -7,13 +7,16 @@ use lib.Dec.{ltb, leb}
 use lib.ListN.{length, getD, set, replicate}
 use Rattle.wire.specs.Bytes.{same}
 use Rattle.policy.specs.Names.{owns}
-use Rattle.policy.specs.Decisions.{mayConnect, mayOwn}
+use Rattle.policy.specs.Decisions.{connectDecision, ownDecision}
+use Rattle.policy.specs.declared.Decider.{Decider}
 use Rattle.stream.specs.Stream.{Verdict, more, broken, whole, verdictAnswer, Streams, Offer, offer, settled}
 use Rattle.rules.specs.State.{Slot, free, peer, Peer, State, isFree, isPeer, firstBy, dropFirst, putSlot, withNames, withStream}
 use Rattle.rules.specs.Addresses.{ownable}
 use Rattle.rules.specs.Pending.{removeCallsTo}
 use Rattle.rules.specs.Judge.{refusal, judged}
+use Rattle.rules.specs.declared.Shown.the-variants.{Nothing, By}
 use Rattle.rules.specs.declared.Connected.{Connected}
+use Rattle.rules.specs.declared.Owned.{Owned}
 use Rattle.rules.specs.declared.Taken.{Taken}
 use Rattle.rules.specs.declared.Gone.{Gone}
 
@@ -33,7 +36,14 @@ empty = record { last = 0; slots = replicate 16 free }
 
 -- a refused connect reports its answer and zeros (rule 8.1)
 abbrev pub noConnect : ℕ → Connected
-noConnect a = record { answer = a; number = 0; slot = 0 }
+noConnect a = record { answer = a; number = 0; slot = 0; rule = Nothing }
+
+-- who decided is shown (rule 8.10)
+abbrev pub connectedBy : Decider → Connected → Connected
+connectedBy d r = record { answer = r .answer; number = r .number; slot = r .slot; rule = By d }
+
+abbrev pub connectBy : {S : Type 0} → Decider → Step S Connected → Step S Connected
+connectBy d s = record { state = s .state; result = connectedBy d (s .result) }
 
 -- a peer that has just been given its number: it has no names, no pending calls and a stream unbegun (rule 7.1)
 abbrev pub newcomer : {S : Type 0} → Streams S → ℕ → ℕ → List ℕ → Peer S
@@ -44,7 +54,7 @@ abbrev pub seated : {S : Type 0} → Streams S → State S → ℕ → ℕ → L
 seated O s i uid gids =
     record {
       state = record { last = s .last + 1; slots = set (s .slots) i (peer (newcomer O (s .last + 1) uid gids)) };
-      result = record { answer = 0; number = s .last + 1; slot = i };
+      result = record { answer = 0; number = s .last + 1; slot = i; rule = Nothing };
     }
 
 -- i is the lowest free slot, or their count where none is free: that is 38, and tested before 39 (rules 7.1 and 8.3)
@@ -54,13 +64,22 @@ connectAt O s i uid gids =
     (cond (ltb (s .last) 4294967295) (seated O s i uid gids) (stays s (noConnect 39)))
     (stays s (noConnect 38))
 
--- 37 is tested before 36, and both before 38 (rule 8.3)
+-- 37 is tested before 36, and both before 38 (rule 8.3); all that comes behind 37 shows who decided (rule 8.10)
 unfoldable pub connect : {S : Type 0} → Streams S → List ℕ → State S → ℕ → List ℕ → Step S Connected
 connect O image s uid gids =
+    let d = connectDecision image (record { 0 = uid }) gids in
     cond (ltb 16 (length gids)) (stays s (noConnect 37))
-    (cond (mayConnect image (record { 0 = uid }) gids) (connectAt O s (firstBy isFree (s .slots)) uid gids) (stays s (noConnect 36)))
+    (connectBy (d .rule) (cond (d .allow) (connectAt O s (firstBy isFree (s .slots)) uid gids) (stays s (noConnect 36))))
 
 -- ---- own
+
+-- own's answer, which no rule goes with
+abbrev pub noOwn : ℕ → Owned
+noOwn a = record { answer = a; rule = Nothing }
+
+-- who decided is shown (rule 8.10)
+abbrev pub ownBy : {S : Type 0} → Decider → Step S ℕ → Step S Owned
+ownBy d s = record { state = s .state; result = record { answer = s .result; rule = By d } }
 
 -- the slot's peer owns the name (rule 8.4)
 abbrev pub isOwner : {S : Type 0} → List ℕ → Slot S → Bool
@@ -74,22 +93,21 @@ ownNew s i p name =
     (cond (leb 4 (length (p .names))) (stays s 34)
     (stays (putSlot s i (peer (withNames p (p .names ++ (name ∷ []))))) 0))
 
--- 30, 31 and 32 in this order, and only then whether the name is the peer's already (rule 8.4)
-abbrev pub ownAt : {S : Type 0} → List ℕ → State S → ℕ → Slot S → List ℕ → Step S ℕ
-ownAt image s i free name = stays s 30
+-- 30, 31 and 32 in this order, and only then whether the name is the peer's already (rule 8.4); all that comes behind 31 shows who decided (rule 8.10)
+abbrev pub ownAt : {S : Type 0} → List ℕ → State S → ℕ → Slot S → List ℕ → Step S Owned
+ownAt image s i free name = stays s (noOwn 30)
 ownAt image s i (peer p) name =
+    let d = ownDecision image (record { 0 = p .uid }) (p .gids) name in
     cond (ownable name)
-    (cond (mayOwn image (record { 0 = p .uid }) (p .gids) name)
-    (cond (owns (p .names) name) (stays s 0) (ownNew s i p name))
-    (stays s 32))
-    (stays s 31)
+    (ownBy (d .rule) (cond (d .allow) (cond (owns (p .names) name) (stays s 0) (ownNew s i p name)) (stays s 32)))
+    (stays s (noOwn 31))
 
 -- slot i, which is free past the last
 abbrev pub slotAt : {S : Type 0} → State S → ℕ → Slot S
 slotAt s i = getD (s .slots) i free
 
 -- the peer with number n asks for a name (rule 8.4)
-unfoldable pub own : {S : Type 0} → List ℕ → State S → ℕ → List ℕ → Step S ℕ
+unfoldable pub own : {S : Type 0} → List ℕ → State S → ℕ → List ℕ → Step S Owned
 own image s n name = let i = firstBy (isPeer n) (s .slots) in ownAt image s i (slotAt s i) name
 
 -- ---- release

@@ -7,3 +7,4 @@ pub mod Awaited
 pub mod View
 pub mod Bench
 pub mod Places
+pub mod Shows

@@ -4,9 +4,13 @@ use mathlib.Core.List.{List, [], _∷_, _++_}
 use Prim.Native.Nat.{ℕ}
 use lib.Dec.{eqb, leb, ltb}
 use lib.ListN.{length}
+use Rattle.policy.specs.Decisions.{deciderWords}
+use Rattle.rules.specs.declared.Shown.{Shown}
+use Rattle.rules.specs.declared.Shown.the-variants.{Nothing, By}
 use Rattle.rules.specs.declared.Receiver.{Receiver}
 use Rattle.rules.specs.declared.Receiver.the-variants as to
 use Rattle.rules.specs.declared.Connected.{Connected}
+use Rattle.rules.specs.declared.Owned.{Owned}
 use Rattle.rules.specs.declared.Taken.{Taken}
 use Rattle.rules.specs.declared.Gone.{Gone}
 
@@ -17,16 +21,24 @@ receiverWords to.Bus = 1 ∷ 0 ∷ 0 ∷ []
 receiverWords (to.Peer n) = 2 ∷ n ∷ 0 ∷ []
 receiverWords (to.Slots mask count) = 3 ∷ mask ∷ count ∷ []
 
--- ---- a report in seven words: answer, bytes taken, a receiver or what is reported in its place, and two zeros (rule 12.3)
+-- who decided, in two numbers, and zeros where nothing is shown (rule 6.9)
+abbrev pub shownWords : Shown → List ℕ
+shownWords Nothing = 0 ∷ 0 ∷ []
+shownWords (By d) = deciderWords d
+
+-- ---- a report in seven words: answer, bytes taken, a receiver or what is reported in its place, and who decided (rule 12.3)
 
 abbrev pub plainWords : ℕ → List ℕ
 plainWords a = a ∷ 0 ∷ 0 ∷ 0 ∷ 0 ∷ 0 ∷ 0 ∷ []
 
 abbrev pub connectedWords : Connected → List ℕ
-connectedWords r = r .answer ∷ 0 ∷ 0 ∷ r .number ∷ r .slot ∷ 0 ∷ 0 ∷ []
+connectedWords r = r .answer ∷ 0 ∷ 0 ∷ r .number ∷ r .slot ∷ shownWords (r .rule)
+
+abbrev pub ownedWords : Owned → List ℕ
+ownedWords r = r .answer ∷ 0 ∷ 0 ∷ 0 ∷ 0 ∷ shownWords (r .rule)
 
 abbrev pub takenWords : Taken → List ℕ
-takenWords r = r .judgement .answer ∷ r .taken ∷ (receiverWords (r .judgement .receiver) ++ (0 ∷ 0 ∷ []))
+takenWords r = r .judgement .answer ∷ r .taken ∷ (receiverWords (r .judgement .receiver) ++ shownWords (r .judgement .rule))
 
 abbrev pub goneWords : Gone → List ℕ
 goneWords r = r .answer ∷ 0 ∷ 0 ∷ r .bytes ∷ 0 ∷ 0 ∷ 0 ∷ []

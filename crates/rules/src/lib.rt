@@ -1,9 +1,13 @@
 // What the guard's calls report, each report of a refusal, and which names a peer may own.
 use names::Form;
+use policy::Decider;
 ghost use mathlib.Core.Path.{_≡_};
+ghost use mathlib.Core.List.{[], _∷_};
+ghost use Rattle.policy.specs.Decisions.{deciderWords};
 ghost use Rattle.rules.specs.Addresses.{ownable};
-ghost use Rattle.rules.specs.Judge.{refusal};
-ghost use Rattle.rules.specs.Calls.{noConnect, noPiece, noGone};
+ghost use Rattle.rules.specs.Judge.{refusal, judgementBy};
+ghost use Rattle.rules.specs.Places.{shownWords};
+ghost use Rattle.rules.specs.Calls.{noConnect, connectedBy, noOwn, noPiece, noGone};
 
 // Who receives a message: nobody, the bus itself, the peer of a number, or the slots of a mask, with their count.
 pub enum Receiver {
@@ -13,17 +17,37 @@ pub enum Receiver {
     Slots(u16, u32),
 }
 
-// An answer number and the receiver.
+// Who decided, where a report shows it.
+pub enum Shown {
+    Nothing,
+    By(Decider),
+}
+
+// An answer number, the receiver, and who decided.
 pub struct Judgement {
     pub answer: u8,
     pub receiver: Receiver,
+    pub rule: Shown,
 }
 
-// What connect reports: the peer's number and its slot, 0s where it is refused.
+// What connect reports: the peer's number and its slot, 0s where it is refused, and who decided.
 pub struct Connected {
     pub answer: u8,
     pub number: u32,
     pub slot: usize,
+    pub rule: Shown,
+}
+
+// What own reports: its answer, and who decided.
+pub struct Owned {
+    pub answer: u8,
+    pub rule: Shown,
+}
+
+// Who decided, in two numbers.
+pub struct RuleNumbers {
+    pub kind: u32,
+    pub position: u32,
 }
 
 // What a piece comes to: the judgement, and the bytes taken.
@@ -44,6 +68,19 @@ pub fn refused(answer: u8) -> Judgement
     Judgement {
         answer,
         receiver: Receiver::Nobody,
+        rule: Shown::Nothing,
+    }
+}
+
+// The judgement, which shows who decided.
+pub fn judged_by(rule: Decider, judgement: Judgement) -> Judgement
+    ensures { λ r. ⌜ r ≡ judgementBy rule judgement ⌝ }
+{
+    let receiver = judgement.receiver;
+    Judgement {
+        answer: judgement.answer,
+        receiver,
+        rule: Shown::By(rule),
     }
 }
 
@@ -54,6 +91,28 @@ pub fn no_connect(answer: u8) -> Connected
         answer,
         number: 0,
         slot: 0,
+        rule: Shown::Nothing,
+    }
+}
+
+// What connect reports, which shows who decided.
+pub fn connected_by(rule: Decider, connected: Connected) -> Connected
+    ensures { λ r. ⌜ r ≡ connectedBy rule connected ⌝ }
+{
+    Connected {
+        answer: connected.answer,
+        number: connected.number,
+        slot: connected.slot,
+        rule: Shown::By(rule),
+    }
+}
+
+pub fn no_own(answer: u8) -> Owned
+    ensures { λ r. ⌜ r ≡ noOwn answer ⌝ }
+{
+    Owned {
+        answer,
+        rule: Shown::Nothing,
     }
 }
 
@@ -64,6 +123,7 @@ pub fn no_piece(answer: u8) -> Taken
         judgement: Judgement {
             answer,
             receiver: Receiver::Nobody,
+            rule: Shown::Nothing,
         },
         taken: 0,
     }
@@ -73,6 +133,32 @@ pub fn no_gone(answer: u8) -> Gone
     ensures { λ r. ⌜ r ≡ noGone answer ⌝ }
 {
     Gone { answer, bytes: 0 }
+}
+
+// 1 and the rule's position, or 2 and 0 where no rule matches.
+fn decider_numbers(decider: Decider) -> RuleNumbers
+    ensures { λ r. ⌜ r .kind ∷ r .position ∷ [] ≡ deciderWords decider ⌝ }
+{
+    match decider {
+        Decider::Nobody => RuleNumbers {
+            kind: 2,
+            position: 0,
+        },
+        Decider::Rule(_, position) => RuleNumbers { kind: 1, position },
+    }
+}
+
+// Who decided, in two numbers, and zeros where nothing is shown.
+pub fn rule_numbers(shown: Shown) -> RuleNumbers
+    ensures { λ r. ⌜ r .kind ∷ r .position ∷ [] ≡ shownWords shown ⌝ }
+{
+    match shown {
+        Shown::Nothing => RuleNumbers {
+            kind: 0,
+            position: 0,
+        },
+        Shown::By(decider) => decider_numbers(decider),
+    }
 }
 
 // A name that a peer may own: well-known, and not the bus's.

@@ -9,8 +9,9 @@ use borrow.Author.Tests.{eq-eqb}
 use Rattle.wire.specs.Bytes.{Below}
 use Rattle.image.specs.Good.{imageAnswer}
 use Rattle.stream.specs.Tail.{Tail, tails}
-use Rattle.rules.specs.Calls.{Step, empty, noConnect, noPiece, noGone, connect, own, release, piece, disconnect}
+use Rattle.rules.specs.Calls.{Step, empty, noConnect, noOwn, noPiece, noGone, connect, own, release, piece, disconnect}
 use Rattle.rules.specs.declared.Connected.{Connected}
+use Rattle.rules.specs.declared.Owned.{Owned}
 use Rattle.rules.specs.declared.Taken.{Taken}
 use Rattle.rules.specs.declared.Gone.{Gone}
 use Rattle.wire.proofs.Tests.{choice}
@@ -48,9 +49,9 @@ module _ (m : List ℕ) (octets : Below 256 m) (g : good m ≡ true) where
       image-good noConnect m g (connect tails image (stateOf m) uid gids)
       (connect-sound (stateOf m) uid gids (good-sound m octets g) u (every-below 4294967296 gids w) image) image
 
-  pub good-stays-own : (image : List ℕ) (n : ℕ) (name : List ℕ) {r : ℕ} {e : List ℕ} → Did (ownOn image m n name) r e → good e ≡ true
+  pub good-stays-own : (image : List ℕ) (n : ℕ) (name : List ℕ) {r : Owned} {e : List ℕ} → Did (ownOn image m n name) r e → good e ≡ true
   unfolding ownOn
-  good-stays-own image n name = image-good (λ a. a) m g (own image (stateOf m) n name) (own-sound (stateOf m) (good-sound m octets g) image n name) image
+  good-stays-own image n name = image-good noOwn m g (own image (stateOf m) n name) (own-sound (stateOf m) (good-sound m octets g) image n name) image
 
   pub good-stays-release : (n : ℕ) (name : List ℕ) {r : ℕ} {e : List ℕ} → Did (releaseOn m n name) r e → good e ≡ true
   unfolding releaseOn

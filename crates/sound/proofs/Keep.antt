@@ -1,21 +1,26 @@
 -- An empty guard is sound, and each call keeps a sound state sound (rule 10.6).
 use mathlib.Core.Path.{_≡_, refl, _∙_}
-use mathlib.Core.Bool.{true}
+use mathlib.Core.Bool.{true, cond}
 use mathlib.Core.List.{List}
 use Prim.Native.Nat.{ℕ, _+_, _≤_, _<_}
 use native.Mathlib.Omega.{arith}
+use lib.Dec.{ltb}
 use lib.ListN.{length, getD, set, length-set, length-map}
 use borrow.Author.Tests.{lt-ltb, ltb-true, ltb-false, leb-true, leb-false, eq-eqb}
 use Rattle.wire.specs.Lists.{distinct, every}
 use Rattle.header.specs.declared.Header.{Header}
 use Rattle.policy.specs.Names.{owns}
+use Rattle.policy.specs.Decisions.{connectDecision, ownDecision}
 use Rattle.stream.specs.Stream.{Verdict, more, broken, whole, offer}
 use Rattle.stream.proofs.Good.{fresh-good}
 use Rattle.stream.specs.Tail.{Tail, closed, tails}
 use Rattle.rules.specs.State.{Peer, Slot, free, peer, State, isFree, isPeer, firstBy}
+use Rattle.rules.specs.Addresses.{ownable}
 use Rattle.rules.specs.Pending.{awaits, removeCallsTo}
-use Rattle.rules.specs.Calls.{Step, empty, newcomer, seated, connect, ownAt, slotAt, own, releaseAt, release, offered, pieceAt, piece, disconnectAt, disconnect}
+use Rattle.rules.specs.Calls.{Step, stays, empty, noConnect, newcomer, seated, connectAt, connect, ownNew, ownAt, slotAt, own}
+use Rattle.rules.specs.Calls.{releaseAt, release, offered, pieceAt, piece, disconnectAt, disconnect}
 use Rattle.rules.specs.declared.Connected.{Connected}
+use Rattle.rules.specs.declared.Owned.{Owned}
 use Rattle.memory.specs.Good.{goodSlots}
 use Rattle.memory.proofs.Octets.{below-every}
 use Rattle.memory.specs.Sound.{word32, narrow, octet, headOctets, Sound}
@@ -56,16 +61,28 @@ module _ (s : State Tail) (uid : ℕ) (gids : List ℕ) (g : Sound s)
       kept-sound (seated tails s i uid gids .state) (length-set (s .slots) i (peer (newcomer tails (s .last + 1) uid gids)) ∙ g .sixteen) (omega arith)
       (new-kept (s .last) (s .slots) i (newcomer tails (s .last + 1) uid gids) h f (sound-kept g) (newcomer-new l))
 
+  connect-at : length gids ≤ 16 → Leaves (connectAt tails s (firstBy isFree (s .slots)) uid gids)
+  connect-at l = search (choice (Leaves {R = Connected}), seated-sound, ltb-true, first-passes isFree (s .slots) free)
+
   pub connect-sound : (image : List ℕ) → Sound (connect tails image s uid gids .state)
   unfolding connect
-  connect-sound image = search (choice (Leaves {R = Connected}), seated-sound, ltb-true, ltb-false, first-passes isFree (s .slots) free) depth 8
+  connect-sound image =
+      let d = connectDecision image (record { 0 = uid }) gids in
+      choice (Leaves {R = Connected}) (ltb 16 (length gids)) _ _ (λ e. g)
+      (λ e. choice (Leaves {R = Connected}) (d .allow) (connectAt tails s (firstBy isFree (s .slots)) uid gids) (stays s (noConnect 36))
+      (λ a. connect-at (omega (arith, ltb-false 16 (length gids) e))) (λ a. g))
 
 -- ---- own and release
 
 module _ (s : State Tail) (g : Sound s) where
   own-at : (image : List ℕ) (i : ℕ) (x : Slot Tail) (name : List ℕ) → getD (s .slots) i free ≡ x → Leaves (ownAt image s i x name)
   own-at image i free name e = g
-  own-at image i (peer p) name e = search (choice (Leaves {R = ℕ}), granted-sound, first-none, leb-false) depth 8
+  own-at image i (peer p) name e =
+      let d = ownDecision image (record { 0 = p .uid }) (p .gids) name in
+      choice (Leaves {R = Owned}) (ownable name) _ _
+      (λ a. choice (Leaves {R = ℕ}) (d .allow) (cond (owns (p .names) name) (stays s 0) (ownNew s i p name)) (stays s 32)
+      (λ b. search (choice (Leaves {R = ℕ}), granted-sound, first-none, leb-false) depth 8) (λ b. g))
+      (λ a. g)
 
   pub own-sound : (image : List ℕ) (n : ℕ) (name : List ℕ) → Sound (own image s n name .state)
   unfolding own

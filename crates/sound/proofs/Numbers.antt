@@ -39,8 +39,8 @@ judged-few a h = elim (judged-low a h) [ inl q ↦ omega arith | inr q ↦ q .1 
 pub judged-proper : {S : Type 0} (image : List ℕ) (s : State S) (i : ℕ) (sender : Peer S) (x : Header) (h : List ℕ)
     → isJudged (judged image s i sender h x .judgement .answer) ≡ true
 judged-proper {S} image s i sender x h =
-    judged-any image s i sender x (λ (j : Judged S). isJudged (j .judgement .answer) ≡ true) (λ a p q. p) (λ l. refl) refl (λ m c. refl) (λ j q e r w. refl)
-    (λ j q e w n l. refl) (λ j q e r w. refl) h
+    judged-any image s i sender x (λ (j : Judged S). isJudged (j .judgement .answer) ≡ true) (λ a p q. p) (λ l. refl) (λ d j p. p) refl (λ m c. refl)
+    (λ j q e r w. refl) (λ j q e w n l. refl) (λ j q e r w. refl) h
 
 -- ---- a broken head
 

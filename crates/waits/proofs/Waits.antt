@@ -15,6 +15,7 @@ use Rattle.rules.specs.Pending.{isCall, awaits}
 use Rattle.rules.specs.Judge.{refusal}
 use Rattle.rules.specs.declared.Judgement.{Judgement}
 use Rattle.rules.specs.declared.Receiver.the-variants as to
+use Rattle.rules.specs.declared.Shown.the-variants.{Nothing}
 use Rattle.rules.proofs.Waits.{awaits-first}
 use Rattle.memory.specs.Encoding.{stateOf}
 use Rattle.memory.specs.Places.{numberAt}
@@ -51,7 +52,7 @@ module _ {m : List ℕ} {i n : ℕ} (g : Seated m i) (h : n ≡ length (peerAt m
         let t = le-leb 16 (length (peerAt m i .pending)) (omega arith) in
         record { left = λ p x e y. rw (e, y, waits-is h a, le-ltb f n l, t) (left-as-is g b q) }
 
-    pub wait-begins : n < 16 → {m′ : List ℕ} → Began m i c s m′ → Waits m i c s (record { answer = 0; receiver = to.Peer c }) m′
+    pub wait-begins : n < 16 → {m′ : List ℕ} → Began m i c s m′ → Waits m i c s (record { answer = 0; receiver = to.Peer c; rule = Nothing }) m′
     wait-begins k z =
         let t = lt-leb 16 (length (peerAt m i .pending)) (omega arith) in
         record { left = λ p x e y. rw (e, y, waits-is h a, le-ltb f n l, t) (record { judgement = refl; memory = z .is }) }
@@ -66,7 +67,7 @@ module _ {m : List ℕ} {i j : ℕ} (p : Seated m i) (x : Header) (b : Octets m)
   reply-none l q = record { left = rw (← e, waits-is h a, le-ltb f n l) (left-as-is p b q) }
 
   pub reply-ends : f < n → {d : ℕ} → d ≡ numberAt m j → {m′ : List ℕ} → CallRemoved m j f m′
-      → RepliesTo m i j x (record { answer = 0; receiver = to.Peer d }) m′
+      → RepliesTo m i j x (record { answer = 0; receiver = to.Peer d; rule = Nothing }) m′
   reply-ends l q g =
       let w = ended-without c (x .«reply_serial») (peerAt m j .pending) in
       record { left = rw (← e, waits-is h a, lt-ltb f n l) (record { judgement = rw q; memory = rw (w, place h a) (g .is) }) }

@@ -9,6 +9,7 @@ use memory::SLOT_LENGTH;
 use memory::SLOTS_AT;
 use rules::Judgement;
 use rules::Receiver;
+use rules::Shown;
 use rules::refused;
 ghost use mathlib.Core.Path.{_≡_};
 ghost use Prim.Native.Nat.{_≤_, _<_};
@@ -64,6 +65,7 @@ pub fn wait(memory: &mut [u8], i: usize, callee: u32, serial: u32) -> Judgement
     Judgement {
         answer: 0,
         receiver: Receiver::Peer(callee),
+        rule: Shown::Nothing,
     }
 }
 
@@ -83,5 +85,6 @@ pub fn reply_to(memory: &mut [u8], i: usize, j: usize, header: Header) -> Judgem
     Judgement {
         answer: 0,
         receiver: Receiver::Peer(caller),
+        rule: Shown::Nothing,
     }
 }

@@ -1,9 +1,10 @@
 //! Counting what a set of captures reaches: answers by call, the cases of 7, 8, 9 and 50, what
 //! names were refused for, what unknown header fields held, what rules that name an interface
-//! did, and what became of waiting calls.
+//! did, what became of waiting calls, and what was shown of the rules that decided.
 
 use crate::answer::{Answer, Receiver, ANSWERS_OF_CALLS};
 use crate::capture::{self, Call};
+use crate::decider_cases;
 use crate::guard::{Guard, LentPolicy};
 use crate::header::{self, required_fields, HeadFault, Header, Malformed};
 use crate::image::{self, Breach};
@@ -63,6 +64,7 @@ fn wanted_cases() -> Vec<String> {
     wanted.extend(unknown_cases::cases());
     wanted.extend(interface_cases::CASES.iter().map(|case| case.to_string()));
     wanted.extend(wait_cases::CASES.iter().map(|case| case.to_string()));
+    wanted.extend(decider_cases::cases());
     wanted
 }
 
@@ -129,15 +131,19 @@ impl Coverage {
         for call in &reading.capture.calls {
             let waits = guard.waits().len();
             let message = ended_by(&guard, call);
+            let is_held = decider_cases::is_held(&guard, call);
             let outcome = run(&mut guard, policy.as_ref().ok(), call);
             self.count(outcome);
             self.count_waits(outcome, waits, guard.waits().len());
             self.count_cases(wait_cases.see(call, &outcome));
             self.count_cases(case_of_name(&guard, call, outcome));
             self.count_cases(case_of_unknown(&guard, call, outcome));
+            let lent = policy.as_ref().ok();
+            self.count_cases(decider_cases::of_call(lent, &guard, call, &outcome, message.as_ref()));
+            self.count_cases(decider_cases::of_held(&outcome).filter(|_| is_held));
             if let Some((sender, header)) = message {
                 self.count_cases(unknown_cases::of_message(&header));
-                self.count_interfaces(&guard, policy.as_ref().ok(), sender, &header, outcome);
+                self.count_interfaces(&guard, lent, sender, &header, outcome);
             }
         }
         // Only a whole capture's end is shown and compared.

@@ -3,7 +3,7 @@
 use crate::answer::{Answer, Receiver};
 use crate::header::{HeadFault, Header, ERROR, METHOD_CALL, METHOD_RETURN, SIGNAL};
 use crate::names::{is_well_known, unique_name_of, BUS_NAME};
-use crate::policy::{Credentials, Gid, Policy, Uid};
+use crate::policy::{Credentials, Decision, Gid, Policy, Uid};
 use crate::stream::{Step, Stream};
 use crate::wire::FixedPart;
 
@@ -35,11 +35,20 @@ pub struct Wait {
     pub serial: u32,
 }
 
+/// In this and the other reports `decider` is what the policy's search came to, where the
+/// answer shows it.
 #[derive(Clone, Copy, Debug, PartialEq, Eq)]
 pub struct Connected {
     pub answer: Answer,
     pub number: u32,
     pub slot: usize,
+    pub decider: Option<Decision>,
+}
+
+#[derive(Clone, Copy, Debug, PartialEq, Eq)]
+pub struct Owned {
+    pub answer: Answer,
+    pub decider: Option<Decision>,
 }
 
 #[derive(Clone, Copy, Debug, PartialEq, Eq)]
@@ -55,13 +64,14 @@ pub struct Judged {
     pub answer: Answer,
     pub taken: usize,
     pub receiver: Receiver,
+    pub decider: Option<Decision>,
     pub fault: Option<HeadFault>,
     pub message: Option<FixedPart>,
 }
 
 impl Judged {
     fn refused(answer: Answer, taken: usize) -> Judged {
-        Judged { answer, taken, receiver: Receiver::Nobody, fault: None, message: None }
+        Judged { answer, taken, receiver: Receiver::Nobody, decider: None, fault: None, message: None }
     }
 }
 
@@ -77,7 +87,24 @@ enum Resolved<'a> {
 pub type LentPolicy<'a> = Option<&'a Policy>;
 
 /// A refusal leaves everything as it was, apart from the bytes taken.
-type Verdict = Result<Receiver, Answer>;
+struct Refusal {
+    answer: Answer,
+    decider: Option<Decision>,
+}
+
+/// Most refusals show no rule.
+impl From<Answer> for Refusal {
+    fn from(answer: Answer) -> Refusal {
+        Refusal { answer, decider: None }
+    }
+}
+
+fn showing(answer: Answer, decision: Decision) -> Refusal {
+    Refusal { answer, decider: Some(decision) }
+}
+
+/// Who gets a message, and what the pass shows.
+type Verdict = Result<(Receiver, Option<Decision>), Refusal>;
 
 #[derive(Clone, Debug, Default)]
 pub struct Guard {
@@ -119,49 +146,53 @@ impl Guard {
     }
 
     pub fn connect(&mut self, policy: LentPolicy, uid: Uid, gids: &[Gid]) -> Connected {
-        match self.try_connect(policy, uid, gids) {
-            Ok((number, slot)) => Connected { answer: Answer::Done, number, slot },
-            Err(answer) => Connected { answer, number: 0, slot: 0 },
-        }
+        let refused =
+            |Refusal { answer, decider }: Refusal| Connected { answer, number: 0, slot: 0, decider };
+        self.try_connect(policy, uid, gids).unwrap_or_else(refused)
     }
 
-    fn try_connect(&mut self, policy: LentPolicy, uid: Uid, gids: &[Gid]) -> Result<(u32, usize), Answer> {
+    fn try_connect(&mut self, policy: LentPolicy, uid: Uid, gids: &[Gid]) -> Result<Connected, Refusal> {
         let policy = policy.ok_or(Answer::BadImage)?;
         if gids.len() > MAX_GIDS {
-            return Err(Answer::TooManyGids);
+            return Err(Answer::TooManyGids.into());
         }
-        if !policy.allows_connect(Credentials { uid, gids }) {
-            return Err(Answer::ConnectDenied);
+        let decision = policy.connect(Credentials { uid, gids });
+        if !decision.allows() {
+            return Err(showing(Answer::ConnectDenied, decision));
         }
-        let slot = self.slots.iter().position(Option::is_none).ok_or(Answer::SlotsFull)?;
-        let number = self.last_number.checked_add(1).ok_or(Answer::NumbersUsedUp)?;
+        let free = self.slots.iter().position(Option::is_none);
+        let slot = free.ok_or(showing(Answer::SlotsFull, decision))?;
+        let number = self.last_number.checked_add(1).ok_or(showing(Answer::NumbersUsedUp, decision))?;
         self.last_number = number;
         let (gids, names, stream) = (gids.to_vec(), Vec::new(), Stream::default());
         self.slots[slot] = Some(Peer { number, uid, gids, names, stream });
-        Ok((number, slot))
+        Ok(Connected { answer: Answer::Done, number, slot, decider: Some(decision) })
     }
 
-    pub fn own(&mut self, policy: LentPolicy, number: u32, name: &[u8]) -> Answer {
-        self.try_own(policy, number, name).err().unwrap_or(Answer::Done)
+    pub fn own(&mut self, policy: LentPolicy, number: u32, name: &[u8]) -> Owned {
+        let refused = |Refusal { answer, decider }: Refusal| Owned { answer, decider };
+        self.try_own(policy, number, name).unwrap_or_else(refused)
     }
 
-    fn try_own(&mut self, policy: LentPolicy, number: u32, name: &[u8]) -> Result<(), Answer> {
+    fn try_own(&mut self, policy: LentPolicy, number: u32, name: &[u8]) -> Result<Owned, Refusal> {
         let policy = policy.ok_or(Answer::BadImage)?;
         let peer = self.peer(number).ok_or(Answer::NoSuchPeer)?;
         let name = ownable(name).ok_or(Answer::NotAName)?;
-        if !policy.allows_own(peer.credentials(), &name) {
-            return Err(Answer::OwnDenied);
+        let decision = policy.own(peer.credentials(), &name);
+        let granted = Owned { answer: Answer::Done, decider: Some(decision) };
+        if !decision.allows() {
+            return Err(showing(Answer::OwnDenied, decision));
         }
         match self.owner_of(&name) {
-            Some(owner) if owner.number == number => return Ok(()),
-            Some(_) => return Err(Answer::OwnedByAnother),
+            Some(owner) if owner.number == number => return Ok(granted),
+            Some(_) => return Err(showing(Answer::OwnedByAnother, decision)),
             None => {}
         }
         if peer.names.len() == MAX_NAMES {
-            return Err(Answer::TooManyNames);
+            return Err(showing(Answer::TooManyNames, decision));
         }
         self.peer_mut(number).ok_or(Answer::NoSuchPeer)?.names.push(name);
-        Ok(())
+        Ok(granted)
     }
 
     pub fn release(&mut self, number: u32, name: &[u8]) -> Answer {
@@ -212,11 +243,11 @@ impl Guard {
     }
 
     fn judged(&mut self, policy: &Policy, sender: u32, message: &Header, taken: usize) -> Judged {
-        let (answer, receiver) = match self.judge(policy, sender, message) {
-            Ok(receiver) => (Answer::Done, receiver),
-            Err(answer) => (answer, Receiver::Nobody),
+        let (answer, receiver, decider) = match self.judge(policy, sender, message) {
+            Ok((receiver, decider)) => (Answer::Done, receiver, decider),
+            Err(Refusal { answer, decider }) => (answer, Receiver::Nobody, decider),
         };
-        Judged { answer, taken, receiver, fault: None, message: Some(message.fixed) }
+        Judged { answer, taken, receiver, decider, fault: None, message: Some(message.fixed) }
     }
 
     /// Judges a whole message by the peers, names and waits of this moment.
@@ -230,76 +261,90 @@ impl Guard {
             (METHOD_CALL, Resolved::Absent | Resolved::Bus) => self.judge_to_bus(policy, sender, message),
             (METHOD_CALL, Resolved::Peer(name)) => self.judge_call(policy, sender, name, message),
             (METHOD_RETURN | ERROR, Resolved::Peer(name)) => self.judge_reply(sender, name, message),
-            (METHOD_RETURN | ERROR, _) => Err(Answer::ReplyNotAwaited),
+            (METHOD_RETURN | ERROR, _) => Err(Answer::ReplyNotAwaited.into()),
             (SIGNAL, Resolved::Absent) => self.judge_broadcast(policy, sender, message),
             (SIGNAL, Resolved::Bus) => self.judge_to_bus(policy, sender, message),
-            (SIGNAL, Resolved::Peer(name)) => {
-                self.judge_directed(policy, sender, name, message).map(Receiver::Peer)
-            }
-            _ => Err(Answer::UnknownType),
+            (SIGNAL, Resolved::Peer(name)) => self.judge_signal(policy, sender, name, message),
+            _ => Err(Answer::UnknownType.into()),
         }
     }
 
     fn judge_to_bus(&self, policy: &Policy, sender: u32, message: &Header) -> Verdict {
         let sender = self.peer(sender).ok_or(Answer::NoSuchPeer)?;
-        match policy.allows_send(sender.credentials(), &[BUS_NAME.to_string()], message) {
-            true => Ok(Receiver::Bus),
-            false => Err(Answer::SendDenied),
+        let send = policy.send(sender.credentials(), &[BUS_NAME.to_string()], message);
+        match send.allows() {
+            true => Ok((Receiver::Bus, Some(send))),
+            false => Err(showing(Answer::SendDenied, send)),
         }
     }
 
-    /// A call or signal to one peer: 21, 22, 23, or the receiver's number.
-    fn judge_directed(&self, policy: &Policy, from: u32, to: &str, message: &Header) -> Result<u32, Answer> {
+    /// A call or signal to one peer: 21, 22, 23, or the receiver's number with what let it in.
+    fn judge_directed(
+        &self,
+        policy: &Policy,
+        from: u32,
+        to: &str,
+        message: &Header,
+    ) -> Result<(u32, Decision), Refusal> {
         let sender = self.peer(from).ok_or(Answer::NoSuchPeer)?;
         let receiver = self.resolve(to).ok_or(Answer::DestinationIsNobody)?;
-        if !policy.allows_send(sender.credentials(), &receiver.names, message) {
-            return Err(Answer::SendDenied);
+        let send = policy.send(sender.credentials(), &receiver.names, message);
+        if !send.allows() {
+            return Err(showing(Answer::SendDenied, send));
         }
-        if !policy.allows_receive(receiver.credentials(), &sender.names, message) {
-            return Err(Answer::ReceiveDenied);
+        let receive = policy.receive(receiver.credentials(), &sender.names, message);
+        if !receive.allows() {
+            return Err(showing(Answer::ReceiveDenied, receive));
         }
-        Ok(receiver.number)
+        Ok((receiver.number, receive))
+    }
+
+    fn judge_signal(&self, policy: &Policy, sender: u32, to: &str, message: &Header) -> Verdict {
+        let (number, receive) = self.judge_directed(policy, sender, to, message)?;
+        Ok((Receiver::Peer(number), Some(receive)))
     }
 
     fn judge_call(&mut self, policy: &Policy, caller: u32, to: &str, message: &Header) -> Verdict {
-        let callee = self.judge_directed(policy, caller, to, message)?;
+        let (callee, receive) = self.judge_directed(policy, caller, to, message)?;
         if message.fixed.expects_reply() {
             let wait = Wait { caller, callee, serial: message.fixed.serial };
             if self.waits.contains(&wait) {
-                return Err(Answer::AlreadyWaits);
+                return Err(showing(Answer::AlreadyWaits, receive));
             }
             if self.waits.iter().filter(|other| other.caller == caller).count() == MAX_WAITS {
-                return Err(Answer::TooManyWaits);
+                return Err(showing(Answer::TooManyWaits, receive));
             }
             self.waits.push(wait);
         }
-        Ok(Receiver::Peer(callee))
+        Ok((Receiver::Peer(callee), Some(receive)))
     }
 
-    /// A reply passes exactly when it is awaited, whatever the policy, and ends the wait.
+    /// A reply passes exactly when it is awaited, whatever the policy, and ends the wait. No
+    /// rule was asked, so none is shown.
     fn judge_reply(&mut self, callee: u32, to: &str, message: &Header) -> Verdict {
         let caller = self.resolve(to).ok_or(Answer::ReplyNotAwaited)?.number;
         let serial = message.reply_serial.ok_or(Answer::ReplyNotAwaited)?;
         let wait = Wait { caller, callee, serial };
         let place = self.waits.iter().position(|other| *other == wait).ok_or(Answer::ReplyNotAwaited)?;
         self.waits.remove(place);
-        Ok(Receiver::Peer(caller))
+        Ok((Receiver::Peer(caller), None))
     }
 
-    /// A broadcast reaches every peer for whom send and receive both allow.
+    /// A broadcast reaches every peer for whom send and receive both allow. Each of them may
+    /// have other rules, so none is shown.
     fn judge_broadcast(&self, policy: &Policy, sender: u32, message: &Header) -> Verdict {
         let sender = self.peer(sender).ok_or(Answer::NoSuchPeer)?;
         let mut mask = 0_u16;
         for (slot, peer) in self.slots.iter().enumerate() {
             if let Some(peer) = peer {
-                if policy.allows_send(sender.credentials(), &peer.names, message)
-                    && policy.allows_receive(peer.credentials(), &sender.names, message)
+                if policy.send(sender.credentials(), &peer.names, message).allows()
+                    && policy.receive(peer.credentials(), &sender.names, message).allows()
                 {
                     mask |= 1 << slot;
                 }
             }
         }
-        Ok(Receiver::Slots(mask))
+        Ok((Receiver::Slots(mask), None))
     }
 
     fn owner_of(&self, name: &str) -> Option<&Peer> {

@@ -1,7 +1,7 @@
 //! Messages under rules that name an interface: the cases that a judged message shows.
 //!
-//! The guard does not tell which rule decided. The policy is asked again about the message
-//! just judged, which changed neither peers nor names.
+//! An answer shows one side's rule at most. So the policy is asked again about the message just
+//! judged, which changed neither peers nor names.
 
 use crate::answer::Answer;
 use crate::guard::{Guard, Judged, Peer};
@@ -48,11 +48,11 @@ struct Asked<'a> {
 
 impl Asked<'_> {
     fn deciding(&self) -> Option<usize> {
-        self.policy.deciding(self.question, self.message)
+        self.policy.transaction(self.question, self.message).position()
     }
 
     fn allows(&self) -> bool {
-        self.policy.allows(self.question, self.message)
+        self.policy.transaction(self.question, self.message).allows()
     }
 
     /// The deciding rule names an interface.
@@ -98,7 +98,7 @@ pub fn cases(guard: &Guard, policy: &Policy, sender: &Peer, message: &Header, ju
 
 /// What the rules are asked about a message to the bus or to one peer, in order. Broadcasts
 /// are left out: they are never without an interface, and never refused.
-fn questions<'a>(
+pub fn questions<'a>(
     guard: &'a Guard,
     bus: &'a [String],
     sender: &'a Peer,

@@ -8,6 +8,7 @@
 pub mod answer;
 pub mod capture;
 pub mod coverage;
+pub mod decider_cases;
 pub mod generate;
 pub mod guard;
 pub mod header;

@@ -36,7 +36,7 @@ impl Context {
         }
     }
 
-    fn fits(self, who: Credentials) -> bool {
+    pub fn fits(self, who: Credentials) -> bool {
         match self {
             Context::Default | Context::Mandatory => true,
             Context::Group(gid) => who.gids.contains(&gid),
@@ -115,57 +115,84 @@ pub struct Question<'a> {
     pub names: &'a [String],
 }
 
+/// What the search in one section came to. A position counts from 0 in the whole section, so
+/// that of a transaction counts the rules of both directions.
+#[derive(Clone, Copy, Debug, PartialEq, Eq)]
+pub enum Decision {
+    Rule { position: usize, verdict: Verdict },
+    NoneMatched,
+}
+
+impl Decision {
+    /// No matching rule means deny.
+    pub fn allows(self) -> bool {
+        matches!(self, Decision::Rule { verdict: Verdict::Allow, .. })
+    }
+
+    pub fn position(self) -> Option<usize> {
+        match self {
+            Decision::Rule { position, .. } => Some(position),
+            Decision::NoneMatched => None,
+        }
+    }
+}
+
 /// What lets one matching rule win over another: the higher context, and within one
 /// context the later place.
 pub fn precedence(context: Context, place: usize) -> (u8, usize) {
     (context.rank(), place)
 }
 
-/// The place of the rule that decides, of those that match.
-fn highest(matching: impl Iterator<Item = (usize, Context)>) -> Option<usize> {
-    matching.max_by_key(|(place, context)| precedence(*context, *place)).map(|(place, _)| place)
+/// Searches one section. `front` is what a rule of any section begins with.
+fn decide<R>(
+    section: &[R],
+    front: impl Fn(&R) -> (Context, Verdict),
+    matches: impl Fn(&R) -> bool,
+) -> Decision {
+    let matching = section.iter().enumerate().filter(|(_, rule)| matches(rule));
+    match matching.max_by_key(|(place, rule)| precedence(front(rule).0, *place)) {
+        Some((position, rule)) => Decision::Rule { position, verdict: front(rule).1 },
+        None => Decision::NoneMatched,
+    }
 }
 
-/// No matching rule means deny.
 impl Policy {
-    pub fn allows_connect(&self, who: Credentials) -> bool {
-        let matches = |rule: &ConnectRule| match rule.who {
-            Who::Any => true,
-            Who::Uid(uid) => who.uid == uid,
-            Who::Gid(gid) => who.gids.contains(&gid),
-        };
-        let matching = self.connect.iter().enumerate().filter(|(_, rule)| matches(rule));
-        highest(matching.map(|(place, rule)| (place, rule.context)))
-            .is_some_and(|place| self.connect[place].verdict == Verdict::Allow)
+    pub fn connect(&self, who: Credentials) -> Decision {
+        decide(&self.connect, |rule| (rule.context, rule.verdict), |rule| rule.matches(who))
     }
 
-    pub fn allows_own(&self, who: Credentials, name: &str) -> bool {
-        let matches = |rule: &OwnRule| rule.context.fits(who) && rule.name.matches(name);
-        let matching = self.own.iter().enumerate().filter(|(_, rule)| matches(rule));
-        highest(matching.map(|(place, rule)| (place, rule.context)))
-            .is_some_and(|place| self.own[place].verdict == Verdict::Allow)
+    pub fn own(&self, who: Credentials, name: &str) -> Decision {
+        decide(&self.own, |rule| (rule.context, rule.verdict), |rule| rule.matches(who, name))
     }
 
     /// `who` are the credentials of the sender, `names` those that the receiver owns.
-    pub fn allows_send(&self, who: Credentials, names: &[String], message: &Header) -> bool {
-        self.allows(Question { direction: Direction::Send, who, names }, message)
+    pub fn send(&self, who: Credentials, names: &[String], message: &Header) -> Decision {
+        self.transaction(Question { direction: Direction::Send, who, names }, message)
     }
 
     /// `who` are the credentials of the receiver, `names` those that the sender owns.
-    pub fn allows_receive(&self, who: Credentials, names: &[String], message: &Header) -> bool {
-        self.allows(Question { direction: Direction::Receive, who, names }, message)
+    pub fn receive(&self, who: Credentials, names: &[String], message: &Header) -> Decision {
+        self.transaction(Question { direction: Direction::Receive, who, names }, message)
     }
 
-    pub fn allows(&self, question: Question, message: &Header) -> bool {
-        self.deciding(question, message)
-            .is_some_and(|place| self.transaction[place].verdict == Verdict::Allow)
+    pub fn transaction(&self, question: Question, message: &Header) -> Decision {
+        decide(&self.transaction, |rule| (rule.context, rule.verdict), |rule| rule.matches(question, message))
     }
+}
 
-    /// The place of the transaction rule that decides, if there is one.
-    pub fn deciding(&self, question: Question, message: &Header) -> Option<usize> {
-        let matching =
-            self.transaction.iter().enumerate().filter(|(_, rule)| rule.matches(question, message));
-        highest(matching.map(|(place, rule)| (place, rule.context)))
+impl ConnectRule {
+    pub fn matches(&self, who: Credentials) -> bool {
+        match self.who {
+            Who::Any => true,
+            Who::Uid(uid) => who.uid == uid,
+            Who::Gid(gid) => who.gids.contains(&gid),
+        }
+    }
+}
+
+impl OwnRule {
+    pub fn matches(&self, who: Credentials, name: &str) -> bool {
+        self.context.fits(who) && self.name.matches(name)
     }
 }
 

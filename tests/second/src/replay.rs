@@ -2,9 +2,9 @@
 
 use crate::answer::{Answer, Receiver};
 use crate::capture::{self, Call};
-use crate::guard::{Connected, Disconnected, Guard, Judged, LentPolicy};
+use crate::guard::{Connected, Disconnected, Guard, Judged, LentPolicy, Owned};
 use crate::image;
-use crate::policy::Policy;
+use crate::policy::{Decision, Policy};
 use crate::tally::{Counts, Tally};
 
 /// What one call came back with.
@@ -12,7 +12,7 @@ use crate::tally::{Counts, Tally};
 pub enum Outcome {
     Start(Answer),
     Connect(Connected),
-    Own(Answer),
+    Own(Owned),
     Release(Answer),
     Piece(Judged),
     Disconnect(Disconnected),
@@ -34,7 +34,8 @@ pub fn run(guard: &mut Guard, policy: LentPolicy, call: &Call) -> Outcome {
 impl Outcome {
     pub fn answer(&self) -> Answer {
         match self {
-            Outcome::Start(answer) | Outcome::Own(answer) | Outcome::Release(answer) => *answer,
+            Outcome::Start(answer) | Outcome::Release(answer) => *answer,
+            Outcome::Own(owned) => owned.answer,
             Outcome::Connect(connected) => connected.answer,
             Outcome::Piece(judged) => judged.answer,
             Outcome::Disconnect(disconnected) => disconnected.answer,
@@ -52,17 +53,40 @@ impl Outcome {
         }
     }
 
+    /// What the answer shows of the rules; some calls are never decided by one.
+    pub fn decider(&self) -> Option<Decision> {
+        match self {
+            Outcome::Start(_) | Outcome::Release(_) | Outcome::Disconnect(_) => None,
+            Outcome::Connect(connected) => connected.decider,
+            Outcome::Own(owned) => owned.decider,
+            Outcome::Piece(judged) => judged.decider,
+        }
+    }
+
     pub fn line(&self) -> String {
         let start = format!("{} {}", self.call_name(), self.answer().number());
+        let (shown, position) = decider_numbers(self.decider());
         match self {
-            Outcome::Start(_) | Outcome::Own(_) | Outcome::Release(_) => start,
-            Outcome::Connect(connected) => format!("{start} {} {}", connected.number, connected.slot),
+            Outcome::Start(_) | Outcome::Release(_) => start,
+            Outcome::Connect(connected) => {
+                format!("{start} {} {} {shown} {position}", connected.number, connected.slot)
+            }
+            Outcome::Own(_) => format!("{start} {shown} {position}"),
             Outcome::Piece(judged) => {
                 let (kind, value, count) = receiver_numbers(judged.receiver);
-                format!("{start} {} {kind} {value} {count}", judged.taken)
+                format!("{start} {} {kind} {value} {count} {shown} {position}", judged.taken)
             }
             Outcome::Disconnect(disconnected) => format!("{start} {}", disconnected.bytes),
         }
+    }
+}
+
+/// Nothing shown, a rule with its position, or that none matched.
+fn decider_numbers(decider: Option<Decision>) -> (u32, usize) {
+    match decider {
+        None => (0, 0),
+        Some(Decision::Rule { position, .. }) => (1, position),
+        Some(Decision::NoneMatched) => (2, 0),
     }
 }
 

@@ -63,7 +63,7 @@ impl Tally {
     pub fn see(&mut self, call: &Call, outcome: &Outcome) {
         match (call, outcome) {
             (Call::Start, _) => *self = Tally::default(),
-            (_, Outcome::Connect(Connected { answer: Answer::Done, number, slot })) => {
+            (_, Outcome::Connect(Connected { answer: Answer::Done, number, slot, .. })) => {
                 self.sheets[*slot].number = *number;
             }
             (Call::Disconnect { peer }, Outcome::Disconnect(left)) if left.answer == Answer::Done => {

@@ -3,7 +3,6 @@
 mod common;
 
 use common::{Bench, OPEN};
-use second::answer::Receiver;
 use second::message::Message;
 use second::policy_text;
 use second::signature::is_signature;
@@ -33,45 +32,46 @@ fn call_c_is_what_the_builder_makes() {
 #[test]
 fn t1_and_t2() {
     let mut bench = Bench::with_peers(OPEN, 1);
-    assert_eq!(bench.answers(1, &[]), (10, 0));
-    assert_eq!(bench.answers(1, &CALL_C[..15]), (10, 15));
-    assert_eq!(bench.answers(1, &[]), (10, 0));
-    assert_eq!(bench.answers(1, &CALL_C[15..]), (0, 33));
+    assert_eq!(bench.piece_line(1, &[]), "piece 10 0 0 0 0 0 0");
+    assert_eq!(bench.piece_line(1, &CALL_C[..15]), "piece 10 15 0 0 0 0 0");
+    assert_eq!(bench.piece_line(1, &[]), "piece 10 0 0 0 0 0 0");
+    assert_eq!(bench.piece_line(1, &CALL_C[15..]), "piece 0 33 1 0 0 1 0");
 }
 
 #[test]
 fn t3_and_t4() {
     let mut denied = Bench::with_peers(NO_TRANSACTIONS, 1);
-    assert_eq!(denied.answers(1, &CALL_C), (22, 48));
+    assert_eq!(denied.piece_line(1, &CALL_C), "piece 22 48 0 0 0 2 0");
     let mut allowed = Bench::with_peers(&format!("{NO_TRANSACTIONS}\ntransaction default allow send any"), 1);
-    let judged = allowed.piece(1, &CALL_C);
-    assert_eq!((judged.answer.number(), judged.taken, judged.receiver), (0, 48, Receiver::Bus));
+    assert_eq!(allowed.piece_line(1, &CALL_C), "piece 0 48 1 0 0 1 0");
 }
 
 #[test]
 fn t5() {
     let mut broken = CALL_C;
     broken[0] = 0x4c;
-    assert_eq!(Bench::with_peers(OPEN, 1).answers(1, &broken), (1, 16));
+    assert_eq!(Bench::with_peers(OPEN, 1).piece_line(1, &broken), "piece 1 16 0 0 0 0 0");
 }
 
 #[test]
 fn t6() {
-    assert_eq!(Bench::with_peers(OPEN, 1).answers(1, &fixed(1, 0, 2_032)), (10, 16));
-    assert_eq!(Bench::with_peers(OPEN, 1).answers(1, &fixed(1, 0, 2_033)), (5, 16));
+    let line = |array| Bench::with_peers(OPEN, 1).piece_line(1, &fixed(1, 0, array));
+    assert_eq!(line(2_032), "piece 10 16 0 0 0 0 0");
+    assert_eq!(line(2_033), "piece 5 16 0 0 0 0 0");
 }
 
 #[test]
 fn t7() {
-    assert_eq!(Bench::with_peers(OPEN, 1).answers(1, &fixed(5, 134_217_712, 0)), (10, 16));
-    assert_eq!(Bench::with_peers(OPEN, 1).answers(1, &fixed(5, 134_217_713, 0)), (6, 16));
+    let line = |body| Bench::with_peers(OPEN, 1).piece_line(1, &fixed(5, body, 0));
+    assert_eq!(line(134_217_712), "piece 10 16 0 0 0 0 0");
+    assert_eq!(line(134_217_713), "piece 6 16 0 0 0 0 0");
 }
 
 #[test]
 fn t8() {
     let rules = "transaction mandatory deny send any\ntransaction user 1000 allow send any";
     let mut bench = Bench::with_peers(&format!("{NO_TRANSACTIONS}\n{rules}"), 1);
-    assert_eq!(bench.answers(1, &CALL_C), (22, 48));
+    assert_eq!(bench.piece_line(1, &CALL_C), "piece 22 48 0 0 0 1 0");
 }
 
 #[test]
@@ -82,9 +82,9 @@ fn t9() {
     assert!(matcher.matches("org.foo.bar"));
     assert!(!matcher.matches("org.foobar"));
     let mut bench = Bench::with_peers("connect default allow any\nown default allow prefix org.foo", 1);
-    assert_eq!(bench.own(1, "org.foo"), 0);
-    assert_eq!(bench.own(1, "org.foo.bar"), 0);
-    assert_eq!(bench.own(1, "org.foobar"), 32);
+    assert_eq!(bench.own_line(1, "org.foo"), "own 0 1 0");
+    assert_eq!(bench.own_line(1, "org.foo.bar"), "own 0 1 0");
+    assert_eq!(bench.own_line(1, "org.foobar"), "own 32 2 0");
 }
 
 #[test]
@@ -100,31 +100,44 @@ fn t10_and_t11() {
     assert!(!is_signature(arrays(33).as_bytes()));
 }
 
+/// A signature stands in a head: where it is good, a message of type 5 is dropped with 20.
+#[test]
+fn t10_and_t11_in_a_head() {
+    let line =
+        |signature: &str| Bench::with_peers(OPEN, 1).message_line(1, Message::new(5, 1).signature(signature));
+    assert_eq!(line(""), "piece 20 24 0 0 0 0 0");
+    assert_eq!(line("a{sv}"), "piece 20 32 0 0 0 0 0");
+    assert_eq!(line("{sv}"), "piece 8 32 0 0 0 0 0");
+    assert_eq!(line(&("a".repeat(32) + "y")), "piece 20 56 0 0 0 0 0");
+    assert_eq!(line(&("a".repeat(33) + "y")), "piece 8 56 0 0 0 0 0");
+}
+
 #[test]
 fn t12() {
     let rules = "transaction default allow send any name=org.a.x
         transaction default deny send any name=org.b.y
         transaction default allow receive any";
     let mut bench = Bench::with_peers(&format!("{NO_TRANSACTIONS}\n{rules}"), 2);
-    assert_eq!(bench.own(2, "org.a.x"), 0);
-    assert_eq!(bench.sends(1, Message::call(1, "/", "M").to("org.a.x")), 0);
-    assert_eq!(bench.own(2, "org.b.y"), 0);
-    assert_eq!(bench.sends(1, Message::call(2, "/", "M").to("org.a.x")), 22);
-    assert_eq!(bench.sends(1, Message::call(2, "/", "M").to("org.b.y")), 22);
-    assert_eq!(bench.sends(1, Message::call(2, "/", "M").to(":1.2")), 22);
+    let call = |serial, to: &str| Message::call(serial, "/", "M").to(to);
+    assert_eq!(bench.own_line(2, "org.a.x"), "own 0 1 0");
+    assert_eq!(bench.message_line(1, call(1, "org.a.x")), "piece 0 64 2 2 0 1 2");
+    assert_eq!(bench.own_line(2, "org.b.y"), "own 0 1 0");
+    for to in ["org.a.x", "org.b.y", ":1.2"] {
+        assert_eq!(bench.message_line(1, call(2, to)), "piece 22 64 0 0 0 1 1");
+    }
 }
 
 #[test]
 fn run_line() {
     let mut bench = Bench::with_peers(OPEN, 2);
+    let call = |serial| Message::call(serial, "/", "M").to(":1.2");
     for serial in 1..=16 {
-        let sent = bench.send(1, Message::call(serial, "/", "M").to(":1.2"));
-        assert_eq!(sent, (0, Receiver::Peer(2)));
+        assert_eq!(bench.message_line(1, call(serial)), "piece 0 64 2 2 0 1 1");
     }
-    assert_eq!(bench.sends(1, Message::call(17, "/", "M").to(":1.2")), 26);
+    assert_eq!(bench.message_line(1, call(17)), "piece 26 64 0 0 0 1 1");
     let reply = || Message::method_return(9, 3).to(":1.1");
-    assert_eq!(bench.send(2, reply()), (0, Receiver::Peer(1)));
-    assert_eq!(bench.sends(2, reply()), 24);
-    assert_eq!(bench.sends(1, Message::call(17, "/", "M").to(":1.2")), 0);
-    assert_eq!(bench.sends(1, Message::call(18, "/", "M").to(":1.2")), 26);
+    assert_eq!(bench.message_line(2, reply()), "piece 0 40 2 1 0 0 0");
+    assert_eq!(bench.message_line(2, reply()), "piece 24 40 0 0 0 0 0");
+    assert_eq!(bench.message_line(1, call(17)), "piece 0 64 2 2 0 1 1");
+    assert_eq!(bench.message_line(1, call(18)), "piece 26 64 0 0 0 1 1");
 }

@@ -30,16 +30,16 @@ fn sample() -> Capture {
 }
 
 const LINES: &str = "start 0
-connect 0 1 0
-connect 37 0 0
-own 0
-own 31
+connect 0 1 0 1 0
+connect 37 0 0 0 0
+own 0 1 0
+own 31 0 0
 release 35
-piece 0 48 1 0 0
-piece 0 64 2 1 0
-piece 0 64 3 1 1
-piece 10 7 0 0 0
-piece 30 0 0 0 0
+piece 0 48 1 0 0 1 0
+piece 0 64 2 1 0 1 1
+piece 0 64 3 1 1 0 0
+piece 10 7 0 0 0 0 0
+piece 30 0 0 0 0 0 0
 disconnect 0 7
 disconnect 30 0
 ";
@@ -103,14 +103,17 @@ fn broken_layout() {
         }
     }
     assert_eq!(one_call(0, &[]), "start 0\nstart 0\n");
-    assert_eq!(one_call(4, &[0; 4]), "start 0\npiece 30 0 0 0 0\n");
+    assert_eq!(one_call(4, &[0; 4]), "start 0\npiece 30 0 0 0 0 0 0\n");
 }
 
 #[test]
 fn a_bad_image_is_no_layout_breach() {
     let bad = Capture { image: b"no image".to_vec(), ..sample() };
-    let expected = "start 0\nconnect 50 0 0\nconnect 50 0 0\nown 50\nown 50\nrelease 30\n".to_string()
-        + &"piece 50 0 0 0 0\n".repeat(5)
+    let expected = "start 0\n".to_string()
+        + &"connect 50 0 0 0 0\n".repeat(2)
+        + &"own 50 0 0\n".repeat(2)
+        + "release 30\n"
+        + &"piece 50 0 0 0 0 0 0\n".repeat(5)
         + &"disconnect 30 0\n".repeat(2);
     assert_eq!(replay(&capture::write(&bad)), expected);
     let empty = Capture { image: Vec::new(), ..bad };

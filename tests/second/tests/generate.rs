@@ -121,6 +121,20 @@ fn unknown_fields_in_each_mode() {
     }
 }
 
+/// That cutting changes nothing of what messages show is seen only where they show all there is.
+#[test]
+fn pairs_show_rules() {
+    let mut coverage = Coverage::default();
+    for seed in 1..=89 {
+        let (whole, split) = generate_pair(seed, 120);
+        coverage.add(&whole);
+        coverage.add(&split);
+    }
+    let is_shown = |case: &String| case.starts_with("shown ") && case.contains(", piece ");
+    let never: Vec<String> = coverage.never().into_iter().filter(is_shown).collect();
+    assert_eq!(never, ["shown nothing, piece 50"]);
+}
+
 #[test]
 fn every_answer_is_reached() {
     let mut coverage = Coverage::default();

@@ -68,7 +68,7 @@ fn last_number() {
 fn own_order_of_answers() {
     let rules = "connect default allow any\nown default allow any\nown mandatory deny prefix org.no";
     let mut bench = Bench::with_peers(rules, 2);
-    assert_eq!(bench.guard.own(None, 9, b"").number(), 50);
+    assert_eq!(bench.guard.own(None, 9, b"").answer.number(), 50);
     assert_eq!(bench.own(0, ""), 30);
     assert_eq!(bench.own(3, "org.a"), 30);
     let not_names = ["", "org", ":1.1", "org.1a", "org.freedesktop.DBus", "a..b"];

@@ -13,21 +13,21 @@ fn who(uid: u32, gids: &[Gid]) -> Credentials<'_> {
 #[test]
 fn no_rule_means_deny() {
     let empty = policy("");
-    assert!(!empty.allows_connect(who(0, &[])));
-    assert!(!empty.allows_own(who(0, &[]), "a.b"));
+    assert!(!empty.connect(who(0, &[])).allows());
+    assert!(!empty.own(who(0, &[]), "a.b").allows());
 }
 
 #[test]
 fn connect_matchers() {
     let rules = policy("connect default allow uid 7\nconnect default allow gid 8");
-    assert!(rules.allows_connect(who(7, &[])));
-    assert!(!rules.allows_connect(who(8, &[])));
-    assert!(rules.allows_connect(who(1, &[Gid(1), Gid(8)])));
-    assert!(!rules.allows_connect(who(1, &[Gid(7)])));
+    assert!(rules.connect(who(7, &[])).allows());
+    assert!(!rules.connect(who(8, &[])).allows());
+    assert!(rules.connect(who(1, &[Gid(1), Gid(8)])).allows());
+    assert!(!rules.connect(who(1, &[Gid(7)])).allows());
     let later =
         policy("connect mandatory deny any\nconnect mandatory allow uid 1\nconnect default allow any");
-    assert!(later.allows_connect(who(1, &[])));
-    assert!(!later.allows_connect(who(2, &[])));
+    assert!(later.connect(who(1, &[])).allows());
+    assert!(!later.connect(who(2, &[])).allows());
 }
 
 #[test]
@@ -42,28 +42,28 @@ fn contexts_outrank_places() {
     );
     let both = [Gid(1)];
     for name in ["a.mandatory", "a.user", "a.group"] {
-        assert!(!rules.allows_own(who(1, &both), name), "{name}");
+        assert!(!rules.own(who(1, &both), name).allows(), "{name}");
     }
-    assert!(rules.allows_own(who(1, &both), "a.other"));
-    assert!(rules.allows_own(who(1, &[]), "a.group"));
-    assert!(rules.allows_own(who(2, &both), "a.user"));
-    assert!(!rules.allows_own(who(2, &[]), "a.mandatory"));
+    assert!(rules.own(who(1, &both), "a.other").allows());
+    assert!(rules.own(who(1, &[]), "a.group").allows());
+    assert!(rules.own(who(2, &both), "a.user").allows());
+    assert!(!rules.own(who(2, &[]), "a.mandatory").allows());
 }
 
 #[test]
 fn groups_compete_by_image_order() {
     let rules = policy("own group 2 allow any\nown group 1 deny any");
-    assert!(!rules.allows_own(who(0, &[Gid(1), Gid(2)]), "a.b"));
-    assert!(!rules.allows_own(who(0, &[Gid(2), Gid(1)]), "a.b"));
-    assert!(rules.allows_own(who(1, &[Gid(2)]), "a.b"));
+    assert!(!rules.own(who(0, &[Gid(1), Gid(2)]), "a.b").allows());
+    assert!(!rules.own(who(0, &[Gid(2), Gid(1)]), "a.b").allows());
+    assert!(rules.own(who(1, &[Gid(2)]), "a.b").allows());
 }
 
 #[test]
 fn uid_and_gid_never_meet() {
     let rules = policy("own user 5 allow any\nown group 6 allow any");
-    assert!(!rules.allows_own(who(6, &[Gid(5)]), "a.b"));
-    assert!(rules.allows_own(who(5, &[]), "a.b"));
-    assert!(rules.allows_own(who(0, &[Gid(6)]), "a.b"));
+    assert!(!rules.own(who(6, &[Gid(5)]), "a.b").allows());
+    assert!(rules.own(who(5, &[]), "a.b").allows());
+    assert!(rules.own(who(0, &[Gid(6)]), "a.b").allows());
 }
 
 /// Sends one message from peer 1, who owns org.from, to peer 2, who owns org.to.

@@ -5,7 +5,7 @@
 
 use second::header::{Header, METHOD_CALL, SIGNAL};
 use second::image;
-use second::policy::{Credentials, Gid, Policy, Uid};
+use second::policy::{Credentials, Decision, Gid, Policy, Uid, Verdict};
 use second::wire::{ByteOrder, FixedPart};
 
 const VECTORS: &str = concat!(env!("CARGO_MANIFEST_DIR"), "/../../crates/policy_vectors/stdout");
@@ -155,29 +155,40 @@ fn without_interface(message: Header) -> Header {
     Header { fixed, interface: None, ..message }
 }
 
+/// A dot where no rule matched, else the letter of the rule's position: upper case where it
+/// allows, lower case where it denies.
+fn character(decision: Decision) -> char {
+    let letter = |first: u8, position: usize| char::from(first + position as u8);
+    match decision {
+        Decision::NoneMatched => '.',
+        Decision::Rule { position, verdict: Verdict::Allow } => letter(b'A', position),
+        Decision::Rule { position, verdict: Verdict::Deny } => letter(b'a', position),
+    }
+}
+
 /// Who may connect, who may own what, and what may be sent and received, as it is and without
-/// an interface: one digit each.
+/// an interface: one character each.
 fn line_of(policy: &Policy, seed: usize) -> String {
     let gids = [Gid(6), Gid(8)];
     let users = [5, 6, 7].map(|uid| Credentials { uid: Uid(uid), gids: &gids });
-    let mut answers: Vec<bool> = users.iter().map(|&who| policy.allows_connect(who)).collect();
+    let mut decisions: Vec<Decision> = users.iter().map(|&who| policy.connect(who)).collect();
     for name in ["org.foo", "org.foo.bar", "foo.bar", "org.foobar"] {
-        answers.extend(users.iter().map(|&who| policy.allows_own(who, name)));
+        decisions.extend(users.iter().map(|&who| policy.own(who, name)));
     }
     let names = names_of(seed);
-    let mut passes: [Vec<bool>; 4] = Default::default();
+    let mut passes: [Vec<Decision>; 4] = Default::default();
     for at in (0..12).map(|question| 2000 + 16 * question) {
         let id = |place: usize| 5 + choice(seed, place, 3) as u32;
         let gids = [Gid(id(at + 5)), Gid(8)];
         let who = Credentials { uid: Uid(id(at + 4)), gids: &gids };
         let message = message_of(seed, at);
         let bare = without_interface(message.clone());
-        passes[0].push(policy.allows_send(who, &names, &message));
-        passes[1].push(policy.allows_receive(who, &names, &message));
-        passes[2].push(policy.allows_send(who, &names, &bare));
-        passes[3].push(policy.allows_receive(who, &names, &bare));
+        passes[0].push(policy.send(who, &names, &message));
+        passes[1].push(policy.receive(who, &names, &message));
+        passes[2].push(policy.send(who, &names, &bare));
+        passes[3].push(policy.receive(who, &names, &bare));
     }
-    answers.into_iter().chain(passes.concat()).map(|allows| if allows { '1' } else { '0' }).collect()
+    decisions.into_iter().chain(passes.concat()).map(character).collect()
 }
 
 #[test]

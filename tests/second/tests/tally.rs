@@ -241,7 +241,7 @@ fn a_bad_image_admits_nothing() {
     let calls = after_connects(2, vec![call(1, 2, 7), leave(1)]);
     let file = capture::write(&Capture { image: b"no image".to_vec(), calls });
     assert_eq!(replay_with_waits(&file), replay(&file));
-    assert!(replay(&file).contains("piece 50 0 0 0 0\n"));
+    assert!(replay(&file).contains("piece 50 0 0 0 0 0 0\n"));
 }
 
 #[test]
@@ -250,7 +250,7 @@ fn a_broken_capture_has_no_waits() {
     let mut file = capture::write(&Capture { image: image_of(OPEN), calls });
     file.push(0);
     assert_eq!(replay_with_waits(&file), replay(&file));
-    assert!(replay(&file).ends_with("piece 0 64 2 2 0\nbad capture\n"));
+    assert!(replay(&file).ends_with("piece 0 64 2 2 0 1 1\nbad capture\n"));
     assert_eq!(replay_with_waits(&[]), "bad capture\n");
 }
 
@@ -298,7 +298,7 @@ fn the_option() {
         let done = std::process::Command::new(env!("CARGO_BIN_EXE_second")).args(arguments).output();
         String::from_utf8(done.expect("it runs").stdout).expect("text")
     };
-    let lines = "connect 0 1 0\nconnect 0 2 1\npiece 0 64 2 2 0\n";
+    let lines = "connect 0 1 0 1 0\nconnect 0 2 1 1 0\npiece 0 64 2 2 0 1 1\n";
     assert_eq!(printed(&[path]), lines);
     assert_eq!(printed(&["--waits", path]), format!("{lines}waits 1 1 1 0 0\nwaits 2 0 0 0 0\n"));
     assert_eq!(printed(&["--waits", "no such file"]), "bad capture\n");

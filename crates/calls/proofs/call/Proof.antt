@@ -17,6 +17,7 @@ call-spec =
     (λ c κs. search calling)
     (λ c κs. search calling)
     (λ c. search calling)
+    (λ c κs. search calling)
     (λ c. search calling)
     (λ c. search calling)
     (λ c. search calling)

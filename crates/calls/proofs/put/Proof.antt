@@ -15,6 +15,8 @@ put-spec =
     (λ c. search putting)
     (λ c. search putting)
     (λ c. search putting)
+    (λ c. search putting)
+    (λ c. search putting)
     (λ c κs. search putting)
     (λ c. search putting)
     (λ c. search putting))

@@ -10,7 +10,9 @@ own-spec =
     tie.close
     (tie.spec
     (λ c κs. search calls)
+    (λ c κs. search calls)
     (λ c. search calls)
+    (λ c κs. search calls)
     (λ c κs. search calls)
     (λ c. search calls)
     (λ c. search calls)

@@ -11,4 +11,5 @@ ask-spec =
     (λ c. search asking)
     (λ c. search asking)
     (λ c κs. search asking)
+    (λ c κs. search asking)
     (λ c. search asking))

@@ -11,5 +11,6 @@ to-bus-spec =
     (λ c. search to-bus)
     (λ c κs. search to-bus)
     (λ c κs. search to-bus)
+    (λ c κs. search to-bus)
     (λ c. search to-bus)
     (λ c. search to-bus))

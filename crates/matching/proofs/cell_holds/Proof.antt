@@ -8,8 +8,6 @@ cell-holds-spec =
     tie.close
     (tie.spec
     (λ c. search cuts)
-    (λ c. search cuts)
-    (λ c. search cuts)
     (λ c κs. search cuts)
     (λ c. search cuts)
     (λ c. search cuts)

@@ -7,11 +7,14 @@ pub connect-spec : {M : Type 1} → statement M
 connect-spec =
     tie.close
     (tie.spec
+    (λ c κs. search connecting)
     (λ c. search connecting)
+    (λ c κs. search connecting)
+    (λ c κs. search connecting)
+    (λ c κs. search connecting)
+    (λ c κs. search connecting)
     (λ c. search connecting)
-    (λ c. search connecting)
-    (λ c. search connecting)
-    (λ c. search connecting)
-    (λ c. search connecting)
+    (λ c κs. search connecting)
+    (λ c κs. search connecting)
     (λ c. search connecting)
     (λ c. search connecting))

@@ -1,5 +1,6 @@
 //! Seeded captures that reach every answer a test can reach.
 
+mod deciders;
 mod faults;
 mod full;
 mod images;

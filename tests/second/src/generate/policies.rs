@@ -1,7 +1,7 @@
 //! Random policies, from wide open to full sections.
 
 use super::random::Random;
-use super::{interfaces, vocabulary};
+use super::{deciders, interfaces, vocabulary};
 use crate::image::{MAX_CONNECT, MAX_LENGTH, MAX_OWN, MAX_TRANSACTION};
 use crate::image_write;
 use crate::policy::{
@@ -32,7 +32,10 @@ fn policy(random: &mut Random) -> Policy {
         18 => (true, 3, 8, 20),
         _ => (true, MAX_CONNECT - 1, MAX_OWN - 1, MAX_TRANSACTION - 2),
     };
-    let mut policy = open();
+    let mut policy = match random.chance(30) {
+        true => deciders::half_open(random),
+        false => open(),
+    };
     if !opens {
         // Somebody must connect, or nothing would happen; the rest is up to the rules.
         policy.own.clear();
@@ -41,7 +44,10 @@ fn policy(random: &mut Random) -> Policy {
     policy.connect.extend((0..connect).map(|_| connect_rule(random)));
     policy.own.extend((0..own).map(|_| own_rule(random)));
     policy.transaction.extend((0..transaction).map(|_| transaction_rule(random)));
+    // A policy that is open for some has more than one rule about connecting to begin with.
+    policy.connect.truncate(MAX_CONNECT);
     add_interface_rules(random, &mut policy);
+    deciders::rearrange(random, &mut policy);
     policy
 }
 
@@ -60,17 +66,16 @@ fn add_interface_rules(random: &mut Random, policy: &mut Policy) {
 pub fn open_image(random: &mut Random) -> (Policy, Vec<u8>) {
     let mut policy = open();
     if random.chance(50) {
-        // The rules that decide stand first or last among many that never match.
-        let first = random.chance(50);
-        let (own, transaction) = (policy.own.clone(), policy.transaction.clone());
-        policy.own = vec![own_rule(random); MAX_OWN - 1];
-        policy.transaction = vec![transaction_rule(random); MAX_TRANSACTION - 2];
-        let no_peer = Context::User(Uid(77));
-        policy.own.iter_mut().for_each(|rule| rule.context = no_peer);
-        policy.transaction.iter_mut().for_each(|rule| rule.context = no_peer);
-        let at = |length: usize| if first { 0 } else { length };
-        policy.own.splice(at(MAX_OWN - 1)..at(MAX_OWN - 1), own);
-        policy.transaction.splice(at(MAX_TRANSACTION - 2)..at(MAX_TRANSACTION - 2), transaction);
+        policy.transaction.swap(0, 1);
+    }
+    if random.chance(60) {
+        // The rules that decide stand last, or first, among many that never match.
+        deciders::pad(&mut policy);
+        if random.chance(40) {
+            policy.connect.rotate_right(1);
+            policy.own.rotate_right(1);
+            policy.transaction.rotate_right(2);
+        }
     }
     let image = image_write::write(&policy).unwrap_or_default();
     (policy, image)

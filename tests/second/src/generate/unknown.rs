@@ -39,7 +39,8 @@ fn variant(random: &mut Random) -> Typed {
             values::deep(random, open)
         }
         3 => Typed::variant(values::long(random)),
-        4..=15 => Typed::variant(values::value(random, 0)),
+        4 => Typed::variant(values::wide(random)),
+        5..=15 => Typed::variant(values::value(random, 0)),
         _ => {
             let depth = random.between(1, 4);
             Typed::variant(values::value(random, depth))

@@ -129,6 +129,13 @@ pub fn long(random: &mut Random) -> Typed {
     Typed::Struct(letters.into_iter().map(|letter| number(random, letter)).collect())
 }
 
+/// More containers than may be open at once, one behind the other, so that few are.
+pub fn wide(random: &mut Random) -> Typed {
+    let empty = Typed::Array(b"y".to_vec(), Vec::new());
+    let one = random.pick(&[Typed::variant(BYTE), Typed::Struct(vec![BYTE]), empty]);
+    Typed::array(vec![one; random.between(64, 90)])
+}
+
 /// How far one signature has come, counted from its inside.
 #[derive(Default)]
 struct Nest {

@@ -1,7 +1,7 @@
 //! The peers of a generated capture: what they do next, and what they still have to send.
 
 use super::random::Random;
-use super::{faults, interfaces, messages, talks, vocabulary};
+use super::{deciders, faults, interfaces, messages, talks, vocabulary};
 use crate::capture::Call;
 use crate::guard::Guard;
 use crate::message::Message;
@@ -66,6 +66,7 @@ impl World {
             16..=75 => self.own_or_release(),
             76..=77 => self.own_too_much(),
             78..=81 => talks::talk(self),
+            82..=93 => self.own_what_rules_name(),
             _ if peers == 0 && self.random.chance(30) => self.call_for_a_stranger(),
             _ if peers == 0 || self.random.chance(connect) => self.connect(),
             _ if self.random.chance(disconnect) => self.disconnect_someone(),
@@ -146,6 +147,19 @@ impl World {
         let peer = self.any_peer();
         for index in 0..5 {
             self.call(Call::Own { peer, name: format!("org.foo.p{peer}.n{index}").into_bytes() });
+        }
+    }
+
+    /// Several names for one peer: one of its own, then names that transaction rules are about.
+    fn own_what_rules_name(&mut self) {
+        let peer = self.any_peer();
+        let rules = self.policy.iter().flat_map(|policy| &policy.transaction);
+        let mut names: Vec<String> = rules.filter_map(|rule| rule.name.clone()).collect();
+        names.push(vocabulary::name(&mut self.random));
+        self.call(Call::Own { peer, name: format!("org.foo.p{peer}").into_bytes() });
+        for _ in 0..2 {
+            let name = self.random.pick(&names).into_bytes();
+            self.call(Call::Own { peer, name });
         }
     }
 
@@ -233,9 +247,10 @@ impl World {
     }
 
     fn good_message(&mut self, peer: u32) -> Message {
-        let aims = self.random.chance(20);
-        let aimed = match &self.policy {
-            Some(policy) if aims => interfaces::message(&mut self.random, &self.guard, policy),
+        let aim = self.random.below(100);
+        let aimed = match (&self.policy, aim) {
+            (Some(policy), 0..=19) => interfaces::message(&mut self.random, &self.guard, policy),
+            (Some(policy), 20..=34) => deciders::message(&mut self.random, &self.guard, policy, peer),
             _ => None,
         };
         let message = aimed.unwrap_or_else(|| messages::good(&mut self.random, &self.guard, peer));

@@ -2,10 +2,12 @@
 #![allow(dead_code)]
 
 use second::answer::{Answer, Receiver};
+use second::capture::Call;
 use second::guard::{Guard, Judged};
 use second::header::HeadFault;
 use second::message::Message;
 use second::policy::{Gid, Policy, Uid};
+use second::replay::run;
 use second::{image, image_write, policy_text};
 
 pub const OPEN: &str = "connect default allow any
@@ -54,7 +56,7 @@ impl Bench {
     }
 
     pub fn own(&mut self, peer: u32, name: &str) -> u32 {
-        self.guard.own(Some(&self.policy), peer, name.as_bytes()).number()
+        self.guard.own(Some(&self.policy), peer, name.as_bytes()).answer.number()
     }
 
     pub fn piece(&mut self, peer: u32, bytes: &[u8]) -> Judged {
@@ -80,6 +82,28 @@ impl Bench {
 
     pub fn sends(&mut self, peer: u32, message: Message) -> u32 {
         self.send(peer, message).0
+    }
+
+    /// The line that a call prints.
+    pub fn line(&mut self, call: Call) -> String {
+        run(&mut self.guard, Some(&self.policy), &call).line()
+    }
+
+    pub fn connect_line(&mut self, uid: u32, gids: &[u32]) -> String {
+        let gids = gids.iter().map(|&gid| Gid(gid)).collect();
+        self.line(Call::Connect { uid: Uid(uid), gids })
+    }
+
+    pub fn own_line(&mut self, peer: u32, name: &str) -> String {
+        self.line(Call::Own { peer, name: name.as_bytes().to_vec() })
+    }
+
+    pub fn piece_line(&mut self, peer: u32, bytes: &[u8]) -> String {
+        self.line(Call::Piece { peer, bytes: bytes.to_vec() })
+    }
+
+    pub fn message_line(&mut self, peer: u32, message: Message) -> String {
+        self.piece_line(peer, &message.bytes())
     }
 }
 

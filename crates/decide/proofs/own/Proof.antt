@@ -1,8 +1,8 @@
--- `decide::may_own` meets its contract.
+-- `decide::own` meets its contract.
 use Prim.Native.Nat.{_-_}
 use Rattle.decide.proofs.Decisions.{Owning, owning, own-found}
-use Rattle.decide.proofs.may_own.Statement.{statement}
-use Rattle.decide.proofs.may_own.Tie as tie
+use Rattle.decide.proofs.own.Statement.{statement}
+use Rattle.decide.proofs.own.Tie as tie
 
 abbrev Inv-loop : tie.InvT-loop
 Inv-loop image uid gids name base end context at₀ at = Owning image uid gids name base end context at
@@ -16,8 +16,8 @@ Inv-search image uid gids name base end context₀ context = Owning image uid gi
 abbrev μ-search : tie.MeasureT-search
 μ-search image uid gids name base end context₀ context = context
 
-pub may-own-spec : {M : Type 1} → statement M
-may-own-spec =
+pub own-spec : {M : Type 1} → statement M
+own-spec =
     tie.close
     (tie.spec
     Inv-loop
@@ -36,11 +36,13 @@ may-own-spec =
     (λ c. search owning)
     (λ c. search owning)
     (λ c. search owning)
+    (λ c κs. search owning)
     (λ c. search owning)
     (λ c. search owning)
     (λ c. search owning)
     (λ c. search owning)
     (λ c. search owning)
     (λ c. search owning)
-    (λ c. search (own-found _ _ _ (c .before .before .before .before .before .before .loop .inv)))
+    (λ c. search owning)
+    (λ c. search owning)
     (λ c. search owning))

@@ -1,8 +1,8 @@
--- `decide::may_connect` meets its contract.
+-- `decide::connect` meets its contract.
 use Prim.Native.Nat.{_-_}
 use Rattle.decide.proofs.Decisions.{Connecting, connecting, connect-found}
-use Rattle.decide.proofs.may_connect.Statement.{statement}
-use Rattle.decide.proofs.may_connect.Tie as tie
+use Rattle.decide.proofs.connect.Statement.{statement}
+use Rattle.decide.proofs.connect.Tie as tie
 
 abbrev Inv-loop : tie.InvT-loop
 Inv-loop image uid gids base end context at₀ at = Connecting image uid gids base end context at
@@ -16,8 +16,8 @@ Inv-search image uid gids base end context₀ context = Connecting image uid gid
 abbrev μ-search : tie.MeasureT-search
 μ-search image uid gids base end context₀ context = context
 
-pub may-connect-spec : {M : Type 1} → statement M
-may-connect-spec =
+pub connect-spec : {M : Type 1} → statement M
+connect-spec =
     tie.close
     (tie.spec
     Inv-loop
@@ -36,11 +36,13 @@ may-connect-spec =
     (λ c. search connecting)
     (λ c. search connecting)
     (λ c. search connecting)
+    (λ c κs. search connecting)
     (λ c. search connecting)
     (λ c. search connecting)
     (λ c. search connecting)
     (λ c. search connecting)
     (λ c. search connecting)
     (λ c. search connecting)
-    (λ c. search (connect-found _ _ (c .before .before .before .before .before .before .loop .inv)))
+    (λ c. search connecting)
+    (λ c. search connecting)
     (λ c. search connecting))
