@@ -28,7 +28,7 @@ ghost use Rattle.decide.specs.Contracts.{Asked};
 
 // ---- a decision in one number, which costs a search nothing to hand back
 
-// No rule decides. An image has not so many bytes, so no rule has this number.
+// No rule decides. A section has at most 512 rules, so no rule has this number.
 const NOBODY: usize = 65536;
 
 // What a rule decides that stands so far behind the begin of its section. Its position is counted here, and nowhere on the way.
