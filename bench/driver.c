@@ -10,6 +10,7 @@
 #include <time.h>
 #include <valgrind/callgrind.h>
 
+#include "calls.h"
 #include "states.h"
 
 enum { ROUNDS = 25 };
@@ -91,7 +92,7 @@ static uint64_t decide(const struct job *j) { return decide_by(j, places); }
 static uint64_t decide_bare(const struct job *j) { return decide_by(j, bare); }
 
 static uint64_t one_piece(const struct job *j, uint32_t peer, const unsigned char *at, size_t len) {
-    return bench_piece(j->image.at, j->image.len, j->memory.at, j->memory.len, peer, at, len);
+    return guard_piece(j->image, j->memory, peer, at, len);
 }
 
 static uint64_t piece(const struct job *j) { return one_piece(j, 2, j->a.at, j->a.len); }
@@ -119,10 +120,19 @@ static uint64_t call_and_return(const struct job *j) {
 }
 
 static uint64_t own_again(const struct job *j) {
-    return bench_own(j->image.at, j->image.len, j->memory.at, j->memory.len, 1, (const uint8_t *)NAME, strlen(NAME));
+    return guard_own(j->image, j->memory, 1, NAME, strlen(NAME));
 }
 
-static uint64_t start(const struct job *j) { return bench_start(j->memory.at, j->memory.len); }
+static uint64_t start(const struct job *j) { return guard_start(j->memory); }
+
+enum { LONGEST_BATCH = 256 };
+static uint8_t room[LONGEST_BATCH][PLACE];
+
+// As many messages as there are places: how many were written, and what the last one tells. The bytes taken in all are looked at too.
+static uint64_t batch(const struct job *j) {
+    size_t taken, wrote = aygeshunt_batch(j->image.at, j->image.len, j->memory.at, j->memory.len, 2, j->a.at, j->a.len, room[0], sizeof room, &taken);
+    return taken == j->a.len && wrote == (size_t)j->n ? told(room[wrote - 1]) : ~0ULL;
+}
 
 // ---- the jobs of each kind
 
@@ -208,6 +218,28 @@ static void memory(const char *work, struct bytes m) {
 static void guarded(const char *work, uint64_t (*run)(const struct job *), uint64_t expect, struct bytes rules, struct bytes m, struct bytes a, int n) {
     struct job *j = add(work, "ours", run, expect);
     j->image = rules, j->memory = m, j->a = a, j->n = n;
+}
+
+// A message n times in one batch, each told of alike.
+static void batched(const char *of, int n, uint64_t expect, struct bytes rules, struct bytes m, struct bytes message) {
+    char work[96];
+    snprintf(work, sizeof work, "batch of %d, %s, each", n, of);
+    guarded(work, batch, expect, rules, m, in_a_row(message, n), n);
+    must(batch(&jobs[job_count - 1]) == expect, work);
+    for (int i = 0; i < n; i++) must(told(room[i]) == expect, work);
+}
+
+static void all_batches(struct bytes quiet, struct bytes signal) {
+    static const int lengths[] = {1, 32, 256};
+    struct bytes many = image_of(PASSING, 512), two = served(2), sixteen = served(PEERS);
+    for (int i = 0; i < 3; i++) batched("176-byte call, 16 rules, 2 peers", lengths[i], BY(1) + 256 * 176, passing, two, quiet);
+    for (int i = 0; i < 3; i++) batched("176-byte call, 16 rules, 16 peers", lengths[i], BY(1) + 256 * 176, passing, sixteen, quiet);
+    for (int i = 0; i < 3; i++) batched("176-byte call, 512 rules, 16 peers", lengths[i], BY(1) + 256 * 176, many, sixteen, quiet);
+    batched("16 bytes of type 5, 16 rules, 16 peers", 256, 20 + 256 * 16, passing, sixteen, message_bytes(&(struct message){.kind = 5}));
+    struct bytes dear = dearest_head(0);
+    batched("the dearest head, 16 rules, 16 peers", 32, 20 + 256 * dear.len, passing, sixteen, dear);
+    batched("signal to 16 peers, 16 rules", 256, 256 * signal.len, passing, sixteen, signal);
+    batched("signal, 512 rules that all fit but for the name", 32, 256 * signal.len, image_of(NEARLY_ANY, 512), nearly(), signal);
 }
 
 static const int sizes[] = {16, 128, 512};
@@ -314,6 +346,7 @@ static void all_jobs(void) {
     guarded("call and its return, 16 rules, 16 peers", call_and_return, 0, passing, served(PEERS), call, 0);
     guarded("own, a name of its own, 16 rules, 16 peers", own_again, BY(0), passing, served(PEERS), call, 0);
     guarded("start", start, 0, passing, started(0), call, 0);
+    all_batches(quiet, signal);
     growth(long_head);
 }
 

@@ -179,6 +179,12 @@ struct bytes message_bytes(const struct message *m) {
     return (struct bytes){b, w.at + m->body};
 }
 
+struct bytes in_a_row(struct bytes message, size_t times) {
+    struct bytes all = {aligned_alloc(64, (message.len * times + 63) / 64 * 64), message.len * times};
+    for (size_t i = 0; i < times; i++) memcpy(all.at + message.len * i, message.at, message.len);
+    return all;
+}
+
 static void put_parenthesized(struct writer *w) {
     while (w->at + 8 <= 2048) {
         put_signature(w, "v");
@@ -278,7 +284,8 @@ static struct rule rule_of(enum rules rules, int i, int n, char *space) {
     struct rule r = {.kind = 1};
     if (rules == PASSING && i < 2) return (struct rule){.verdict = 1, .direction = i};
     if (rules == MANDATORY && i == n - 1) return (struct rule){.context = 3, .verdict = 1};
-    if (rules == NEARLY) {
+    if (rules == NEARLY || rules == NEARLY_ANY) {
+        if (rules == NEARLY_ANY) r.kind = 0;
         r.context = i % 4;
         r.subject = r.context == 1 ? 115 : r.context == 2 ? 1000 : 0;
         r.name = "org.example.Service.Firsu", r.path = PATH, r.interface = INTERFACE, r.member = MEMBER;

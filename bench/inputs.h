@@ -35,6 +35,9 @@ extern const struct value PROPERTIES, NAMES, TEXT, STRUCTS, NUMBER;
 
 struct bytes message_bytes(const struct message *m);
 
+// A message so many times in a row.
+struct bytes in_a_row(struct bytes message, size_t times);
+
 // Heads of 2,048 bytes, of type 5, which needs no field: one unknown field is all they have. The one that costs the most of all that bench/worst found,
 // in front of a body of so many bytes, which is not there; and an array of variants in 31 parentheses each.
 struct bytes dearest_head(uint32_t body);
@@ -48,8 +51,9 @@ char *wide_text(size_t n);
 
 char *repeated(const char *s, size_t times, const char *end);
 
-// The rules of an image: none is about the message; each fits but for the receiver's name; the last decides; all but two are about others.
-enum rules { OTHERS, NEARLY, MANDATORY, PASSING };
+// The rules of an image: none is about the message; each fits but for the receiver's name; the same for messages of any type; the last decides; all but two are
+// about others.
+enum rules { OTHERS, NEARLY, NEARLY_ANY, MANDATORY, PASSING };
 
 // An image of one connect rule, one own rule, and n transaction rules. Everybody may connect and own.
 struct bytes image_of(enum rules rules, int n);

@@ -6,12 +6,12 @@
 #include <ucontext.h>
 
 #include "calls.h"
-#include "inputs.h"
+#include "guard.h"
 
 enum { STACK = 1 << 20, PAINT = 0xa5 };
 
-static unsigned char stack[STACK] __attribute__((aligned(64))), memory[MEMORY];
-static struct bytes image;
+static unsigned char stack[STACK] __attribute__((aligned(64))), lent_memory[MEMORY];
+static struct bytes image, memory = {lent_memory, MEMORY};
 static ucontext_t back, there;
 
 // What is run, and on what; where the stack stood then; and what came out.
@@ -22,7 +22,14 @@ static uint64_t answer;
 
 static uint64_t nothing(struct bytes b) { return b.len - b.len; }
 static uint64_t read_head(struct bytes b) { return bench_header_read(b.at, b.len); }
-static uint64_t piece(struct bytes b) { return bench_piece(image.at, image.len, memory, MEMORY, 1, b.at, b.len) % 256; }
+static uint64_t piece(struct bytes b) { return guard_piece(image, memory, 1, b.at, b.len) % 256; }
+
+// The answer in the last place.
+static uint64_t batch(struct bytes b) {
+    uint8_t places[4][PLACE];
+    size_t taken, wrote = aygeshunt_batch(image.at, image.len, memory.at, memory.len, 1, b.at, b.len, places[0], sizeof places, &taken);
+    return taken == b.len && wrote ? told(places[wrote - 1]) % 256 : ~0ULL;
+}
 
 // The body's one byte, behind the head: the test of the memory reads the head, and so does the end of the message.
 static uint64_t last_byte(struct bytes b) { return piece((struct bytes){b.at + b.len, 1}); }
@@ -125,14 +132,23 @@ static size_t deep_signature(char *s) {
     return strlen(s) + 1;
 }
 
+static size_t more(size_t a, size_t b) { return a < b ? b : a; }
+
 static void show(const char *name, struct bytes b, size_t none) {
-    memset(memory, 0, MEMORY);
-    bench_start(memory, MEMORY);
-    bench_connect(image.at, image.len, memory, MEMORY, 1000, NULL, 0);
+    uint32_t no_gids[1];
+    guard_start(memory);
+    guard_connect(image, memory, 1000, no_gids, 0);
     size_t read = depth(read_head, b, 0, name) - none;
     b.at[4] = 1;
-    size_t first = depth(piece, b, 10, name) - none, last = depth(last_byte, b, 20, name) - none;
-    printf("| %s | %zu | %zu |\n", name, read, first < last ? last : first);
+    size_t piece_takes = depth(piece, b, 10, name);
+    piece_takes = more(piece_takes, depth(last_byte, b, 20, name)) - none;
+    // two whole messages; a head; the byte that ends its message, and the next head; and that message's end
+    struct bytes two = in_a_row((struct bytes){b.at, b.len + 1}, 2);
+    size_t batch_takes = depth(batch, two, 20, name);
+    batch_takes = more(batch_takes, depth(batch, b, 10, name));
+    batch_takes = more(batch_takes, depth(batch, (struct bytes){two.at + b.len, 1 + b.len}, 10, name));
+    batch_takes = more(batch_takes, depth(batch, (struct bytes){two.at + b.len, 1}, 20, name)) - none;
+    printf("| %s | %zu | %zu | %zu |\n", name, read, piece_takes, batch_takes);
 }
 
 int main(void) {
@@ -141,7 +157,7 @@ int main(void) {
     char deep[300];
     size_t deep_n = deep_signature(deep);
     unsigned char path[] = {2, 0, 0, 0, '/', 'a', 0}, text[] = {3, 0, 0, 0, 0xe2, 0x82, 0xac, 0};
-    printf("| head | stack of a reading, bytes | of a piece |\n|-|-:|-:|\n");
+    printf("| head | stack of a reading, bytes | of a piece | of a batch |\n|-|-:|-:|-:|\n");
     show("without such a field", message_bytes(&(struct message){.kind = 5, .path = PATH, .member = MEMBER, .destination = NAME}), none);
     show("a field of u", message_bytes(&(struct message){.kind = 5, .extra = &NUMBER}), none);
     show("64 variants round y", nested("v", 63, "y", "\1", 1, 1), none);

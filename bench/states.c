@@ -15,14 +15,13 @@ void must(bool b, const char *what) {
 
 struct bytes started(int peers) {
     struct bytes m = {aligned_alloc(64, (MEMORY + 63) / 64 * 64), MEMORY};
-    bench_start(m.at, m.len);
-    for (int i = 0; i < peers; i++)
-        must(bench_connect(passing.at, passing.len, m.at, m.len, 1000 + i, gids, 2) == (uint32_t)i + 1, "connect");
+    guard_start(m);
+    for (int i = 0; i < peers; i++) must(guard_connect(passing, m, 1000 + i, gids, 2) == (uint32_t)i + 1, "connect");
     return m;
 }
 
 static void own(struct bytes m, uint32_t peer, const char *name) {
-    must(bench_own(passing.at, passing.len, m.at, m.len, peer, (const uint8_t *)name, strlen(name)) % 256 == 0, "own");
+    must(guard_own(passing, m, peer, name, strlen(name)) % 256 == 0, "own");
 }
 
 // The first peer owns the name of the message that is judged, and the name of 255 bytes.
@@ -45,15 +44,14 @@ struct bytes named(void) {
 
 struct bytes halfway(struct bytes head) {
     struct bytes m = started(PEERS);
-    for (int i = 1; i <= PEERS; i++) must(bench_piece(passing.at, passing.len, m.at, m.len, i, head.at, 2000) == 10 + 256 * 2000, "half");
+    for (int i = 1; i <= PEERS; i++) must(guard_piece(passing, m, i, head.at, 2000) == 10 + 256 * 2000, "half");
     return m;
 }
 
 // Each peer's stream is behind a whole head, and the body has not begun: its head is kept, and every test of the memory reads it.
 struct bytes behind(struct bytes head) {
     struct bytes m = started(PEERS);
-    for (int i = 1; i <= PEERS; i++)
-        must(bench_piece(passing.at, passing.len, m.at, m.len, i, head.at, head.len) == 10 + 256 * head.len, "behind");
+    for (int i = 1; i <= PEERS; i++) must(guard_piece(passing, m, i, head.at, head.len) == 10 + 256 * head.len, "behind");
     return m;
 }
 
@@ -69,7 +67,18 @@ struct bytes full(void) {
     for (int i = 1; i <= PEERS; i++)
         for (int k = 1; k <= 16; k++) {
             c.at[8] = k;
-            must(bench_piece(passing.at, passing.len, m.at, m.len, i, c.at, c.len) % 256 == 0, "wait");
+            must(guard_piece(passing, m, i, c.at, c.len) % 256 == 0, "wait");
         }
+    return m;
+}
+
+struct bytes nearly(void) {
+    struct bytes m = started(0);
+    for (int i = 0; i < PEERS; i++) must(guard_connect(passing, m, 1000, gids, 16) == (uint32_t)i + 1, "connect");
+    for (int i = 0; i < 4 * PEERS; i++) {
+        char name[32];
+        sprintf(name, "org.example.Service.Fi%03d", i);
+        own(m, 1 + i / 4, name);
+    }
     return m;
 }

@@ -14,7 +14,8 @@ def read(folder):
         text = open(path).read()
         label = re.search(r"Client Request: (.*)", text)
         if label:
-            counts[label[1].strip()] = int(re.search(r"totals: (\d+)", text)[1]) / REPEATS
+            # the sum over functions, "totals", keeps some counts of the calls before the counters were set to zero
+            counts[label[1].strip()] = int(re.search(r"summary: (\d+)", text)[1]) / REPEATS
     for line in open(folder + "/times"):
         work, who, ns = line.rstrip("\n").split("|")
         times[work + "|" + who] = float(ns)
@@ -32,6 +33,11 @@ def read(folder):
             (all_count, all_ns), (count, ns) = by.pop("decide"), by.pop("test")
             # a difference of times says nothing where it is small beside them
             by["ours"] = all_count - count, all_ns - ns if all_ns > 1.1 * ns else None
+    for w, by in work.items():
+        # a batch is shown by message
+        messages = re.match(r"batch of (\d+), ", w)
+        if messages:
+            by["ours"] = tuple(x / int(messages[1]) for x in by["ours"])
     return work
 
 
@@ -42,6 +48,9 @@ def goal(work):
 
     def below(n):
         return f"< {n:,}", lambda by, k: k == 0 and by["ours"][0] < n
+
+    def at_most(n):
+        return f"≤ {n:,}", lambda by, k: k == 0 and by["ours"][0] <= n
 
     if work == "head, 176-byte call":
         return share("libdbus", 6)
@@ -70,6 +79,10 @@ def goal(work):
         return below(500) if "mandatory" in work else below(80000)
     if work.startswith("piece, 176-byte call, 16 rules"):
         return below(25000)
+    if work == "batch of 32, 176-byte call, 16 rules, 16 peers, each":
+        return at_most(5500)
+    if work == "batch of 32, 176-byte call, 512 rules, 16 peers, each":
+        return at_most(70000)
     return None
 
 

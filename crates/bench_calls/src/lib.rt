@@ -1,4 +1,5 @@
-// The calls that the benchmark makes, for a C program to link: each is one call of another crate on numbers and byte slices, and asks nothing.
+// The inner calls that the benchmark makes, for a C program to link: each is one call of another crate on numbers and byte slices, and asks nothing. The
+// guard's own calls are those of `aygeshunt`.
 use header::Header;
 use header::Place;
 use header::Reading;
@@ -8,14 +9,12 @@ use names::Form;
 use policy::Decider;
 use policy::Decision;
 use policy::Uid;
-use rules::Shown;
 ghost use mathlib.Core.Path.{_≡_};
-ghost use Prim.Native.Nat.{_+_, _≤_, _<_};
+ghost use Prim.Native.Nat.{_+_, _≤_};
 ghost use Rattle.signature.specs.Signature.{validSignature};
 ghost use Rattle.utf8.specs.Utf8.{validUtf8};
 ghost use Rattle.header.specs.Header.{readHeader, readingAnswer};
 ghost use Rattle.memory.specs.Good.{good};
-ghost use Rattle.memory.specs.Calls.{startOn, Did};
 ghost use Rattle.matching.specs.Contracts.{Within};
 
 // ---- reading
@@ -153,45 +152,4 @@ pub extern "C" fn bench_decide(
         }
         Outcome::Bad => 1,
     }
-}
-
-// ---- the guard
-
-#[no_mangle]
-pub extern "C" fn bench_start(memory: &mut [u8]) -> u8
-    ensures { λ r. ⌜ Did (startOn (now (memory .entry))) r (now (memory .exit)) ⌝ }
-{
-    guard::start(memory)
-}
-
-// The number of the new peer, 0 where it is refused.
-#[no_mangle]
-pub extern "C" fn bench_connect(image: &[u8], memory: &mut [u8], uid: u32, gids: &[u32]) -> u32 {
-    let c = guard::connect(image, memory, uid, gids);
-    c.number
-}
-
-#[no_mangle]
-pub extern "C" fn bench_own(image: &[u8], memory: &mut [u8], peer: u32, name: &[u8]) -> u64 {
-    let o = guard::own(image, memory, peer, name);
-    let shown = o.rule;
-    (o.answer as u64) + shown_number(shown)
-}
-
-// Who decided, behind the first forty bits: its kind, and 4 times its position.
-fn shown_number(shown: Shown) -> u64
-    ensures { λ r. ⌜ r < 9223372036854775808 ⌝ }
-{
-    let rule = rules::rule_numbers(shown);
-    1099511627776 * ((rule.kind % 4 + 4 * (rule.position % 1024)) as u64)
-}
-
-// The answer number, 256 times the bytes taken, and who decided.
-#[no_mangle]
-pub extern "C" fn bench_piece(image: &[u8], memory: &mut [u8], peer: u32, bytes: &[u8]) -> u64 {
-    let t = guard::piece(image, memory, peer, bytes);
-    let j = t.judgement;
-    let taken = wire::least(t.taken, 4294967295);
-    let shown = j.rule;
-    256 * (taken as u64) + (j.answer as u64) + shown_number(shown)
 }

@@ -27,20 +27,23 @@ use Rattle.rules.specs.Pending.{awaits, ended, endedAll}
 use Rattle.rules.specs.Judge.{maskOf, countOf, judged}
 use Rattle.rules.specs.Calls.{connect, own, piece, disconnect}
 use Rattle.book.specs.Book.{cutOff}
-use Rattle.book.specs.Lists.{modelStep, answers}
+use Rattle.rules.specs.Series.{series}
+use Rattle.book.specs.Lists.{modelStep, answers, after}
 use Rattle.book.specs.Tally.{callTallied, begins, tallied}
 use Rattle.book.specs.Bench.{workedAnswer, workedTable, furtherRows}
 use Rattle.book.specs.Table.{tallyShown, tallyTable}
+use Rattle.book.specs.Batches.{batchShown, batchTable}
 
 all-agree : (agrees workedAnswer same workedTable ≡ true) × (agrees workedAnswer same furtherRows ≡ true) × (agrees tallyShown same tallyTable ≡ true)
+    × (agrees batchShown same batchTable ≡ true)
 unfolding allZero same wordAt wordBytes startsWith wellKnown unique validName inNamespace headOf closedBy one row validSignature orderOf headLength
     messageLength sizesOf fixedPart letterOf textIn valueAt framed knownAt elementAt walk fieldsOf numberIn goodValue goodField goodValues hasRequired headerOf
     judgedHead readHead readHeader goodCounts goodSections goodHeader goodString goodOrAny goodOwned goodConnectRule goodOwnRule goodStrings
     goodTransactionRule goodRule goodImage outcomeOf imageAnswer inGroups subjectFits owns deciding connectFits ownedFits ownFits messageOf partFits
     interfaceFits partsFit nameFits transactionFits transactionMatches decidesIn connectDecision ownDecision transactionDecision offer firstBy digits
     uniqueName answersTo resolve dropFirst awaits ended endedAll maskOf countOf judged connect own piece disconnect cutOff modelStep answers callTallied
-    begins tallied
-all-agree = (refl, refl, refl)
+    begins tallied series after
+all-agree = (refl, refl, refl, refl)
 
 pub table-agrees : agrees workedAnswer same workedTable ≡ true
 table-agrees = all-agree .0
@@ -50,3 +53,6 @@ more-agrees = all-agree .1
 
 pub tally-agrees : agrees tallyShown same tallyTable ≡ true
 tally-agrees = all-agree .2
+
+pub batches-agree : agrees batchShown same batchTable ≡ true
+batches-agree = all-agree .3

@@ -28,7 +28,7 @@ use Rattle.book.specs.Lists.{Call, starts, offers, leaves, Answer, taken
 use Rattle.book.specs.Split.{joinedPieces}
 use Rattle.book.specs.Bench.{asks, lastOf, workedAnswer}
 use Rattle.book.specs.Messages.{Messages, Parted, EndsMessage, BrokenIn}
-use Rattle.book.proofs.List.{Told, one, started, list-claim}
+use Rattle.book.proofs.List.{Told, one, started, run-claim}
 use Rattle.book.proofs.Tails.{judge-broken}
 use Rattle.book.proofs.Runs.{reached-holds, held-state, held-slot}
 use Rattle.book.proofs.Messages.{parted, tail-behind, good-broken}
@@ -167,4 +167,4 @@ start-forgets b c cs = refl
 -- a run from a start over any memory of the right length shows what the table's question is answered with
 pub guard-shows : {m e : List ℕ} {cs : List Call} {given : List Answer} → length m ≡ memoryLength → Run m (starts ∷ cs) given e
     → lastOf given ≡ workedAnswer (asks (starts ∷ cs))
-guard-shows l r = ap lastOf (list-claim empty l r .answered)
+guard-shows l r = ap lastOf (run-claim empty l r .answered)

@@ -8,6 +8,7 @@ pub mod Runs
 pub mod Bytewise
 pub mod Ways
 pub mod Split
+pub mod Hosts
 pub mod Messages
 pub mod Pieces
 pub mod Replied

@@ -137,10 +137,11 @@ started {m} b l (then (ran-start d) rs) =
 all-agrees : {b : State (List ℕ)} {cs : List Call} {given : List Answer} {e : List ℕ} → All b cs given e → Agrees b cs given e
 all-agrees {b} {cs} a = record { answered = a .answered; never51 = rw (a .answered) (nevers b cs); memory = a .holds .bytes }
 
--- THE CLAIM: a list that begins with a start, over any memory of the right length, and whatever the model held before
-pub list-claim : {m e : List ℕ} {cs : List Call} {given : List Answer} (b : State (List ℕ)) → length m ≡ memoryLength → Run m (starts ∷ cs) given e
+-- the claim of a run: a list that begins with a start, over any memory of the right length, and whatever the model held before. `list-claim` in
+-- Hosts.antt says it of all that a host does, batches too.
+pub run-claim : {m e : List ℕ} {cs : List Call} {given : List Answer} (b : State (List ℕ)) → length m ≡ memoryLength → Run m (starts ∷ cs) given e
     → Agrees b (starts ∷ cs) given e
-list-claim b l r = all-agrees (started b l r)
+run-claim b l r = all-agrees (started b l r)
 
 -- the same of an empty guard
 pub empty-claim : {e : List ℕ} {cs : List Call} {given : List Answer} → Run (memoryOf empty) cs given e → Agrees empty cs given e

@@ -47,7 +47,7 @@ below-right : (p q : List ℕ) → Below 256 (p ++ q) → Below 256 q
 below-right [] q h = h
 below-right (x ∷ p) q h = below-right p q (λ j. h (suc j))
 
-below-drop : (k : ℕ) (p : List ℕ) → Below 256 p → Below 256 (drop k p)
+pub below-drop : (k : ℕ) (p : List ℕ) → Below 256 p → Below 256 (drop k p)
 below-drop k p h i = rw (getD-drop k p i 0) (h (k + i))
 
 -- ---- the guard's step, under any image
@@ -57,7 +57,7 @@ module _ (image : List ℕ) (n : ℕ) where
   refused s p = stays s (noPiece (imageAnswer image))
 
   -- the image's answer before all else
-  pub step : State Tail → List ℕ → Step Tail Taken
+  unfoldable pub step : State Tail → List ℕ → Step Tail Taken
   step = cond (eqb (imageAnswer image) 0) (stepOf tails (λ t. refl) image n) refused
 
   no-verdict : {a : ℕ} → Refusal a → said (noPiece a) ≡ []
@@ -73,16 +73,16 @@ module _ (image : List ℕ) (n : ℕ) where
   unfolding step
   laws = choice Laws (eqb (imageAnswer image) 0) _ _ (λ e. piece-laws tails (λ t. refl) image n) bad-laws
 
-  step-is : (s : State Tail) (p : List ℕ) → step s p ≡ underImage noPiece image s (piece tails image s n p)
+  pub step-is : (s : State Tail) (p : List ℕ) → step s p ≡ underImage noPiece image s (piece tails image s n p)
   unfolding step
   step-is s p = sym (chosen (λ (k : State Tail → List ℕ → Step Tail Taken). k s p) (eqb (imageAnswer image) 0) _ _ _ _ refl refl)
 
   module _ (s : State Tail) (g : Sound s) (p : List ℕ) where
-    piece-on : pieceOn image (memoryOf s) n p ≡ stored (step s p)
+    pub piece-on : pieceOn image (memoryOf s) n p ≡ stored (step s p)
     unfolding pieceOn
     piece-on = on-image s g noPiece (λ z. piece tails image z n p) image ∙ ap stored (sym (step-is s p))
 
-    step-sound : Below 256 p → Sound (step s p .state)
+    pub step-sound : Below 256 p → Sound (step s p .state)
     step-sound b =
         rw (step-is s p)
         (choice (λ (z : Step Tail Taken). Sound (z .state)) (eqb (imageAnswer image) 0) _ _ (λ e. piece-sound s g p (every-below 256 p b) image n) (λ e. g))

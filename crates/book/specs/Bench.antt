@@ -25,6 +25,10 @@ callC =
     ∷ 1 ∷ 1 ∷ byte "o" ∷ 0 ∷ 1 ∷ 0 ∷ 0 ∷ 0 ∷ byte "/" ∷ 0 ∷ 0 ∷ 0 ∷ 0 ∷ 0 ∷ 0 ∷ 0
     ∷ 3 ∷ 1 ∷ byte "s" ∷ 0 ∷ 1 ∷ 0 ∷ 0 ∷ 0 ∷ byte "M" ∷ 0 ∷ 0 ∷ 0 ∷ 0 ∷ 0 ∷ 0 ∷ 0 ∷ []
 
+-- C with a head that is broken by its first byte
+abbrev pub brokenC : List ℕ
+brokenC = set callC 0 (byte "L")
+
 -- C with a destination of seven bytes behind it, and so an array of 48
 abbrev pub callTo : List ℕ → List ℕ
 callTo name = set callC 12 48 ++ ((6 ∷ 1 ∷ byte "s" ∷ 0 ∷ wordBytes 7) ++ (name ++ (0 ∷ [])))
@@ -161,7 +165,7 @@ workedTable =
     ∷ (sends noRules (take 15 callC), saysRefused 10 15 unshown)  -- T2
     ∷ (sends noRules callC, saysRefused 22 48 byNone)  -- T3
     ∷ (sends allowAll callC, saysToBus 48 (byRule 0))  -- T4
-    ∷ (sends noRules (set callC 0 (byte "L")), saysRefused 1 16 unshown)  -- T5: byte 0 as 4c
+    ∷ (sends noRules brokenC, saysRefused 1 16 unshown)  -- T5: byte 0 as 4c
     ∷ (sends noRules (littleFixed 1 0 2032), saysRefused 10 16 unshown)  -- T6
     ∷ (sends noRules (littleFixed 1 0 2033), saysRefused 5 16 unshown)
     ∷ (sends noRules (littleFixed 5 134217712 0), saysRefused 10 16 unshown)  -- T7

@@ -1,7 +1,9 @@
 pub mod Book
 pub mod Lists
 pub mod Split
+pub mod Hosts
 pub mod Messages
 pub mod Tally
 pub mod Bench
 pub mod Table
+pub mod Batches

@@ -2,37 +2,27 @@
 use mathlib.Core.Path.{_≡_, refl, sym, ap, _∙_}
 use mathlib.Core.Bool.{true, false, not}
 use mathlib.Core.List.{List, [], _∷_, _++_, append-assoc, append-nil}
-use Prim.Native.Nat.{ℕ, suc, _+_, _-_, _*_, _/_, _≤_, _<_}
+use Prim.Native.Nat.{ℕ, suc, _+_, _-_, _*_, _≤_, _<_}
 use native.Mathlib.Omega.{arith}
 use lib.Dec.{eqb, ltb}
 use lib.ListN.{length, take, drop, length-append, length-drop}
-use lib.Seq.{take-at, drop-at, drop-drop}
 use borrow.Author.Needs.{needs}
 use borrow.Author.Tests.{eq-eqb, ne-eqb, lt-ltb, le-ltb, eqb-true, eqb-false, not-true, not-false}
-use Rattle.wire.specs.Words.{wordBytes}
-use Rattle.wire.proofs.Words.{word-length, rest-at, put-at}
-use Rattle.tables.specs.Tables.{cells}
-use Rattle.tables.proofs.Cells.{cells-length, cells-snoc}
+use Rattle.wire.proofs.Words.{rest-at}
 use Rattle.wire.proofs.Tests.{by-test}
 use Rattle.rules.specs.State.{State}
 use Rattle.rules.specs.Calls.{empty}
-use Rattle.policy.specs.Decisions.{deciderWords}
-use Rattle.policy.specs.declared.Decider.{Decider}
-use Rattle.policy.specs.declared.Decider.the-variants.{Nobody, Rule}
-use Rattle.rules.specs.declared.Shown.{Shown}
-use Rattle.rules.specs.declared.Shown.the-variants.{Nothing, By}
-use Rattle.rules.specs.declared.Receiver.{Receiver}
-use Rattle.rules.specs.declared.Receiver.the-variants as to
 use Rattle.memory.specs.Layout.{memoryLength}
 use Rattle.memory.specs.Encoding.{memoryOf}
 use Rattle.memory.specs.Calls.{Did, startOn}
 use Rattle.book.specs.Lists.{Call, starts, Answer, plain, connected, owned, taken, gone, modelStep, answers, after, Run, done, then}
-use Rattle.rules.specs.Places.{receiverWords, shownWords}
+use Rattle.places.specs.Places.{placeLength, placesIn, filled}
+use Rattle.places.proofs.Rooms.{shown-length, taken-length, filled-none, filled-length, filled-next}
 use Rattle.book.proofs.List.{empty-claim}
 use Rattle.book.proofs.Runs.{run-append}
 use Rattle.calls.specs.declared.Count.{Count}
 use Rattle.calls.specs.Script.{entryKind, argumentOf, entrySize, layout, scriptCalls, callOf, decode}
-use Rattle.calls.specs.Places.{wordsOf, answerPlace, outcome, EndsAs}
+use Rattle.calls.specs.Places.{wordsOf, outcome, EndsAs}
 use Rattle.calls.specs.Steps.{Stepped, Sized, Entry, Counted, Ready, Replayed}
 use Rattle.calls.proofs.Entries.{entry-of, front-entry, layout-next, calls-next, calls-end, behind}
 
@@ -44,36 +34,12 @@ run-length (then q qs) = ap suc (run-length qs)
 
 -- ---- places
 
-place-length : (a : Answer) → length (answerPlace a) ≡ 28
-unfolding answerPlace
-place-length a = cells-length 4 wordBytes word-length (wordsOf a) ∙ omega (arith, seven a)
-  where
-    to-three : (r : Receiver) → length (receiverWords r) ≡ 3
-    to-three to.Nobody = refl
-    to-three to.Bus = refl
-    to-three (to.Peer n) = refl
-    to-three (to.Slots mask n) = refl
-
-    by-two : (d : Decider) → length (deciderWords d) ≡ 2
-    by-two Nobody = refl
-    by-two (Rule s i) = refl
-
-    in-two : (x : Shown) → length (shownWords x) ≡ 2
-    in-two Nothing = refl
-    in-two (By d) = by-two d
-
-    seven : (x : Answer) → length (wordsOf x) ≡ 7
-    seven (plain n) = refl
-    seven (connected r) = omega (arith, in-two (r .rule))
-    seven (owned r) = omega (arith, in-two (r .rule))
-    seven (taken r) =
-        omega (
-          arith,
-          length-append (receiverWords (r .judgement .receiver)) (shownWords (r .judgement .rule)),
-          to-three (r .judgement .receiver),
-          in-two (r .judgement .rule),
-        )
-    seven (gone r) = refl
+answer-length : (a : Answer) → length (wordsOf a) ≡ 7
+answer-length (plain n) = refl
+answer-length (connected r) = omega (arith, shown-length (r .rule))
+answer-length (owned r) = omega (arith, shown-length (r .rule))
+answer-length (taken r) = taken-length r
+answer-length (gone r) = refl
 
 -- ---- the entries behind `rest` are to come; those before it have run
 
@@ -83,16 +49,15 @@ pub record Going (image s m₀ x m y rest : List ℕ) (at : ℕ) : Type 0 where
   pub given : List Answer
   pub ran : Run (memoryOf empty) past given m
   pub all : scriptCalls image (length s) s ≡ past ++ scriptCalls image (length rest) rest
-  pub place : at ≡ 28 * length past
-  pub text : y ≡ cells answerPlace given ++ drop at x
-  pub room : at + 28 * length (scriptCalls image (length rest) rest) ≤ length x
+  pub place : at ≡ placeLength * length past
+  pub text : y ≡ filled wordsOf given x
+  pub room : at + placeLength * length (scriptCalls image (length rest) rest) ≤ length x
   pub sized : length y ≡ length x
   pub fits : length m ≡ length m₀
 
 pub going-begins : (image s m x : List ℕ) → Ready image s m x → Going image s m x m x s 0
-unfolding cells
 going-begins image s m x r =
-    let k : 28 * length (scriptCalls image (length s) s) ≤ length x = r .room in
+    let k : placeLength * length (scriptCalls image (length s) s) ≤ length x = r .room in
     record {
       whole = r .whole;
       past = [];
@@ -100,19 +65,25 @@ going-begins image s m x r =
       ran = rw (r .started) done;
       all = refl;
       place = refl;
-      text = refl;
+      text = sym (filled-none wordsOf x);
       room = omega arith;
       sized = refl;
       fits = refl;
     }
 
 module _ {image s m₀ x m y rest : List ℕ} {at : ℕ} (g : Going image s m₀ x m y rest at) where
-  written : length (cells answerPlace (g .given)) ≡ at
-  written = cells-length 28 answerPlace place-length (g .given) ∙ omega (arith, run-length (g .ran), g .place)
+  written : at ≡ placeLength * length (g .given)
+  written = g .place ∙ ap (λ (k : ℕ). placeLength * k) (run-length (g .ran))
 
   module _ (h : 0 < length rest) where
-    pub going-room : at + 28 ≤ length y
+    going-room : at + placeLength ≤ length y
     going-room = omega (arith, g .room, g .sized, ap length (calls-next rest h image (g .whole)))
+
+    pub going-at : at ≤ length y
+    going-at = omega (arith, going-room)
+
+    pub going-place : placeLength ≤ length (take (length y - at) (drop at y))
+    going-place = rw (rest-at at y) (omega (arith, going-room, length-drop at y))
 
     pub going-entry : Entry rest
     going-entry = entry-of rest (front-entry (length rest) rest h (g .whole))
@@ -123,23 +94,16 @@ module _ {image s m₀ x m y rest : List ℕ} {at : ℕ} (g : Going image s m₀
         let p : k ≡ 0 → ⊥ = λ e. n (sym (z .is) ∙ e) in
         omega (arith, ap length (rest-at k rest), length-drop k rest)
 
-    module _ {k : ℕ} (z : Sized rest k) (e w : List ℕ) (t : Stepped image rest m e w) (same : length e ≡ length m) where
-      pub going-on : Going image s m₀ x e (take at y ++ (w ++ drop (at + 28 - at) (drop at y))) (take (length rest - k) (drop k rest)) (at + 28)
+    module _ {k : ℕ} (z : Sized rest k) (e w : List ℕ) (t : Stepped image rest m (take (length y - at) (drop at y)) e w) (same : length e ≡ length m) where
+      pub going-on
+          : Going image s m₀ x e (take at y ++ (w ++ drop (length y - at) (drop at y))) (take (length rest - k) (drop k rest)) (at + placeLength)
       going-on =
           let n = front-entry (length rest) rest h (g .whole) in
           let c = callOf image (entryKind rest) (argumentOf rest) in
           let cs = calls-next rest h image (g .whole) in
-          let o = cells answerPlace (g .given) in
-          let lw : length w ≡ 28 = ap length (t .written) ∙ place-length (t .answer) in
-          let ty : take at y ≡ o = ap (take at) (g .text) ∙ take-at o (drop at x) at written in
-          let dy : drop (at + 28) y ≡ drop (at + 28) x
-          = sym (drop-drop 28 at y) ∙ ap (λ (v : List ℕ). drop 28 (drop at v)) (g .text) ∙ ap (drop 28) (drop-at o (drop at x) at written)
-          ∙ drop-drop 28 at x in
-          let b : cells answerPlace (g .given ++ (t .answer ∷ [])) ≡ o ++ w = rw (t .written) (cells-snoc answerPlace (g .given) (t .answer)) in
-          let text : take at y ++ (w ++ drop (at + 28) y) ≡ cells answerPlace (g .given ++ (t .answer ∷ [])) ++ drop (at + 28) x
-          = rw (ty, dy, b) (sym (append-assoc o w (drop (at + 28) x))) in
-          let lo : length (cells answerPlace (g .given ++ (t .answer ∷ []))) ≡ at + 28 = ap length b ∙ length-append o w ∙ omega (arith, written) in
-          rw (behind z, put-at at 28 y w)
+          let text = filled-next wordsOf x answer-length (g .given) (t .answer) (g .text) written (t .written) in
+          let l : length (g .given ++ (t .answer ∷ [])) ≡ length (g .given) + 1 = length-append (g .given) (t .answer ∷ []) in
+          rw (behind z)
           (record {
             whole = sym (layout-next rest h n) ∙ g .whole;
             past = g .past ++ (c ∷ []);
@@ -149,8 +113,7 @@ module _ {image s m₀ x m y rest : List ℕ} {at : ℕ} (g : Going image s m₀
             place = omega (arith, g .place, length-append (g .past) (c ∷ []));
             text = text;
             room = omega (arith, g .room, ap length cs);
-            sized = ap length text ∙ length-append (cells answerPlace (g .given ++ (t .answer ∷ []))) (drop (at + 28) x)
-                ∙ omega (arith, lo, g .room, ap length cs, length-drop (at + 28) x);
+            sized = ap length text ∙ filled-length wordsOf x answer-length (g .given ++ (t .answer ∷ [])) (omega (arith, l, written, g .room, ap length cs));
             fits = same ∙ g .fits;
           })
 
@@ -159,9 +122,9 @@ module _ {image s m₀ x m y rest : List ℕ} {at : ℕ} (g : Going image s m₀
       let c : scriptCalls image (length s) s ≡ g .past = g .all ∙ ap (λ (v : List Call). g .past ++ v) (calls-end image (length rest) rest h)
       ∙ append-nil (g .past) in
       let a = empty-claim (g .ran) in
-      record { memory = rw c (a .memory); room = rw (c, ← a .answered, ← g .place) (g .text) }
+      record { memory = rw c (a .memory); room = rw (c, ← a .answered) (g .text) }
 
-pub ruleset going = (going-begins, going-room, going-entry, going-less, going-on, going-ends, needs)
+pub ruleset going = (going-begins, going-at, going-place, going-entry, going-less, going-on, going-ends, needs)
 
 -- ---- the whole
 
@@ -189,16 +152,16 @@ module _ (image s m x : List ℕ) (c : Count) (o : Counted s c) where
     counted : length (scriptCalls image (length s) s) ≡ c .calls
     counted = o .many (not-false (c .whole) t) image
 
-    pub run-full : length x / 28 < c .calls → EndsAs (outcome image s m x) 68 m x
+    pub run-full : placesIn x < c .calls → EndsAs (outcome image s m x) 68 m x
     unfolding outcome decode
-    run-full l = rw (laid, counted, lt-ltb (length x / 28) (c .calls) l) (record { answer = refl; memory = refl; room = refl })
+    run-full l = rw (laid, counted, lt-ltb (placesIn x) (c .calls) l) (record { answer = refl; memory = refl; room = refl })
 
-    module _ (l : c .calls ≤ length x / 28) (e : List ℕ) (r : ℕ) (d : Did (startOn m) r e) where
+    module _ (l : c .calls ≤ placesIn x) (e : List ℕ) (r : ℕ) (d : Did (startOn m) r e) where
       pub run-unfit : (r ≡ 0 → ⊥) → EndsAs (outcome image s m x) 51 e x
       unfolding outcome decode
       run-unfit h =
           let z = start-refused m e r d h in
-          rw (laid, counted, le-ltb (length x / 28) (c .calls) l, ne-eqb (length m) memoryLength (z .0)) (record { answer = refl; memory = z .1; room = refl })
+          rw (laid, counted, le-ltb (placesIn x) (c .calls) l, ne-eqb (length m) memoryLength (z .0)) (record { answer = refl; memory = z .1; room = refl })
 
       module _ (h : r ≡ 0) where
         pub run-ready : Ready image s e x
@@ -207,7 +170,7 @@ module _ (image s m x : List ℕ) (c : Count) (o : Counted s c) where
         pub run-done : (f y : List ℕ) → Replayed image s x f y → EndsAs (outcome image s m x) 0 f y
         unfolding outcome decode
         run-done f y p =
-            let z : ltb (length x / 28) (length (scriptCalls image (length s) s)) ≡ false = rw counted (le-ltb (length x / 28) (c .calls) l) in
+            let z : ltb (placesIn x) (length (scriptCalls image (length s) s)) ≡ false = rw counted (le-ltb (placesIn x) (c .calls) l) in
             rw (laid, z, eq-eqb (length m) memoryLength (start-done m e r d h .0)) (record { answer = refl; memory = p .memory; room = p .room })
 
 pub ruleset running = (run-broken, run-full, run-unfit, run-ready, run-done, needs)

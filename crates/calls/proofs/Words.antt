@@ -1,29 +1,19 @@
--- Words one behind the other: written to a place, and read off an argument.
+-- Words one behind the other, read off an argument.
 use mathlib.Core.Path.{_≡_, refl, ap, _∙_}
-use mathlib.Core.List.{List, [], _∷_, _++_, append-nil}
+use mathlib.Core.List.{List, [], _∷_, _++_}
 use Prim.Native.Nat.{ℕ, zero, suc, _+_, _-_, _*_, _/_, _≤_, min, _<_}
 use native.Mathlib.Omega.{arith}
 use native.Mathlib.Numerals.{add-one}
-use lib.ListN.{length, take, drop, set, drop-of-length-le, length-set}
+use lib.ListN.{length, take, drop, set, length-set}
 use lib.Seq.{take-suc-set}
 use borrow.Author.Needs.{needs}
 use Rattle.wire.specs.Bytes.{Below}
-use Rattle.wire.specs.Words.{wordAt, wordBytes}
+use Rattle.wire.specs.Words.{wordAt}
 use Rattle.wire.specs.declared.Order.the-variants.{Little}
 use Rattle.wire.proofs.Words.{word-drop}
-use Rattle.tables.specs.Tables.{cells}
 use Rattle.tables.proofs.Words.{bytes-drop, word-fits}
 use Rattle.calls.specs.Script.{words}
 use Rattle.calls.specs.Steps.{GidsIn}
-
--- seven words over the whole of a place
-pub place-put : (p ws u : List ℕ) → length p ≡ 28 → length ws ≡ 7 → u ≡ take 0 p ++ (cells wordBytes ws ++ drop (0 + 4 * length ws) p) → u ≡ cells wordBytes ws
-place-put p ws u l e q =
-    q ∙ ap (λ (z : List ℕ). cells wordBytes ws ++ z) (drop-of-length-le p {i = 0 + 4 * length ws} (omega arith)) ∙ append-nil (cells wordBytes ws)
-
-pub ruleset putting = (place-put, needs)
-
--- ---- words read
 
 pub words-length : (n : ℕ) (s : List ℕ) → length (words n s) ≡ n
 unfolding words

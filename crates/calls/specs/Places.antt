@@ -1,32 +1,28 @@
--- What a script comes to: the model's answers, each in a place of seven little-endian words, and the bytes of what the model holds.
+-- What a script comes to: the model's answers, each in its place, and the bytes of what the model holds.
 use mathlib.Core.Bool.{cond}
-use mathlib.Core.List.{List, _++_}
+use mathlib.Core.List.{List}
 use mathlib.Core.Option.{Option, none, some}
 use mathlib.Core.Path.{_≡_}
-use Prim.Native.Nat.{ℕ, _*_, _/_}
+use Prim.Native.Nat.{ℕ}
 use lib.Dec.{eqb, ltb}
-use lib.ListN.{length, drop}
-use Rattle.wire.specs.Words.{wordBytes}
-use Rattle.tables.specs.Tables.{cells}
+use lib.ListN.{length}
 use Rattle.rules.specs.Calls.{empty}
 use Rattle.rules.specs.View.{seen}
 use Rattle.rules.specs.Places.{plainWords, connectedWords, ownedWords, takenWords, goneWords}
 use Rattle.memory.specs.Layout.{memoryLength}
 use Rattle.memory.specs.Encoding.{memoryOf}
+use Rattle.places.specs.Places.{placesIn, filled}
 use Rattle.book.specs.Book.{tailView}
 use Rattle.book.specs.Lists.{Call, Answer, plain, connected, owned, taken, gone, answers, after}
 use Rattle.calls.specs.Script.{decode}
 
--- the seven words of a report (rule 12.3)
+-- the seven words of an answer (rule 8.11)
 abbrev pub wordsOf : Answer → List ℕ
 wordsOf (plain a) = plainWords a
 wordsOf (connected r) = connectedWords r
 wordsOf (owned r) = ownedWords r
 wordsOf (taken r) = takenWords r
 wordsOf (gone r) = goneWords r
-
-unfoldable pub answerPlace : Answer → List ℕ
-answerPlace a = cells wordBytes (wordsOf a)
 
 -- an answer, memory and the room for answers
 pub record RunEnd : Type 0 where
@@ -44,14 +40,14 @@ ran cs x =
     record {
       answer = 0;
       memory = memoryOf (seen tailView (after empty cs));
-      room = cells answerPlace (answers empty cs) ++ drop (28 * length cs) x;
+      room = filled wordsOf (answers empty cs) x;
     }
 
 -- 67 is a broken layout, 68 room for fewer answers than calls, 51 memory of another length (rule 12.3)
 abbrev pub runTold : Option (List Call) → List ℕ → List ℕ → RunEnd
 runTold none m x = runRefused 67 m x
 runTold (some cs) m x =
-    cond (ltb (length x / 28) (length cs)) (runRefused 68 m x) (cond (eqb (length m) memoryLength) (ran cs x) (runRefused 51 m x))
+    cond (ltb (placesIn x) (length cs)) (runRefused 68 m x) (cond (eqb (length m) memoryLength) (ran cs x) (runRefused 51 m x))
 
 -- what the script in bytes s does to memory m and the room x (rule 12.3)
 unfoldable pub outcome : List ℕ → List ℕ → List ℕ → List ℕ → RunEnd

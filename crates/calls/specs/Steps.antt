@@ -1,40 +1,32 @@
 -- The parts of a run: one entry, its call and its place; the count of entries; all of them.
 use mathlib.Core.Bool.{true}
-use mathlib.Core.List.{List, [], _∷_, _++_}
+use mathlib.Core.List.{List, _++_}
 use mathlib.Core.Path.{_≡_}
 use Prim.Native.Nat.{ℕ, _-_, _*_, _/_, _≤_, min}
 use lib.ListN.{length, take, drop}
-use Rattle.wire.specs.Words.{wordBytes}
-use Rattle.tables.specs.Tables.{cells}
 use Rattle.rules.specs.Calls.{empty}
 use Rattle.rules.specs.View.{seen}
 use Rattle.memory.specs.Encoding.{memoryOf}
+use Rattle.places.specs.declared.Report.{Report}
+use Rattle.places.specs.Places.{placeLength, placeOf, filled, Shows}
 use Rattle.book.specs.Book.{tailView}
 use Rattle.book.specs.Lists.{Call, Answer, answers, after, Ran}
-use Rattle.calls.specs.declared.Report.{Report}
 use Rattle.calls.specs.declared.Gids.{Gids}
 use Rattle.calls.specs.declared.Count.{Count}
 use Rattle.calls.specs.Script.{entryKind, sizeOf, argumentOf, wellSized, entrySize, words, layout, scriptCalls, callOf}
-use Rattle.calls.specs.Places.{answerPlace}
-
-abbrev pub reportWords : Report → List ℕ
-reportWords r = r .answer ∷ r .taken ∷ r .kind ∷ r .number ∷ r .count ∷ r .rule .kind ∷ r .rule .position ∷ []
-
--- the report says the answer
-pub record Shows (a : Answer) (r : Report) : Type 0 where
-  pub are : cells wordBytes (reportWords r) ≡ answerPlace a
+use Rattle.calls.specs.Places.{wordsOf}
 
 -- the call was made as its contract says, and this is its report
 pub record Reported (c : Call) (m : List ℕ) (r : Report) (e : List ℕ) : Type 0 where
   pub answer : Answer
   pub ran : Ran m e c answer
-  pub shows : Shows answer r
+  pub shows : Shows (wordsOf answer) r
 
--- the same, of the entry in front of s, with the report in its place
-pub record Stepped (image s m e place : List ℕ) : Type 0 where
+-- the same, of the entry in front of s, with the report in the room's first place
+pub record Stepped (image s m room e y : List ℕ) : Type 0 where
   pub answer : Answer
   pub ran : Ran m e (callOf image (entryKind s) (argumentOf s)) answer
-  pub written : place ≡ answerPlace answer
+  pub written : y ≡ placeOf (wordsOf answer) ++ drop placeLength room
 
 -- seventeen gids at most, as they stand behind the uid
 pub record GidsIn (a : List ℕ) (r : Gids) : Type 0 where
@@ -63,8 +55,8 @@ pub record Counted (s : List ℕ) (r : Count) : Type 0 where
 pub record Ready (image s m x : List ℕ) : Type 0 where
   pub whole : layout (length s) s ≡ true
   pub started : m ≡ memoryOf empty
-  pub room : 28 * length (scriptCalls image (length s) s) ≤ length x
+  pub room : placeLength * length (scriptCalls image (length s) s) ≤ length x
 
 pub record Replayed (image s x e y : List ℕ) : Type 0 where
   pub memory : e ≡ memoryOf (seen tailView (after empty (scriptCalls image (length s) s)))
-  pub room : y ≡ cells answerPlace (answers empty (scriptCalls image (length s) s)) ++ drop (28 * length (scriptCalls image (length s) s)) x
+  pub room : y ≡ filled wordsOf (answers empty (scriptCalls image (length s) s)) x

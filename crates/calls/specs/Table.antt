@@ -1,4 +1,4 @@
--- Worked scripts, as a table: the calls that stand in bytes, and the seven words of an answer (rule 12.3).
+-- Worked scripts, as a table: the calls that stand in bytes, and the seven words of an answer (rules 8.11 and 12.3).
 use mathlib.Core.List.{List, [], _∷_, _++_}
 use mathlib.Core.Option.{Option, none, some}
 use Prim.Native.Nat.{ℕ}

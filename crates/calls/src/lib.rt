@@ -1,35 +1,20 @@
 // Runs a list of calls that stands in bytes, one call after the other on one guard, and writes their answers down.
+use places::PLACE_LENGTH;
+use places::Report;
 use rules::Connected;
-use rules::Owned;
-use rules::Receiver;
-use rules::RuleNumbers;
-use rules::Taken;
-use rules::rule_numbers;
 use wire::Order;
 ghost use mathlib.Core.Path.{_≡_};
 ghost use mathlib.Core.Bool.{true};
-ghost use mathlib.Core.List.{[], _∷_, _++_};
-ghost use Prim.Native.Nat.{_*_, _%_, _≤_};
+ghost use Prim.Native.Nat.{_≤_};
 ghost use lib.ListN.{length, take};
-ghost use Rattle.wire.specs.Words.{wordAt, wordBytes};
+ghost use Rattle.wire.specs.Words.{wordAt};
 ghost use Rattle.wire.specs.declared.Order.the-variants.{Little};
-ghost use Rattle.tables.specs.Tables.{cells};
-ghost use Rattle.rules.specs.Places.{receiverWords};
 ghost use Rattle.memory.specs.Calls.{connectOn, Did};
-ghost use Rattle.book.specs.Lists.{connects, plain, owned, taken};
+ghost use Rattle.book.specs.Lists.{connects};
+ghost use Rattle.places.specs.Places.{placeLength};
 ghost use Rattle.calls.specs.Script.{wellSized, gidsOf, peerCall, callOf};
 ghost use Rattle.calls.specs.Places.{outcome, EndsAs};
-ghost use Rattle.calls.specs.Steps.{reportWords, Shows, Reported, Stepped, GidsIn, Sized, Entry, Counted, Ready, Replayed};
-
-// The words of a place.
-struct Report {
-    answer: u32,
-    taken: u32,
-    kind: u32,
-    number: u32,
-    count: u32,
-    rule: RuleNumbers,
-}
+ghost use Rattle.calls.specs.Steps.{Reported, Stepped, GidsIn, Sized, Entry, Counted, Ready, Replayed};
 
 // The first `count` of a list of gids: one more than a peer may have at most.
 struct Gids {
@@ -41,117 +26,6 @@ struct Gids {
 struct Count {
     whole: bool,
     calls: usize,
-}
-
-// ---- places
-
-fn low(n: usize) -> u32
-    ensures { λ r. ⌜ r ≡ n % 4294967296 ⌝ }
-{
-    (n % 4294967296) as u32
-}
-
-fn put(place: &mut [u8], report: Report)
-    requires { ⌜ length (now place) ≡ 28 ⌝ }
-    ensures { λ r. ⌜ now (place .exit) ≡ cells wordBytes (reportWords report) ⌝ }
-{
-    let mut words = [0u32; 7];
-    words[0] = report.answer;
-    words[1] = report.taken;
-    words[2] = report.kind;
-    words[3] = report.number;
-    words[4] = report.count;
-    let rule = report.rule;
-    words[5] = rule.kind;
-    words[6] = rule.position;
-    tables::put_words(place, 0, &words[0..7]);
-}
-
-// A report without a rule.
-fn no_rule() -> RuleNumbers
-    ensures { λ r. ⌜ r ≡ record { kind = 0; position = 0 } ⌝ }
-{
-    RuleNumbers {
-        kind: 0,
-        position: 0,
-    }
-}
-
-fn plain_report(answer: u8) -> Report
-    ensures { λ r. ⌜ Shows (plain answer) r ⌝ }
-{
-    Report {
-        answer: answer as u32,
-        taken: 0,
-        kind: 0,
-        number: 0,
-        count: 0,
-        rule: no_rule(),
-    }
-}
-
-fn owned_report(o: Owned) -> Report
-    ensures { λ r. ⌜ Shows (owned o) r ⌝ }
-{
-    let shown = o.rule;
-    Report {
-        answer: o.answer as u32,
-        taken: 0,
-        kind: 0,
-        number: 0,
-        count: 0,
-        rule: rule_numbers(shown),
-    }
-}
-
-// The report of a piece to that receiver.
-fn report_to(answer: u32, taken: u32, receiver: Receiver, rule: RuleNumbers) -> Report
-    ensures { λ r. ⌜ reportWords r ≡ answer ∷ taken ∷ (receiverWords receiver ++ (rule .kind ∷ rule .position ∷ [])) ⌝ }
-{
-    match receiver {
-        Receiver::Nobody => Report {
-            answer,
-            taken,
-            kind: 0,
-            number: 0,
-            count: 0,
-            rule,
-        },
-        Receiver::Bus => Report {
-            answer,
-            taken,
-            kind: 1,
-            number: 0,
-            count: 0,
-            rule,
-        },
-        Receiver::Peer(number) => Report {
-            answer,
-            taken,
-            kind: 2,
-            number,
-            count: 0,
-            rule,
-        },
-        Receiver::Slots(mask, count) => Report {
-            answer,
-            taken,
-            kind: 3,
-            number: mask as u32,
-            count,
-            rule,
-        },
-    }
-}
-
-fn taken_report(t: Taken) -> Report
-    ensures { λ r. ⌜ Shows (taken t) r ⌝ }
-{
-    let judgement = t.judgement;
-    let receiver = judgement.receiver;
-    let shown = judgement.rule;
-    let rule = rule_numbers(shown);
-    report_to(judgement.answer as u32, low(t.taken), receiver, rule)
 }
 
 // ---- one call
@@ -189,16 +63,7 @@ fn connect(image: &[u8], memory: &mut [u8], argument: &[u8]) -> Report
     let gids = read_gids(argument);
     let list = gids.list;
     let count = gids.count;
-    let c = connect_as(image, memory, uid, list, count);
-    let shown = c.rule;
-    Report {
-        answer: c.answer as u32,
-        taken: 0,
-        kind: 0,
-        number: c.number,
-        count: low(c.slot),
-        rule: rule_numbers(shown),
-    }
+    places::connected(connect_as(image, memory, uid, list, count))
 }
 
 // A call that begins with a peer's number and has more behind it.
@@ -206,12 +71,12 @@ fn peer_call(image: &[u8], memory: &mut [u8], kind: u32, peer: u32, rest: &[u8])
     ensures { λ r. ⌜ Reported (peerCall (now (image .entry)) kind peer (now (rest .entry))) (now (memory .entry)) r (now (memory .exit)) ⌝ }
 {
     if kind == 2 {
-        return owned_report(guard::own(image, memory, peer, rest));
+        return places::owned(guard::own(image, memory, peer, rest));
     }
     if kind == 3 {
-        return plain_report(guard::release(memory, peer, rest));
+        return places::plain(guard::release(memory, peer, rest));
     }
-    taken_report(guard::piece(image, memory, peer, rest))
+    places::taken(guard::piece(image, memory, peer, rest))
 }
 
 fn call(image: &[u8], memory: &mut [u8], kind: u32, argument: &[u8]) -> Report
@@ -219,22 +84,14 @@ fn call(image: &[u8], memory: &mut [u8], kind: u32, argument: &[u8]) -> Report
     ensures { λ r. ⌜ Reported (callOf (now (image .entry)) kind (now (argument .entry))) (now (memory .entry)) r (now (memory .exit)) ⌝ }
 {
     if kind == 0 {
-        return plain_report(guard::start(memory));
+        return places::plain(guard::start(memory));
     }
     if kind == 1 {
         return connect(image, memory, argument);
     }
     let peer = wire::u32_at(Order::Little, argument, 0);
     if kind == 5 {
-        let g = guard::disconnect(memory, peer);
-        return Report {
-            answer: g.answer as u32,
-            taken: 0,
-            kind: 0,
-            number: g.bytes,
-            count: 0,
-            rule: no_rule(),
-        };
+        return places::gone(guard::disconnect(memory, peer));
     }
     peer_call(image, memory, kind, peer, &argument[4..])
 }
@@ -298,16 +155,17 @@ fn count_calls(script: &[u8]) -> Count
     }
 }
 
-// The first entry's call, and its answer in its place.
-fn step(image: &[u8], entry: &[u8], memory: &mut [u8], place: &mut [u8])
-    requires { ⌜ (Entry (now entry)) × (length (now place) ≡ 28) ⌝ }
-    ensures { λ r. ⌜ Stepped (now (image .entry)) (now (entry .entry)) (now (memory .entry)) (now (memory .exit)) (now (place .exit)) ⌝ }
+// The first entry's call, and its answer in the first place of the room.
+fn step(image: &[u8], entry: &[u8], memory: &mut [u8], room: &mut [u8])
+    requires { ⌜ (Entry (now entry)) × (placeLength ≤ length (now room)) ⌝ }
+    ensures { λ r.
+        ⌜ Stepped (now (image .entry)) (now (entry .entry)) (now (memory .entry)) (now (room .entry)) (now (memory .exit)) (now (room .exit)) ⌝ }
 {
     let kind = wire::u32_at(Order::Little, entry, 0);
     let n = wire::u32_at(Order::Little, entry, 4) as usize;
     let end = 8 + n;
     let report = call(image, memory, kind, &entry[8..end]);
-    put(place, report);
+    places::put(room, report);
 }
 
 // Every entry of a script whose layout holds, on a guard that has just started.
@@ -319,14 +177,13 @@ fn replay(image: &[u8], script: &[u8], memory: &mut [u8], answers: &mut [u8])
     let mut at = 0;
     while 0 < rest.len() {
         let k = entry_size(rest);
-        let end = at + 28;
-        step(image, rest, memory, &mut answers[at..end]);
+        step(image, rest, memory, &mut answers[at..]);
         rest = &rest[k..];
-        at = end;
+        at += PLACE_LENGTH;
     }
 }
 
-// Starts a guard in `memory`, makes the script's calls on it and writes each call's answer to its place of 28 bytes. A script that is refused changes nothing.
+// Starts a guard in `memory`, makes the script's calls on it and writes each call's answer to its place. A script that is refused changes nothing.
 pub fn run(image: &[u8], script: &[u8], memory: &mut [u8], answers: &mut [u8]) -> u8
     ensures { λ r.
         ⌜ EndsAs (outcome (now (image .entry)) (now (script .entry)) (now (memory .entry)) (now (answers .entry))) r (now (memory .exit))
@@ -336,7 +193,7 @@ pub fn run(image: &[u8], script: &[u8], memory: &mut [u8], answers: &mut [u8]) -
     if !count.whole {
         return 67;
     }
-    if answers.len() / 28 < count.calls {
+    if answers.len() / PLACE_LENGTH < count.calls {
         return 68;
     }
     if guard::start(memory) != 0 {

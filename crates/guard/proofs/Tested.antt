@@ -1,8 +1,8 @@
 -- The tests that come before a call: the image's answer, then 51 for memory, once over what any call reports.
 use mathlib.Core.Path.{_≡_, refl, sym, ap, _∙_}
 use mathlib.Core.Bool.{Bool, true, false, cond, not}
-use mathlib.Core.List.{List}
-use Prim.Native.Nat.{ℕ}
+use mathlib.Core.List.{List, [], _∷_}
+use Prim.Native.Nat.{ℕ, _≤_, _<_}
 use native.Mathlib.Omega.{arith}
 use lib.Dec.{eqb}
 use lib.ListN.{length, replicate}
@@ -14,15 +14,22 @@ use Rattle.image.specs.declared.Outcome.{Outcome}
 use Rattle.image.specs.declared.Outcome.the-variants.{Good, Bad}
 use Rattle.image.proofs.Holds.{image-holds}
 use Rattle.rules.specs.Calls.{noConnect, noOwn, noPiece}
+use Rattle.rules.specs.Places.{takenWords}
+use Rattle.rules.specs.Series.{series, takenBy}
+use Rattle.rules.specs.declared.Batch.{Batch}
 use Rattle.rules.specs.declared.Connected.{Connected}
 use Rattle.rules.specs.declared.Owned.{Owned}
 use Rattle.rules.specs.declared.Taken.{Taken}
 use Rattle.memory.specs.Layout.{memoryLength}
 use Rattle.memory.specs.Good.{good}
 use Rattle.memory.specs.Sound.{Held}
-use Rattle.memory.specs.Calls.{MemoryStep, unchanged, startOn, Did}
+use Rattle.memory.specs.Encoding.{stateOf}
+use Rattle.memory.specs.Calls.{MemoryStep, stored, unchanged, startOn, batchOn, Did}
 use Rattle.memory.proofs.Frame.{empty-bytes}
 use Rattle.memory.proofs.Good.{held-of}
+use Rattle.places.specs.Places.{placeLength, placesIn, Batched}
+use Rattle.places.proofs.Rooms.{filled-none}
+use Rattle.batches.specs.Steps.{pieces, Refused}
 
 -- ---- the image's outcome as an answer
 
@@ -82,6 +89,46 @@ module _ (image : List ℕ) (a : ℕ) (e : a ≡ imageAnswer image) where
   pub image-done : a ≡ 0 → {R : Type 0} {o : MemoryStep R} {r : R} {after : List ℕ} → Did o r after
       → (p : MemoryStep R) → Did (cond (eqb (imageAnswer image) 0) o p) r after
   image-done t d p = rw (← e, eq-eqb a 0 t) d
+
+-- ---- batch: the room comes before both tests, and what refuses is in its one place
+
+module _ (image m : List ℕ) (n : ℕ) (p room : List ℕ) where
+  abbrev batched : Batch → List ℕ → List ℕ → Type 0
+  batched r e y = Batched (batchOn image m n p (placesIn room)) room r e y
+
+  pub batch-none : length room < placeLength → batched (record { written = 0; taken = 0 }) m room
+  unfolding batchOn takenBy
+  batch-none h =
+      let k : placesIn room ≡ 0 = omega arith in
+      rw (eq-eqb (placesIn room) 0 k)
+      (record { wrote = record { written = refl; memory = refl; room = sym (filled-none takenWords room) }; taken = refl })
+
+  module _ (h : placeLength ≤ length room) where
+    some : eqb (placesIn room) 0 ≡ false
+    some = ne-eqb (placesIn room) 0 (λ e. omega arith)
+
+    -- a refusal with this answer
+    refused-with : (a : ℕ) (r : Batch) (y : List ℕ) → Refused a room r y → Batched (unchanged m (noPiece a ∷ [])) room r m y
+    unfolding takenBy
+    refused-with a r y f = record { wrote = record { written = f .one; memory = refl; room = f .written }; taken = f .none }
+
+    module _ (a : ℕ) (e : a ≡ imageAnswer image) where
+      pub batch-image : (a ≡ 0 → ⊥) → (r : Batch) (y : List ℕ) → Refused a room r y → batched r m y
+      unfolding batchOn
+      batch-image t r y f = rw (some, ← e, ne-eqb a 0 t) (refused-with a r y f)
+
+      module _ (t : a ≡ 0) (b : Bool) (q : b ≡ good m) where
+        pub batch-51 : not b ≡ true → (r : Batch) (y : List ℕ) → Refused 51 room r y → batched r m y
+        unfolding batchOn
+        batch-51 u r y f = rw (some, ← e, eq-eqb a 0 t, ← q, not-true b u) (refused-with 51 r y f)
+
+        pub batch-done : not b ≡ false → (r : Batch) (d y : List ℕ)
+            → Batched (stored (series (pieces image n) (placesIn room) (stateOf m) p)) room r d y
+            → batched r d y
+        unfolding batchOn
+        batch-done u r d y f = rw (some, ← e, eq-eqb a 0 t, ← q, not-false b u) f
+
+pub ruleset batching = (passed-image, passed-memory, batch-none, batch-image, batch-51, batch-done, needs)
 
 -- ---- start
 

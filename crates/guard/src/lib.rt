@@ -1,6 +1,8 @@
-// The guard: six calls on lent memory. No call asks anything of its caller: images, memory, names and pieces may be any bytes.
+// The guard: seven calls on lent memory. No call asks anything of its caller: images, memory, names, pieces and rooms may be any bytes.
 use image::Outcome;
 use memory::MEMORY_LENGTH;
+use places::PLACE_LENGTH;
+use rules::Batch;
 use rules::Connected;
 use rules::Gone;
 use rules::Owned;
@@ -11,7 +13,8 @@ use rules::no_own;
 use rules::no_piece;
 ghost use mathlib.Core.Path.{_≡_};
 ghost use Rattle.image.specs.Good.{imageAnswer};
-ghost use Rattle.memory.specs.Calls.{startOn, connectOn, ownOn, releaseOn, pieceOn, disconnectOn, Did};
+ghost use Rattle.memory.specs.Calls.{startOn, connectOn, ownOn, releaseOn, pieceOn, batchOn, disconnectOn, Did};
+ghost use Rattle.places.specs.Places.{placesIn, Batched};
 
 // What a call that takes this image answers before all else (rules 5.9 and 8.1); 0 where it goes on.
 fn image_answer(image: &[u8]) -> u8
@@ -84,6 +87,28 @@ pub fn piece(image: &[u8], memory: &mut [u8], peer: u32, bytes: &[u8]) -> Taken
         return no_piece(51);
     }
     pieces::piece(image, memory, peer, bytes)
+}
+
+// A piece of a peer's stream, offered message after message until it or the places of a lent room are used up (rule 9.6).
+pub fn batch(image: &[u8], memory: &mut [u8], peer: u32, bytes: &[u8], room: &mut [u8]) -> Batch
+    ensures { λ r.
+        ⌜ Batched (batchOn (now (image .entry)) (now (memory .entry)) peer (now (bytes .entry)) (placesIn (now (room .entry)))) (now (room .entry)) r
+        (now (memory .exit)) (now (room .exit)) ⌝ }
+{
+    if room.len() < PLACE_LENGTH {
+        return Batch {
+            written: 0,
+            taken: 0,
+        };
+    }
+    let answer = image_answer(image);
+    if answer != 0 {
+        return batches::refused(answer, room);
+    }
+    if !audit::is_good(memory) {
+        return batches::refused(51, room);
+    }
+    batches::batch(image, memory, peer, bytes, room)
 }
 
 // A peer goes: its names and its pending calls, made and awaited, end (rule 8.7).

@@ -1,4 +1,4 @@
-// Scenarios on the guard's six calls: a line for each call, with its answer, its receiver, the bytes taken, and whether any byte of memory changed.
+// Scenarios on the guard's single calls: a line for each call, with its answer, its receiver, the bytes taken, and whether any byte of memory changed.
 mod cuts;
 mod lines;
 mod messages;

@@ -1,6 +1,6 @@
 -- The guard's calls on memory: what each leaves and gives, for all bytes. The image's answer comes first where one is lent, then 51 (rule 8.1).
 use mathlib.Core.Bool.{cond}
-use mathlib.Core.List.{List}
+use mathlib.Core.List.{List, [], _∷_}
 use mathlib.Core.Path.{_≡_}
 use Prim.Native.Nat.{ℕ}
 use lib.Dec.{eqb}
@@ -8,6 +8,7 @@ use lib.ListN.{length}
 use Rattle.image.specs.Good.{imageAnswer}
 use Rattle.stream.specs.Tail.{Tail, tails}
 use Rattle.rules.specs.Calls.{Step, empty, connect, own, release, piece, disconnect, noConnect, noOwn, noPiece, noGone}
+use Rattle.rules.specs.Series.{series}
 use Rattle.rules.specs.declared.Connected.{Connected}
 use Rattle.rules.specs.declared.Owned.{Owned}
 use Rattle.rules.specs.declared.Taken.{Taken}
@@ -64,3 +65,15 @@ disconnectOn m n = onMemory noGone m (disconnect tails (stateOf m) n)
 pub record Did {R : Type 0} (o : MemoryStep R) (r : R) (m : List ℕ) : Type 0 where
   pub result : r ≡ o .result
   pub memory : m ≡ o .memory
+
+-- ---- calls that write their reports to places
+
+-- a call that has a place for its report; without one it is not made (rule 8.11)
+unfoldable pub onPlace : {R : Type 0} → ℕ → List ℕ → MemoryStep R → MemoryStep (List R)
+onPlace places m o = cond (eqb places 0) (unchanged m []) (record { memory = o .memory; result = o .result ∷ [] })
+
+-- the calls of a batch: what refuses the first is tested once for all of them, and without a place nothing is (rule 9.6)
+unfoldable pub batchOn : List ℕ → List ℕ → ℕ → List ℕ → ℕ → MemoryStep (List Taken)
+batchOn image m n bytes places =
+    cond (eqb places 0) (unchanged m [])
+    (onImage (λ a. noPiece a ∷ []) image m (series (λ s p. piece tails image s n p) places (stateOf m) bytes))

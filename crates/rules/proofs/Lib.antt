@@ -8,6 +8,7 @@ pub mod Replies
 pub mod View
 pub mod SeenJudge
 pub mod Seen
+pub mod Series
 pub mod Shows
 pub mod Bench
 mod Numbers

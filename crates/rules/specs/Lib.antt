@@ -7,4 +7,5 @@ pub mod Awaited
 pub mod View
 pub mod Bench
 pub mod Places
+pub mod Series
 pub mod Shows

@@ -1,4 +1,4 @@
--- Reports as numbers, for what is written and printed, and whether an offering goes on after one (rules 7.4, 9.5 and 12.3).
+-- Reports as numbers, for what is written and printed, and whether an offering goes on after one (rules 7.4, 8.11 and 9.5).
 use mathlib.Core.Bool.{Bool, not, _&&_, _||_}
 use mathlib.Core.List.{List, [], _∷_, _++_}
 use Prim.Native.Nat.{ℕ}
@@ -26,7 +26,7 @@ abbrev pub shownWords : Shown → List ℕ
 shownWords Nothing = 0 ∷ 0 ∷ []
 shownWords (By d) = deciderWords d
 
--- ---- a report in seven words: answer, bytes taken, a receiver or what is reported in its place, and who decided (rule 12.3)
+-- ---- a report in seven words: answer, bytes taken, a receiver or what is reported in its place, and who decided (rule 8.11)
 
 abbrev pub plainWords : ℕ → List ℕ
 plainWords a = a ∷ 0 ∷ 0 ∷ 0 ∷ 0 ∷ 0 ∷ 0 ∷ []

@@ -1,12 +1,14 @@
-// What the guard's calls report, each report of a refusal, and which names a peer may own.
+// What the guard's calls report, each report of a refusal, when an offering goes on, and which names a peer may own.
 use names::Form;
 use policy::Decider;
 ghost use mathlib.Core.Path.{_≡_};
+ghost use mathlib.Core.Bool.{not, _&&_};
 ghost use mathlib.Core.List.{[], _∷_};
+ghost use lib.Dec.{ltb};
 ghost use Rattle.policy.specs.Decisions.{deciderWords};
 ghost use Rattle.rules.specs.Addresses.{ownable};
 ghost use Rattle.rules.specs.Judge.{refusal, judgementBy};
-ghost use Rattle.rules.specs.Places.{shownWords};
+ghost use Rattle.rules.specs.Places.{shownWords, isStop};
 ghost use Rattle.rules.specs.Calls.{noConnect, connectedBy, noOwn, noPiece, noGone};
 
 // Who receives a message: nobody, the bus itself, the peer of a number, or the slots of a mask, with their count.
@@ -53,6 +55,12 @@ pub struct RuleNumbers {
 // What a piece comes to: the judgement, and the bytes taken.
 pub struct Taken {
     pub judgement: Judgement,
+    pub taken: usize,
+}
+
+// What a batch reports: how many places it wrote, and how many bytes were taken in all.
+pub struct Batch {
+    pub written: usize,
     pub taken: usize,
 }
 
@@ -159,6 +167,14 @@ pub fn rule_numbers(shown: Shown) -> RuleNumbers
         },
         Shown::By(decider) => decider_numbers(decider),
     }
+}
+
+// An offering goes on behind this answer to a piece of that length (rule 9.5).
+pub fn goes_on(answer: u8, taken: usize, length: usize) -> bool
+    ensures { λ r. ⌜ r ≡ not (isStop answer) && ltb taken length ⌝ }
+{
+    let stops = ((1 <= answer) & (answer <= 9)) | ((30 <= answer) & (answer <= 51));
+    !stops & (taken < length)
 }
 
 // A name that a peer may own: well-known, and not the bus's.

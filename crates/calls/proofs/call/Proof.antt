@@ -16,7 +16,6 @@ call-spec =
     (λ c. search calling)
     (λ c κs. search calling)
     (λ c κs. search calling)
-    (λ c. search calling)
     (λ c κs. search calling)
     (λ c. search calling)
     (λ c. search calling)

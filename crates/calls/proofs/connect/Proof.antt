@@ -10,8 +10,6 @@ connect-spec =
     (λ c κs. search connecting)
     (λ c κs. search connecting)
     (λ c κs. search connecting)
-    (λ c. search connecting)
-    (λ c κs. search connecting)
     (λ c κs. search connecting)
     (λ c. search connecting)
     (λ c. search connecting))

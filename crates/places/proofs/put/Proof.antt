@@ -1,7 +1,7 @@
--- `calls::put` meets its contract.
-use Rattle.calls.proofs.Words.{putting}
-use Rattle.calls.proofs.put.Statement.{statement}
-use Rattle.calls.proofs.put.Tie as tie
+-- `places::put` meets its contract.
+use Rattle.places.proofs.Rooms.{putting}
+use Rattle.places.proofs.put.Statement.{statement}
+use Rattle.places.proofs.put.Tie as tie
 
 pub put-spec : {M : Type 1} → statement M
 put-spec =
