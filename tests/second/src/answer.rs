@@ -51,10 +51,14 @@ impl Answer {
         self as u32
     }
 
-    /// Offering a piece goes on after every answer but these.
     pub fn ends_an_offer(self) -> bool {
-        matches!(self.number(), 1..=9 | 30..=51)
+        ends_an_offer(self.number())
     }
+}
+
+/// Offering a piece goes on after every answer but these.
+pub fn ends_an_offer(number: u32) -> bool {
+    matches!(number, 1..=9 | 30..=51)
 }
 
 /// Who gets a message that passed.

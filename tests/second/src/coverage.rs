@@ -1,8 +1,10 @@
 //! Counting what a set of captures reaches: answers by call, the cases of 7, 8, 9 and 50, what
 //! names were refused for, what unknown header fields held, what rules that name an interface
-//! did, what became of waiting calls, and what was shown of the rules that decided.
+//! did, what became of waiting calls, what was shown of the rules that decided, and what batches
+//! came to.
 
 use crate::answer::{Answer, Receiver, ANSWERS_OF_CALLS};
+use crate::batch_cases;
 use crate::capture::{self, Call};
 use crate::decider_cases;
 use crate::guard::{Guard, LentPolicy};
@@ -65,6 +67,7 @@ fn wanted_cases() -> Vec<String> {
     wanted.extend(interface_cases::CASES.iter().map(|case| case.to_string()));
     wanted.extend(wait_cases::CASES.iter().map(|case| case.to_string()));
     wanted.extend(decider_cases::cases());
+    wanted.extend(batch_cases::cases());
     wanted
 }
 
@@ -151,6 +154,11 @@ impl Coverage {
             self.count_cases(wait_cases.at_end());
         }
         self.captures += 1;
+    }
+
+    /// Adds what batches come to where the same calls are made by them.
+    pub fn add_batches(&mut self, file: &[u8]) {
+        self.count_cases(batch_cases::of_capture(file));
     }
 
     fn count(&mut self, outcome: Outcome) {

@@ -3,9 +3,11 @@
 //! The guard's state is kept in ordinary structs, so nothing here knows how the
 //! guard proper lays out its memory. The modules follow the paper: what stands on
 //! the wire, the name rules, the message head, the policy image, the rules of
-//! precedence, and the guard's six calls.
+//! precedence, the guard's six calls, and batches of them.
 
 pub mod answer;
+pub mod batch;
+pub mod batch_cases;
 pub mod capture;
 pub mod coverage;
 pub mod decider_cases;

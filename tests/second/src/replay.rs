@@ -1,6 +1,7 @@
 //! Running calls on a guard, the one line that each of them prints, and what its waits come to.
 
 use crate::answer::{Answer, Receiver};
+use crate::batch::{self, Offered};
 use crate::capture::{self, Call};
 use crate::guard::{Connected, Disconnected, Guard, Judged, LentPolicy, Owned};
 use crate::image;
@@ -72,13 +73,22 @@ impl Outcome {
                 format!("{start} {} {} {shown} {position}", connected.number, connected.slot)
             }
             Outcome::Own(_) => format!("{start} {shown} {position}"),
-            Outcome::Piece(judged) => {
-                let (kind, value, count) = receiver_numbers(judged.receiver);
-                format!("{start} {} {kind} {value} {count} {shown} {position}", judged.taken)
-            }
+            Outcome::Piece(judged) => piece_line(&piece_numbers(judged)),
             Outcome::Disconnect(disconnected) => format!("{start} {}", disconnected.bytes),
         }
     }
+}
+
+/// The seven numbers of a piece call's report.
+pub fn piece_numbers(judged: &Judged) -> [u32; 7] {
+    let (kind, value, count) = receiver_numbers(judged.receiver);
+    let (shown, position) = decider_numbers(judged.decider);
+    [judged.answer.number(), judged.taken as u32, kind, value, count, shown, position as u32]
+}
+
+fn piece_line(numbers: &[u32; 7]) -> String {
+    let words: Vec<String> = numbers.iter().map(u32::to_string).collect();
+    format!("piece {}", words.join(" "))
 }
 
 /// Nothing shown, a rule with its position, or that none matched.
@@ -115,6 +125,34 @@ pub fn replay(file: &[u8]) -> String {
 pub fn replay_with_waits(file: &[u8]) -> String {
     let (lines, waits) = both_parts(file);
     lines + &waits
+}
+
+/// The lines of a capture whose pieces are each offered in batches of `places`.
+pub fn replay_in_batches(file: &[u8], places: usize) -> String {
+    let reading = capture::read(file);
+    let policy = lent_policy(&reading.capture.image);
+    let mut guard = Guard::default();
+    let mut lines = String::new();
+    for call in &reading.capture.calls {
+        match call {
+            Call::Piece { peer, bytes } => {
+                let offered = batch::offer(&mut guard, policy.as_ref(), *peer, bytes, places);
+                lines.extend(offered.iter().map(batch_lines));
+            }
+            _ => lines += &(run(&mut guard, policy.as_ref(), call).line() + "\n"),
+        }
+    }
+    match reading.is_whole {
+        true => lines,
+        false => lines + BAD_CAPTURE + "\n",
+    }
+}
+
+/// What a batch reports, and behind it a line for each place that it wrote.
+fn batch_lines(offered: &Offered) -> String {
+    let mut lines = format!("batch {} {}\n", offered.batch.written, offered.batch.taken);
+    lines.extend(offered.places.iter().map(|numbers| piece_line(numbers) + "\n"));
+    lines
 }
 
 /// The lines of the calls, and the lines about waits.

@@ -7,12 +7,12 @@ use second::generate::{generate, generate_pair, spelling, Mode};
 use second::guard::Guard;
 use second::name_cases;
 use second::name_forms::Form;
-use second::replay::replay;
+use second::replay::{replay, replay_in_batches};
 use second::unknown_cases;
 
 #[test]
 fn a_seed_means_one_capture() {
-    for mode in [Mode::Mixed, Mode::Full, Mode::BadImage, Mode::BadLayout] {
+    for mode in [Mode::Mixed, Mode::Full, Mode::BadImage, Mode::BadLayout, Mode::Batches] {
         for seed in 0..20 {
             assert!(generate(seed, 100, mode) == generate(seed, 100, mode));
         }
@@ -121,6 +121,20 @@ fn unknown_fields_in_each_mode() {
     }
 }
 
+/// The longest pieces have about as many messages as they are meant to have.
+#[test]
+fn pieces_of_many_messages() {
+    let files: Vec<Vec<u8>> = (1..=30).map(|seed| generate(seed, 100, Mode::Batches)).collect();
+    let most_places = |file: &Vec<u8>| {
+        let lines = replay_in_batches(file, 4096);
+        let written = |line: &str| line.strip_prefix("batch ")?.split(' ').next()?.parse::<usize>().ok();
+        lines.lines().filter_map(written).max().unwrap_or(0)
+    };
+    let most = files.iter().map(most_places).max();
+    assert!(most.is_some_and(|most| (78..=82).contains(&most)), "{most:?}");
+    assert!(files.iter().all(|file| capture::read(file).is_whole));
+}
+
 /// That cutting changes nothing of what messages show is seen only where they show all there is.
 #[test]
 fn pairs_show_rules() {
@@ -145,5 +159,8 @@ fn every_answer_is_reached() {
         coverage.add(&generate(seed, 20, Mode::BadImage));
     }
     coverage.add(&generate(1, 100, Mode::BadLayout));
+    for seed in 1..=60 {
+        coverage.add_batches(&generate(seed, 100, Mode::Batches));
+    }
     assert_eq!(coverage.never(), Vec::<String>::new());
 }

@@ -1,5 +1,6 @@
-//! `coverage [--all] FILE...`: counts the answers that captures reach, and by which call.
-//! With --all it fails where an answer or one of the cases was never met.
+//! `coverage [--all] FILE... [--places FILE...]`: counts the answers that captures reach, and by
+//! which call; for those behind --places also what batches come to. With --all it fails where an
+//! answer or one of the cases was never met.
 
 use second::coverage::Coverage;
 use std::io::Write;
@@ -12,9 +13,19 @@ fn main() -> ExitCode {
         files.remove(0);
     }
     let mut coverage = Coverage::default();
+    let mut in_batches = false;
     for path in &files {
+        if path == "--places" {
+            in_batches = true;
+            continue;
+        }
         match std::fs::read(path) {
-            Ok(file) => coverage.add(&file),
+            Ok(file) => {
+                coverage.add(&file);
+                if in_batches {
+                    coverage.add_batches(&file);
+                }
+            }
             Err(fault) => {
                 eprintln!("{path}: {fault}");
                 return ExitCode::FAILURE;

@@ -3,7 +3,7 @@
 use second::generate::{generate, generate_pair, Mode};
 use std::process::ExitCode;
 
-const USAGE: &str = "usage: generate SEED CALLS OUT.capture [mixed|full|image|layout|split]
+const USAGE: &str = "usage: generate SEED CALLS OUT.capture [mixed|full|image|layout|batches|split]
 Mode split writes OUT.whole.capture and OUT.split.capture.";
 
 fn main() -> ExitCode {

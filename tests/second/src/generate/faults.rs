@@ -46,6 +46,13 @@ pub fn with_unknown_field(random: &mut Random, message: &Message) -> Message {
     value_faults::with_fault(random, &message)
 }
 
+/// The bytes of `message` with a single fault in the first 16, if any.
+pub fn in_fixed_part(random: &mut Random, message: &Message) -> Vec<u8> {
+    let mut bytes = message.bytes();
+    break_fixed_part(random, message.order, &mut bytes);
+    bytes
+}
+
 fn put_u32(order: ByteOrder, bytes: &mut [u8], at: usize, value: u32) {
     bytes[at..at + 4].copy_from_slice(&order.write_u32(value));
 }
@@ -216,7 +223,7 @@ fn a_text_field(random: &mut Random, built: &Marshalled) -> Option<(usize, usize
 }
 
 /// Takes away a required field; types without any keep all, and 9 does not come.
-fn without_required_field(random: &mut Random, mut message: Message) -> Message {
+pub fn without_required_field(random: &mut Random, mut message: Message) -> Message {
     let required = required_fields(message.message_type);
     if !required.is_empty() {
         let missing = random.pick(required);

@@ -1,5 +1,6 @@
 //! Seeded captures that reach every answer a test can reach.
 
+mod batches;
 mod deciders;
 mod faults;
 mod full;
@@ -33,6 +34,8 @@ pub enum Mode {
     BadImage,
     /// A capture whose layout is broken.
     BadLayout,
+    /// Pieces of many messages.
+    Batches,
 }
 
 impl Mode {
@@ -42,6 +45,7 @@ impl Mode {
             "full" => Some(Mode::Full),
             "image" => Some(Mode::BadImage),
             "layout" => Some(Mode::BadLayout),
+            "batches" => Some(Mode::Batches),
             _ => None,
         }
     }
@@ -63,6 +67,7 @@ pub fn generate(seed: u64, calls: usize, mode: Mode) -> Vec<u8> {
             let (policy, image) = policies::policy_and_image(&mut random);
             (Some(policy), image)
         }
+        Mode::Batches => batches::policy_and_image(&mut random),
     };
     let mut world = World::new(random, policy);
     let mut next_fill = 0;
@@ -70,6 +75,10 @@ pub fn generate(seed: u64, calls: usize, mode: Mode) -> Vec<u8> {
         if mode == Mode::Full && world.calls.len() >= next_fill {
             full::fill(&mut world);
             next_fill = world.calls.len() + 300;
+            continue;
+        }
+        if mode == Mode::Batches {
+            batches::step(&mut world);
             continue;
         }
         if let Some(peer) = world.step() {
@@ -82,7 +91,7 @@ pub fn generate(seed: u64, calls: usize, mode: Mode) -> Vec<u8> {
     let file = capture::write(&Capture { image, calls: world.calls });
     match mode {
         Mode::BadLayout => with_broken_layout(&mut world.random, &file),
-        Mode::Mixed | Mode::Full | Mode::BadImage => file,
+        Mode::Mixed | Mode::Full | Mode::BadImage | Mode::Batches => file,
     }
 }
 

@@ -2,6 +2,8 @@
 
 use super::random::Random;
 use super::{deciders, faults, interfaces, messages, talks, vocabulary};
+use crate::answer::ends_an_offer;
+use crate::batch;
 use crate::capture::Call;
 use crate::guard::Guard;
 use crate::message::Message;
@@ -32,7 +34,7 @@ enum Cut {
 pub struct World {
     pub random: Random,
     pub guard: Guard,
-    policy: Option<Policy>,
+    pub policy: Option<Policy>,
     /// Bytes that a peer has not yet offered.
     unsent: BTreeMap<u32, Vec<u8>>,
     phase: Phase,
@@ -180,6 +182,17 @@ impl World {
         self.unsent.insert(peer, bytes);
     }
 
+    /// Bytes that the peer has begun and not yet offered.
+    pub fn take_unsent(&mut self, peer: u32) -> Vec<u8> {
+        self.unsent.remove(&peer).unwrap_or_default()
+    }
+
+    /// Offers bytes to the generator's own guard alone; false where an answer ended the offer.
+    pub fn try_out(&mut self, peer: u32, bytes: &[u8]) -> bool {
+        let offered = batch::offer(&mut self.guard, self.policy.as_ref(), peer, bytes, 64);
+        offered.last().and_then(|last| last.places.last()).is_some_and(|last| !ends_an_offer(last[0]))
+    }
+
     /// Offers the next bytes of a peer in one call.
     pub fn send_piece(&mut self, peer: u32) {
         if self.random.chance(2) {
@@ -246,7 +259,7 @@ impl World {
         }
     }
 
-    fn good_message(&mut self, peer: u32) -> Message {
+    pub fn good_message(&mut self, peer: u32) -> Message {
         let aim = self.random.below(100);
         let aimed = match (&self.policy, aim) {
             (Some(policy), 0..=19) => interfaces::message(&mut self.random, &self.guard, policy),

@@ -107,6 +107,21 @@ impl Bench {
     }
 }
 
+/// Five messages of one peer of two: to the bus, to the other peer, to everybody, a reply that nobody
+/// awaits, and one of an unknown type.
+pub fn five() -> Vec<u8> {
+    [
+        Message::call(1, "/", "M"),
+        Message::call(2, "/", "M").to(":1.2"),
+        Message::signal(3, "/", "a.b", "S"),
+        Message::method_return(4, 9).to(":1.2"),
+        Message::new(5, 5),
+    ]
+    .iter()
+    .flat_map(Message::bytes)
+    .collect()
+}
+
 /// Feeds the bytes to a fresh peer at once and byte by byte; both must agree.
 pub fn judge(bytes: &[u8]) -> (u32, usize, Option<HeadFault>) {
     let whole = Bench::with_peers(OPEN, 1).piece(1, bytes);
