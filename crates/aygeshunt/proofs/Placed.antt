@@ -8,9 +8,11 @@ use lib.Dec.{eqb}
 use lib.ListN.{length, drop}
 use borrow.Author.Needs.{needs}
 use borrow.Author.Tests.{eq-eqb, ne-eqb}
+use Rattle.rules.specs.declared.Batch.{Batch}
+use Rattle.rules.specs.declared.Taken.{Taken}
 use Rattle.memory.specs.Calls.{MemoryStep, Did, onPlace}
 use Rattle.places.specs.declared.Report.{Report}
-use Rattle.places.specs.Places.{placeLength, placeOf, placesIn, reportWords, Shows, Wrote}
+use Rattle.places.specs.Places.{placeLength, placeOf, placesIn, reportWords, Shows, Wrote, Batched}
 use Rattle.places.proofs.Rooms.{filled-none, filled-one}
 
 module _ {R : Type 0} (words : R → List ℕ) (o : MemoryStep R) (m room : List ℕ) where
@@ -30,3 +32,11 @@ module _ {R : Type 0} (words : R → List ℕ) (o : MemoryStep R) (m room : List
       rw k (record { written = refl; memory = d .memory; room = w ∙ f ∙ sym (filled-one words room (o .result)) })
 
 pub ruleset placing = (no-place, one-place, needs)
+
+-- ---- a batch, of which the caller is told one number by its return and one in a place of its own
+
+pub two-numbers : (o : MemoryStep (List Taken)) (room : List ℕ) (b : Batch) (m y : List ℕ) → Batched o room b m y
+    → Batched o room (record { written = b .written; taken = b .taken }) m y
+two-numbers o room b m y d = d
+
+pub ruleset telling = (two-numbers, needs)
