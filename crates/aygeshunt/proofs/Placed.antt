@@ -1,35 +1,28 @@
 -- A call with its report in a place, once over what any call reports: without a whole place nothing happens.
 use mathlib.Core.Path.{_≡_, refl, sym, ap, _∙_}
-use mathlib.Core.Bool.{false}
 use mathlib.Core.List.{List, _++_}
 use Prim.Native.Nat.{ℕ, _≤_, _<_}
-use native.Mathlib.Omega.{arith}
-use lib.Dec.{eqb}
 use lib.ListN.{length, drop}
 use borrow.Author.Needs.{needs}
-use borrow.Author.Tests.{eq-eqb, ne-eqb}
 use Rattle.rules.specs.declared.Batch.{Batch}
 use Rattle.rules.specs.declared.Taken.{Taken}
 use Rattle.memory.specs.Calls.{MemoryStep, Did, onPlace}
 use Rattle.places.specs.declared.Report.{Report}
 use Rattle.places.specs.Places.{placeLength, placeOf, placesIn, reportWords, Shows, Wrote, Batched}
-use Rattle.places.proofs.Rooms.{filled-none, filled-one}
+use Rattle.places.proofs.Rooms.{no-places, some-places, filled-none, filled-one}
 
 module _ {R : Type 0} (words : R → List ℕ) (o : MemoryStep R) (m room : List ℕ) where
   pub no-place : length room < placeLength → Wrote words (onPlace (placesIn room) m o) room 0 m room
   unfolding onPlace
-  no-place h =
-      let k : placesIn room ≡ 0 = omega arith in
-      rw (eq-eqb (placesIn room) 0 k) (record { written = refl; memory = refl; room = sym (filled-none words room) })
+  no-place h = rw (no-places room h) (record { written = refl; memory = refl; room = sym (filled-none words room) })
 
   pub one-place : placeLength ≤ length room → (r : R) (e : List ℕ) → Did o r e → (n : Report) → Shows (words r) n → (y : List ℕ)
       → y ≡ placeOf (reportWords n) ++ drop placeLength room
       → Wrote words (onPlace (placesIn room) m o) room 1 e y
   unfolding onPlace
   one-place h r e d n s y w =
-      let k : eqb (placesIn room) 0 ≡ false = ne-eqb (placesIn room) 0 (λ z. omega arith) in
       let f = ap (λ (l : List ℕ). l ++ drop placeLength room) (s .are ∙ ap (λ (x : R). placeOf (words x)) (d .result)) in
-      rw k (record { written = refl; memory = d .memory; room = w ∙ f ∙ sym (filled-one words room (o .result)) })
+      rw (some-places room h) (record { written = refl; memory = d .memory; room = w ∙ f ∙ sym (filled-one words room (o .result)) })
 
 pub ruleset placing = (no-place, one-place, needs)
 

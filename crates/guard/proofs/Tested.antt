@@ -28,7 +28,7 @@ use Rattle.memory.specs.Calls.{MemoryStep, stored, unchanged, startOn, batchOn,
 use Rattle.memory.proofs.Frame.{empty-bytes}
 use Rattle.memory.proofs.Good.{held-of}
 use Rattle.places.specs.Places.{placeLength, placesIn, Batched}
-use Rattle.places.proofs.Rooms.{filled-none}
+use Rattle.places.proofs.Rooms.{no-places, some-places, filled-none}
 use Rattle.batches.specs.Steps.{pieces, Refused}
 
 -- ---- the image's outcome as an answer
@@ -99,14 +99,10 @@ module _ (image m : List ℕ) (n : ℕ) (p room : List ℕ) where
   pub batch-none : length room < placeLength → batched (record { written = 0; taken = 0 }) m room
   unfolding batchOn takenBy
   batch-none h =
-      let k : placesIn room ≡ 0 = omega arith in
-      rw (eq-eqb (placesIn room) 0 k)
+      rw (no-places room h)
       (record { wrote = record { written = refl; memory = refl; room = sym (filled-none takenWords room) }; taken = refl })
 
   module _ (h : placeLength ≤ length room) where
-    some : eqb (placesIn room) 0 ≡ false
-    some = ne-eqb (placesIn room) 0 (λ e. omega arith)
-
     -- a refusal with this answer
     refused-with : (a : ℕ) (r : Batch) (y : List ℕ) → Refused a room r y → Batched (unchanged m (noPiece a ∷ [])) room r m y
     unfolding takenBy
@@ -115,18 +111,18 @@ module _ (image m : List ℕ) (n : ℕ) (p room : List ℕ) where
     module _ (a : ℕ) (e : a ≡ imageAnswer image) where
       pub batch-image : (a ≡ 0 → ⊥) → (r : Batch) (y : List ℕ) → Refused a room r y → batched r m y
       unfolding batchOn
-      batch-image t r y f = rw (some, ← e, ne-eqb a 0 t) (refused-with a r y f)
+      batch-image t r y f = rw (some-places room h, ← e, ne-eqb a 0 t) (refused-with a r y f)
 
       module _ (t : a ≡ 0) (b : Bool) (q : b ≡ good m) where
         pub batch-51 : not b ≡ true → (r : Batch) (y : List ℕ) → Refused 51 room r y → batched r m y
         unfolding batchOn
-        batch-51 u r y f = rw (some, ← e, eq-eqb a 0 t, ← q, not-true b u) (refused-with 51 r y f)
+        batch-51 u r y f = rw (some-places room h, ← e, eq-eqb a 0 t, ← q, not-true b u) (refused-with 51 r y f)
 
         pub batch-done : not b ≡ false → (r : Batch) (d y : List ℕ)
             → Batched (stored (series (pieces image n) (placesIn room) (stateOf m) p)) room r d y
             → batched r d y
         unfolding batchOn
-        batch-done u r d y f = rw (some, ← e, eq-eqb a 0 t, ← q, not-false b u) f
+        batch-done u r d y f = rw (some-places room h, ← e, eq-eqb a 0 t, ← q, not-false b u) f
 
 pub ruleset batching = (passed-image, passed-memory, batch-none, batch-image, batch-51, batch-done, needs)
 

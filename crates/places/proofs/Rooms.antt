@@ -1,11 +1,14 @@
 -- A room and its places: how long they are, one written, and one more behind those that were.
 use mathlib.Core.Path.{_≡_, refl, sym, ap, _∙_}
+use mathlib.Core.Bool.{true, false}
 use mathlib.Core.List.{List, [], _∷_, _++_, append-assoc, append-nil}
-use Prim.Native.Nat.{ℕ, _+_, _-_, _*_, _≤_}
+use Prim.Native.Nat.{ℕ, _+_, _-_, _*_, _≤_, _<_}
 use native.Mathlib.Omega.{arith}
+use lib.Dec.{eqb}
 use lib.ListN.{length, take, drop, length-append, length-drop, drop-of-length-le}
 use lib.Seq.{take-at, drop-at, drop-drop}
 use borrow.Author.Needs.{needs}
+use borrow.Author.Tests.{eq-eqb, ne-eqb}
 use Rattle.wire.specs.Words.{wordBytes}
 use Rattle.wire.proofs.Words.{word-length, rest-at}
 use Rattle.tables.specs.Tables.{cells}
@@ -19,7 +22,7 @@ use Rattle.rules.specs.declared.Receiver.the-variants as to
 use Rattle.rules.specs.declared.Shown.{Shown}
 use Rattle.rules.specs.declared.Shown.the-variants.{Nothing, By}
 use Rattle.rules.specs.declared.Taken.{Taken}
-use Rattle.places.specs.Places.{placeLength, placeOf, filled}
+use Rattle.places.specs.Places.{placeLength, placeOf, placesIn, filled}
 
 -- ---- lengths
 
@@ -49,6 +52,14 @@ taken-length t =
       receiver-length (t .judgement .receiver),
       shown-length (t .judgement .rule),
     )
+
+-- ---- whole places
+
+pub no-places : (room : List ℕ) → length room < placeLength → eqb (placesIn room) 0 ≡ true
+no-places room h = eq-eqb (placesIn room) 0 (omega arith)
+
+pub some-places : (room : List ℕ) → placeLength ≤ length room → eqb (placesIn room) 0 ≡ false
+some-places room h = ne-eqb (placesIn room) 0 (λ e. omega arith)
 
 -- ---- the first place written
 
