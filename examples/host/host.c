@@ -3,8 +3,8 @@
  *     host CAPTURE                  one call of aygeshunt_piece for each piece
  *     host --places COUNT CAPTURE   each piece is offered whole, by aygeshunt_batch with 1 to 4096 places
  *
- * A daemon has sockets; this program has a capture, which is a policy image and the calls that a daemon made (tests/second/README.md says how it
- * is laid out). All else is as in a daemon: it lends the guard its memory and the image, makes the calls, and does as the places say. To do
+ * A daemon has sockets; this program has a capture, which is a policy image and the calls that a daemon made (tools/README.md says how it is
+ * laid out). All else is as in a daemon: it lends the guard its memory and the image, makes the calls, and does as the places say. To do
  * is here to print. */
 #include <errno.h>
 #include <inttypes.h>

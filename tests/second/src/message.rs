@@ -1,4 +1,4 @@
-//! Building messages, good ones and broken ones, for tests, scripts and generated captures.
+//! Building messages, good ones and broken ones, for tests and generated captures.
 
 use crate::header::{
     letter_of, DESTINATION, ERROR, ERROR_NAME, INTERFACE, MEMBER, METHOD_CALL, METHOD_RETURN, PATH,

@@ -2,9 +2,8 @@
 
 mod common;
 
-use common::{Bench, OPEN};
+use common::{policy, Bench, OPEN};
 use second::message::Message;
-use second::policy_text;
 use second::signature::is_signature;
 
 const CALL_C: [u8; 48] = [
@@ -76,8 +75,7 @@ fn t8() {
 
 #[test]
 fn t9() {
-    let policy = policy_text::parse("own default allow prefix org.foo").expect("good");
-    let matcher = &policy.own[0].name;
+    let matcher = &policy("own default allow prefix org.foo").own[0].name;
     assert!(matcher.matches("org.foo"));
     assert!(matcher.matches("org.foo.bar"));
     assert!(!matcher.matches("org.foobar"));

@@ -168,19 +168,25 @@ fn strings_may_overlap_and_end_at_the_total() {
     assert_eq!(breach_of(&bus), None);
 }
 
+/// A rule that allows everybody to send anything.
+fn open_send() -> TransactionRule {
+    TransactionRule {
+        context: Context::Default,
+        verdict: Verdict::Allow,
+        direction: Direction::Send,
+        message_type: None,
+        name: None,
+        path: None,
+        interface: None,
+        member: None,
+    }
+}
+
 #[test]
 fn name_lengths_in_rules() {
     let with = |name: &str, path: &str| {
-        let rule = TransactionRule {
-            context: Context::Default,
-            verdict: Verdict::Allow,
-            direction: Direction::Send,
-            message_type: None,
-            name: Some(name.to_string()),
-            path: Some(path.to_string()),
-            interface: None,
-            member: None,
-        };
+        let (name, path) = (Some(name.to_string()), Some(path.to_string()));
+        let rule = TransactionRule { name, path, ..open_send() };
         let policy = Policy { transaction: vec![rule], ..Policy::default() };
         breach_of(&image_write::write(&policy).expect("it has an image"))
     };
@@ -194,14 +200,16 @@ fn name_lengths_in_rules() {
 
 #[test]
 fn full_sections() {
-    let many = |connect: usize, own: usize, transaction: usize| {
-        "connect default allow any\n".repeat(connect)
-            + &"own default allow any\n".repeat(own)
-            + &"transaction default allow send any\n".repeat(transaction)
+    let (context, verdict) = (Context::Default, Verdict::Allow);
+    let rules = |connect, own, transaction| {
+        image_write::write(&Policy {
+            connect: vec![ConnectRule { context, verdict, who: Who::Any }; connect],
+            own: vec![OwnRule { context, verdict, name: NameMatcher::Any }; own],
+            transaction: vec![open_send(); transaction],
+        })
     };
-    assert_eq!(breach_of(&image_of(&many(256, 256, 512))), None);
-    for counts in [(257, 0, 0), (0, 257, 0), (0, 0, 513)] {
-        let policy = second::policy_text::parse(&many(counts.0, counts.1, counts.2)).expect("good text");
-        assert!(image_write::write(&policy).is_err());
+    assert_eq!(breach_of(&rules(256, 256, 512).expect("it has an image")), None);
+    for (connect, own, transaction) in [(257, 0, 0), (0, 257, 0), (0, 0, 513)] {
+        assert!(rules(connect, own, transaction).is_err());
     }
 }

@@ -7,13 +7,12 @@ mod common;
 use common::judge;
 use second::header::{HeadFault, Malformed};
 use second::message::Message;
-use second::script::parse_hex;
 use second::utf8::Utf8Fault;
 use second::value::ValueFault;
 use second::wire::ByteOrder;
 
 fn hex(digits: &str) -> Vec<u8> {
-    parse_hex(&digits.replace(' ', "")).expect("hex digits")
+    forms::hex::parse(&digits.replace(' ', "")).expect("hex digits")
 }
 
 /// What a call says whose last field has code 10, this signature and these bytes behind it.

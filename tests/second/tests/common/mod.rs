@@ -8,25 +8,25 @@ use second::header::HeadFault;
 use second::message::Message;
 use second::policy::{Gid, Policy, Uid};
 use second::replay::run;
-use second::{image, image_write, policy_text};
+use second::{image, image_write};
 
 pub const OPEN: &str = "connect default allow any
     own default allow any
     transaction default allow send any
     transaction default allow receive any";
 
-/// A policy by way of its image, so that the image's writer and reader are tested too.
-pub fn policy(text: &str) -> Policy {
-    let written = policy_text::parse(text).expect("the policy text is good");
-    let image = image_write::write(&written).expect("the policy has an image");
+/// The image of a policy text. It is written by the tool's forms; read and written again here it is the same.
+pub fn image_of(text: &str) -> Vec<u8> {
+    let written = forms::policy_text::parse(text).expect("the policy text is good").policy;
+    let image = forms::image::write(&written).expect("the policy has an image");
     let read = image::read(&image).expect("the image is good");
-    assert_eq!(read, written);
-    read
+    assert_eq!(image_write::write(&read).expect("it has an image"), image);
+    image
 }
 
-/// The image of a policy text.
-pub fn image_of(text: &str) -> Vec<u8> {
-    image_write::write(&policy_text::parse(text).expect("the policy text is good")).expect("it has an image")
+/// The policy of a text, by way of its image.
+pub fn policy(text: &str) -> Policy {
+    image::read(&image_of(text)).expect("the image is good")
 }
 
 /// A guard under one policy; its peers have uid 1000 and gid 5 unless said otherwise.
