@@ -72,48 +72,42 @@ fn name_difference(teller: &Teller, story: &Story, peer: u32, name: &[u8]) -> Op
     (answer != expected).then(|| format!("the guard says {answer}, this tool {expected}"))
 }
 
-/// A piece's answer and the bytes taken, by the head as the tool reads it.
+/// A piece's answer and the bytes taken, by the stream and the head as the tool reads them.
 fn piece_difference(teller: &Teller, story: &Story, offered: usize) -> Option<String> {
     let place = &story.place;
     let is_closed = story.peer.as_ref().is_some_and(|peer| peer.stream.closed.is_some());
     if (place.answer == 40) != is_closed {
-        return Some(format!(
-            "the guard says {}, this tool reads the stream as {}",
-            place.answer,
-            if is_closed { "closed" } else { "open" }
-        ));
+        let stream = if is_closed { "a closed stream" } else { "an open stream" };
+        return Some(format!("the guard says {}, this tool reads {stream}", place.answer));
     }
-    let Some(message) = &story.message else { return None };
-    let told = |what: String| {
-        Some(format!("the guard says {} with {} taken, this tool reads {what}", place.answer, place.taken))
-    };
-    match &message.reading.outcome {
-        Outcome::Broken(fault) => {
-            match fault.answer == place.answer && message.taken == broken_at(fault.answer, &message.bytes) {
-                true => None,
-                false => told(format!("{} at byte {}", fault.answer, fault.at)),
-            }
-        }
-        Outcome::Unfinished { wanted } => match place.answer == 10 && place.taken as usize == offered {
-            true => None,
-            false => told(format!("a head that wants {wanted} bytes")),
+    let message = story.message.as_ref()?;
+    let read = match &message.reading.outcome {
+        Outcome::Good(head) => match cut_difference(story, head, message.taken) {
+            None if place.answer != 10 => return verdict_difference(teller, story, head),
+            read => read,
         },
-        Outcome::Good(head) => {
-            let whole = head.head_length as u64 + u64::from(head.body_length);
-            let is_whole = place.answer == 0 || is_dropped(place.answer);
-            if is_broken(place.answer) || is_whole != (message.taken == whole) || message.taken > whole {
-                return told(format!(
-                    "a good head of a message of {whole} bytes, {} of them taken",
-                    message.taken
-                ));
-            }
-            if is_whole {
-                verdict_difference(teller, story, head)
-            } else {
-                None
-            }
+        Outcome::Broken(fault) => {
+            let fits =
+                fault.answer == place.answer && message.taken == broken_at(fault.answer, &message.bytes);
+            (!fits).then(|| format!("{} at byte {}", fault.answer, fault.at))
         }
-    }
+        Outcome::Unfinished { wanted } => {
+            let fits = place.answer == 10 && place.taken as usize == offered;
+            (!fits).then(|| format!("a head that wants {wanted} bytes"))
+        }
+    };
+    read.map(|read| {
+        format!("the guard says {} with {} taken, this tool reads {read}", place.answer, place.taken)
+    })
+}
+
+/// Where a message with a good head ends.
+fn cut_difference(story: &Story, head: &Head, taken: u64) -> Option<String> {
+    let answer = story.place.answer;
+    let whole = head.head_length as u64 + u64::from(head.body_length);
+    let is_whole = answer == 0 || is_dropped(answer);
+    let fits = !is_broken(answer) && is_whole == (taken == whole) && taken <= whole;
+    (!fits).then(|| format!("a good head of a message of {whole} bytes, {taken} of them taken"))
 }
 
 /// 1 to 6 are found at byte 16, 7 to 9 at the end of the head.
