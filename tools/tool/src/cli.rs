@@ -23,13 +23,10 @@ impl Fault {
 
 pub type Done = Result<(), Fault>;
 
-/// The longest file that a command takes: what a capture of some hours may have, and what memory surely has.
-pub const MOST_BYTES: u64 = 1 << 30;
-
-/// The longest capture: its calls take some four times as much memory.
+/// The longest capture or recording: calls take some four times as much memory.
 pub const MOST_CAPTURE: u64 = 1 << 28;
 
-/// The longest policy or script.
+/// The longest policy, image or script.
 pub const MOST_TEXT: u64 = 1 << 26;
 
 /// A whole file, whose size is looked at before memory is taken. `-` is standard input.

@@ -1,6 +1,6 @@
 //! The command `policy`: texts to images and back, rules that never decide, and questions.
 
-use crate::cli::{read_file, read_text, write_file, Done, Fault, Out, Words, MOST_BYTES};
+use crate::cli::{read_file, read_text, write_file, Done, Fault, Out, Words, MOST_TEXT};
 use crate::policy::lint::{lint, Finding};
 use crate::policy::{ask, question};
 use forms::policy_text::PolicyText;
@@ -82,7 +82,7 @@ fn compile(from: &str, to: &str) -> Done {
 }
 
 fn show(from: &str, out: &mut Out) -> Done {
-    let policy = image::read(&read_file(from, MOST_BYTES)?)
+    let policy = image::read(&read_file(from, MOST_TEXT)?)
         .map_err(|breach| Fault::input(format!("{from}: bad image: {breach}")))?;
     out.text(&policy_text::show(&policy))
 }

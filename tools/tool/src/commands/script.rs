@@ -1,6 +1,6 @@
 //! The command `script`: the text of captures, to captures and back.
 
-use crate::cli::{read_file, read_text, write_file, Done, Fault, Out, Words, MOST_BYTES};
+use crate::cli::{read_file, read_text, write_file, Done, Fault, Out, Words, MOST_CAPTURE};
 use crate::script_show;
 use forms::{capture, script};
 use std::path::Path;
@@ -53,7 +53,7 @@ fn compile(from: &str, to: &str) -> Done {
     let folder = Path::new(from).parent().filter(|folder| folder.as_os_str() != "").unwrap_or(Path::new("."));
     let files = |path: &Path| {
         let path = folder.join(path);
-        read_file(&path.to_string_lossy(), MOST_BYTES).map_err(|fault| fault.message)
+        read_file(&path.to_string_lossy(), MOST_CAPTURE).map_err(|fault| fault.message)
     };
     let text = read_text(from)?;
     let compiled = script::parse(&text, &files)
@@ -62,7 +62,7 @@ fn compile(from: &str, to: &str) -> Done {
 }
 
 fn show(from: &str, out: &mut Out) -> Done {
-    let reading = capture::read(&read_file(from, MOST_BYTES)?);
+    let reading = capture::read(&read_file(from, MOST_CAPTURE)?);
     script_show::show(&reading, &mut |lines| out.text(lines))?;
     match reading.fault {
         Some(fault) => Err(Fault::input(format!("{from}: {fault}"))),
