@@ -1,8 +1,6 @@
 // Runs every work item by us and by each peer. `time` prints nanoseconds, the least of interleaved rounds; `count`, under callgrind, dumps instructions;
 // `profile WORK` runs one item of ours 100 times.
 #define _GNU_SOURCE
-#include <dbus/dbus.h>
-#include <gio/gio.h>
 #include <stdbool.h>
 #include <stdio.h>
 #include <stdlib.h>
@@ -11,28 +9,15 @@
 #include <valgrind/callgrind.h>
 
 #include "calls.h"
+#include "jobs.h"
 #include "states.h"
 
 enum { ROUNDS = 25 };
 
-// ---- a job is a work item and who does it
-
-struct job {
-    char work[96];
-    const char *who;
-    uint64_t (*run)(const struct job *);
-    uint64_t expect;
-    struct bytes a, image, memory;
-    int n;
-    dbus_bool_t (*dbus)(const char *, DBusError *);
-    gboolean (*glib)(const gchar *);
-    double ns;
-};
-
 static struct job jobs[512];
 static int job_count;
 
-static struct job *add(const char *work, const char *who, uint64_t (*run)(const struct job *), uint64_t expect) {
+struct job *add(const char *work, const char *who, uint64_t (*run)(const struct job *), uint64_t expect) {
     struct job *j = &jobs[job_count++];
     snprintf(j->work, sizeof j->work, "%s", work);
     j->who = who, j->run = run, j->expect = expect, j->ns = 1e18;
@@ -332,6 +317,8 @@ static void all_jobs(void) {
     memory("memory test, 16 idle peers with a name each", named());
     memory("memory test, 16 peers within 2 KB heads", halfway(long_head));
     memory("memory test, 16 peers with the dearest heads", behind(dearest_head(1)));
+    memory("memory test, 16 peers, 256 waits", waiting(0));
+    memory("memory test, 16 peers, 256 waits, serials falling", falling());
     memory("memory test, 16 peers, 64 names of 255 bytes, 256 waits", full());
     c.flags = 1;
     struct bytes quiet = message_bytes(&c), signal = message_bytes(&(struct message){.kind = 4, .path = PATH, .interface = INTERFACE, .member = MEMBER});
@@ -346,6 +333,7 @@ static void all_jobs(void) {
     guarded("call and its return, 16 rules, 16 peers", call_and_return, 0, passing, served(PEERS), call, 0);
     guarded("own, a name of its own, 16 rules, 16 peers", own_again, BY(0), passing, served(PEERS), call, 0);
     guarded("start", start, 0, passing, started(0), call, 0);
+    all_ticks();
     all_batches(quiet, signal);
     growth(long_head);
 }

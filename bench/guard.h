@@ -28,6 +28,13 @@ static inline uint32_t guard_connect(struct bytes image, struct bytes m, uint32_
     return aygeshunt_word(place, AYGESHUNT_NUMBER);
 }
 
+// The answer, and 256 times the waits that ended.
+static inline uint64_t guard_tick(struct bytes m, uint64_t tick, uint64_t limit) {
+    uint8_t place[PLACE];
+    aygeshunt_tick(m.at, m.len, tick, limit, place, PLACE);
+    return aygeshunt_word(place, AYGESHUNT_ANSWER) + 256ULL * aygeshunt_word(place, AYGESHUNT_ENDED);
+}
+
 static inline uint64_t guard_own(struct bytes image, struct bytes m, uint32_t peer, const char *name, size_t len) {
     uint8_t place[PLACE];
     aygeshunt_own(image.at, image.len, m.at, m.len, peer, (const uint8_t *)name, len, place, PLACE);

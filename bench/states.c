@@ -55,6 +55,30 @@ struct bytes behind(struct bytes head) {
     return m;
 }
 
+// The calls of each peer with serials from one to another, all to the first peer.
+static void await(struct bytes m, int from, int to) {
+    struct bytes c = message_bytes(&(struct message){.kind = 1, .path = "/", .member = "M", .destination = ":1.1"});
+    for (int i = 1; i <= PEERS; i++)
+        for (int k = from; k <= to; k++) {
+            c.at[8] = k;
+            must(guard_piece(passing, m, i, c.at, c.len) % 256 == 0, "wait");
+        }
+}
+
+struct bytes waiting(uint64_t tick) {
+    struct bytes m = started(PEERS);
+    await(m, 1, 8);
+    must(guard_tick(m, tick, UINT64_MAX) == 0, "tick");
+    await(m, 9, 16);
+    return m;
+}
+
+struct bytes falling(void) {
+    struct bytes m = started(PEERS);
+    for (int serial = 16; serial >= 1; serial--) await(m, serial, serial);
+    return m;
+}
+
 // Four names of 255 bytes and 16 waits for each peer.
 struct bytes full(void) {
     struct bytes m = started(PEERS);
@@ -63,12 +87,13 @@ struct bytes full(void) {
         name[253] = 'a' + i / 26, name[254] = 'a' + i % 26;
         own(m, 1 + i / 4, name);
     }
-    struct bytes c = message_bytes(&(struct message){.kind = 1, .path = "/", .member = "M", .destination = ":1.1"});
-    for (int i = 1; i <= PEERS; i++)
-        for (int k = 1; k <= 16; k++) {
-            c.at[8] = k;
-            must(guard_piece(passing, m, i, c.at, c.len) % 256 == 0, "wait");
-        }
+    await(m, 1, 16);
+    return m;
+}
+
+struct bytes crowded(void) {
+    struct bytes m = full(), head = dearest_head(1);
+    for (int i = 1; i <= PEERS; i++) must(guard_piece(passing, m, i, head.at, head.len) == 10 + 256 * head.len, "behind");
     return m;
 }
 

@@ -33,6 +33,9 @@ def read(folder):
             (all_count, all_ns), (count, ns) = by.pop("decide"), by.pop("test")
             # a difference of times says nothing where it is small beside them
             by["ours"] = all_count - count, all_ns - ns if all_ns > 1.1 * ns else None
+        # a tick that ends waits is what the call costs beyond putting them back
+        if "ends" in by:
+            by["ours"] = tuple(both - put for both, put in zip(by.pop("ends"), by.pop("put back")))
     for w, by in work.items():
         # a batch is shown by message
         messages = re.match(r"batch of (\d+), ", w)
@@ -41,8 +44,8 @@ def read(folder):
     return work
 
 
-def goal(work):
-    """The goal of a work item, in words, and its test on instructions (k = 0) or nanoseconds (k = 1)."""
+def goal(work, items):
+    """The goal of a work item among all items, in words, and its test on instructions (k = 0) or nanoseconds (k = 1)."""
     def share(peer, n):
         return f"≤ 1/{n} of {peer}", lambda by, k: n * by["ours"][k] <= by[peer][k]
 
@@ -73,6 +76,9 @@ def goal(work):
         return share("GLib", 2)
     if work == "memory test, 16 idle peers":
         return "≤ 2 memcmp", lambda by, k: by["ours"][k] <= 2 * by["memcmp"][k]
+    if work.startswith("tick, 256 waits, "):
+        test = items["memory test, 16 peers, 256 waits"]["ours"]
+        return "≤ 2 memory tests", lambda by, k: by["ours"][k] <= 2 * test[k]
     if work.startswith("image test, 512"):
         return below(150000)
     if work.startswith("decision, 512"):
@@ -113,7 +119,7 @@ def table(work):
         if w.startswith("growth:"):
             continue
         limit = "memcmp" if "memcmp" in by else "memcpy"
-        g = goal(w)
+        g = goal(w, work)
         rows.append([w, cell(by, "ours"), cell(by, "libdbus"), cell(by, "GLib"), cell(by, limit), ratio(by, "libdbus"), ratio(by, "GLib"),
                      ratio(by, limit), g[0] if g else "", reached(g, by)])
     wide = [max(len(r[i]) for r in rows) for i in range(len(rows[0]))]

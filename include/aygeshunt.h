@@ -1,6 +1,6 @@
 /* aygeshunt.h: the guard for D-Bus, from C99 or C++. Link libaygeshunt.a (x86-64, System V ABI); c/install puts both in place.
  *
- * The guard is seven calls on memory that the host lends, and one that says how long this memory is. All it keeps stands in that memory; it
+ * The guard is eight calls on memory that the host lends, and one that says how long this memory is. All it keeps stands in that memory; it
  * allocates nothing, opens nothing and starts nothing, and of the C library it uses memcpy, memmove, memset and memcmp at most. Slices are a pointer
  * and a length. An image is the policy: docs/RULES.md, section 5, says how its bytes are laid out; docs/ANSWERS.md what each answer means to a person.
  *
@@ -15,10 +15,25 @@
  *     piece        answer  taken  kind  number or mask    count    who decided
  *     batch        as piece, a place for each call of it
  *     disconnect   answer  0      0     bytes             0        0          0
+ *     tick         answer  0      0     waits ended       0        0          0
  *
  * Every call but aygeshunt_memory_length returns how many places it wrote. Each writes one; a batch as many as it needs and has. The bytes behind the
  * places written keep what they held. Where the room lent for places has less than 28 bytes, a call returns 0 and has tested nothing, not even
  * the image, and changed nothing. Numbers that do not apply are 0.
+ *
+ * TIME. The guard has no clock; it knows the last tick that aygeshunt_tick told it, and 0 from a start on. A call that awaits its reply keeps the tick that
+ * was the last when it passed, and waits until a reply comes, a peer leaves, or a tick finds it as old as that tick's limit. A host that makes no
+ * ticks has waits that do not expire. One that does keeps to this:
+ *
+ * - ticks come from one clock that never goes back, CLOCK_MONOTONIC for instance, and not from one that can be set, as the time of day. Their unit is the
+ *   host's own, and so is where they begin; nanoseconds last 584 years. They may leap, and the same one may come again;
+ * - what passes between two ticks counts from the earlier one. With a tick in every second a wait ends when it is up to a second older or younger than the
+ *   limit; a host that wants it finer makes a tick before it offers what it has read;
+ * - the limit is well above what the slowest good reply takes, since a reply that comes later is 24, and no less than callers wait: libdbus and GLib give up
+ *   after 25 seconds. Every tick may bring another limit. 0 ends all waits; UINT64_MAX ends none in any clock's life and only sets the tick;
+ * - 41 says that the clock went back, and has changed nothing. The last tick may be told again until the clock has passed it. Where the clock began anew while
+ *   memory stayed, the host adds the last tick to every further one, or starts the guard anew. The last tick is the last one that was answered 0;
+ * - nobody else is told: not the caller that its wait has ended, and the host only how many have.
  *
  * WHAT NOBODY CHECKS FOR THE CALLER. Image, memory, names, pieces and rooms may hold any bytes and have any length. But
  *
@@ -47,7 +62,7 @@ extern "C" {
 #endif
 
 /* Bytes of the guard's memory, and of a place. */
-#define AYGESHUNT_MEMORY_LENGTH 52676
+#define AYGESHUNT_MEMORY_LENGTH 54732
 #define AYGESHUNT_PLACE_LENGTH 28
 
 /* The words of a place, for aygeshunt_word. */
@@ -58,6 +73,7 @@ enum aygeshunt_word_index {
     AYGESHUNT_VALUE = 3,    /* piece, batch: the receiving peer's number, or the mask of slots, bit k for slot k */
     AYGESHUNT_NUMBER = 3,   /* connect: the new peer's number, from 1 on; its unique name is ":1." and this number in decimal */
     AYGESHUNT_BYTES = 3,    /* disconnect: how many bytes of an unfinished or broken message were taken */
+    AYGESHUNT_ENDED = 3,    /* tick: how many waits ended, 0 to 256 */
     AYGESHUNT_COUNT = 4,    /* piece, batch: how many slots are set in the mask; 0 for other receivers */
     AYGESHUNT_SLOT = 4,     /* connect: the new peer's slot, 0 to 15 */
     AYGESHUNT_DECIDER = 5,  /* enum aygeshunt_decider */
@@ -110,6 +126,7 @@ enum aygeshunt_answer {
     AYGESHUNT_NO_SLOT = 38,             /* all 16 slots are taken */
     AYGESHUNT_NO_NUMBER = 39,           /* no number is left to give */
     AYGESHUNT_STREAM_CLOSED = 40,       /* stream closed */
+    AYGESHUNT_TICK_TOO_LOW = 41,        /* tick lower than the last */
     AYGESHUNT_BAD_IMAGE = 50,           /* bad policy image */
     AYGESHUNT_BAD_MEMORY = 51           /* bad guard memory */
 };
@@ -162,6 +179,12 @@ size_t aygeshunt_batch(const uint8_t *image, size_t image_len, uint8_t *memory, 
 /* A peer goes: its slot is free, and its names and every pending call that it made or was to answer end.
  * In this order: 51; 30 no such peer; 0. */
 size_t aygeshunt_disconnect(uint8_t *memory, size_t memory_len, uint32_t peer, uint8_t *place, size_t place_len);
+
+/* The clock goes on: tick is the last one from now on, and every call that awaits its reply and is at least limit ticks old (tick less the one that was the
+ * last when it passed) waits no longer. How many ended is in the place. A late reply to one is 24; its caller has room for another call, with the same
+ * serial too.
+ * In this order: 51; 41 the tick is lower than the last, and an equal one is good; 0. */
+size_t aygeshunt_tick(uint8_t *memory, size_t memory_len, uint64_t tick, uint64_t limit, uint8_t *place, size_t place_len);
 
 #ifdef __cplusplus
 }

@@ -50,6 +50,7 @@ static const int OF_OWN[] = {AYGESHUNT_ANSWER, AYGESHUNT_DECIDER, AYGESHUNT_POSI
 static const int OF_PIECE[] = {AYGESHUNT_ANSWER, AYGESHUNT_TAKEN,   AYGESHUNT_KIND,     AYGESHUNT_VALUE,
                                AYGESHUNT_COUNT,  AYGESHUNT_DECIDER, AYGESHUNT_POSITION, END};
 static const int OF_DISCONNECT[] = {AYGESHUNT_ANSWER, AYGESHUNT_BYTES, END};
+static const int OF_TICK[] = {AYGESHUNT_ANSWER, AYGESHUNT_ENDED, END};
 
 static const uint8_t *place_at(const struct host *host, size_t index) {
     return host->places + index * AYGESHUNT_PLACE_LENGTH;
@@ -99,6 +100,12 @@ static void disconnect(struct host *host, uint32_t peer) {
            aygeshunt_disconnect(host->memory, host->memory_length, peer, host->places, AYGESHUNT_PLACE_LENGTH));
 }
 
+/* A daemon makes a tick of its monotonic clock each time that it wakes, before it offers what has come, and wakes once in a while where nothing comes
+ * (README.md shows its loop). A capture has what its clock said. */
+static void tick(struct host *host, uint64_t now, uint64_t limit) {
+    report(host, "tick", OF_TICK, aygeshunt_tick(host->memory, host->memory_length, now, limit, host->places, AYGESHUNT_PLACE_LENGTH));
+}
+
 /* At most one message of the piece is taken. A capture made for single calls has what was left as its next piece. */
 static void piece(struct host *host, uint32_t peer, struct bytes bytes) {
     report(host, "piece", OF_PIECE,
@@ -131,7 +138,7 @@ static void offer(struct host *host, uint32_t peer, struct bytes bytes) {
 /* ---- captures ---- */
 
 /* The calls, by their numbers in a capture. */
-enum { START, CONNECT, OWN, RELEASE, PIECE, DISCONNECT };
+enum { START, CONNECT, OWN, RELEASE, PIECE, DISCONNECT, TICK };
 
 /* Takes a number from the front. Captures have numbers as places have them. */
 static bool take_number(struct bytes *rest, uint32_t *number) {
@@ -139,6 +146,14 @@ static bool take_number(struct bytes *rest, uint32_t *number) {
     *number = aygeshunt_word(rest->at, 0);
     rest->at += 4;
     rest->length -= 4;
+    return true;
+}
+
+/* Takes a number of 64 bits from the front, its lower half first. */
+static bool take_long(struct bytes *rest, uint64_t *number) {
+    uint32_t low, high;
+    if (!take_number(rest, &low) || !take_number(rest, &high)) return false;
+    *number = low | (uint64_t)high << 32;
     return true;
 }
 
@@ -153,6 +168,13 @@ static bool take_bytes(struct bytes *rest, struct bytes *taken) {
     return true;
 }
 
+static bool make_tick(struct host *host, struct bytes given) {
+    uint64_t now, limit;
+    if (!take_long(&given, &now) || !take_long(&given, &limit) || given.length != 0) return false;
+    tick(host, now, limit);
+    return true;
+}
+
 /* Makes the call at the front; false where it breaks the layout, and then no call is made. */
 static bool make_call(struct host *host, struct bytes *rest) {
     struct bytes given;
@@ -163,6 +185,7 @@ static bool make_call(struct host *host, struct bytes *rest) {
         start(host);
         return true;
     }
+    if (kind == TICK) return make_tick(host, given);
     /* All others begin with a peer's number or a uid. */
     if (kind > DISCONNECT || !take_number(&given, &first)) return false;
     if (kind == CONNECT && given.length % 4 != 0) return false;

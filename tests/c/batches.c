@@ -128,7 +128,7 @@ void cut_cases(void) {
     cut_everywhere("no such peer", open_image, fresh, 3, (slice){mixed.at, 50});
     cut_everywhere("bad image", bad_image, fresh, 1, (slice){mixed.at, 50});
     slice bad = copied();
-    bad.at[4 + 76] = 1;
+    bad.at[PENDING_AT] = 1;
     cut_everywhere("bad memory", open_image, bad.at, 1, (slice){mixed.at, 50});
     free(bad.at);
     many_cases();

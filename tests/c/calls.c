@@ -10,6 +10,7 @@ size_t make(const call *c, slice image, slice memory, slice bytes, const uint32_
     case RELEASE: return aygeshunt_release(memory.at, memory.len, c->peer, bytes.at, bytes.len, room.at, room.len);
     case PIECE: return aygeshunt_piece(image.at, image.len, memory.at, memory.len, c->peer, bytes.at, bytes.len, room.at, room.len);
     case BATCH: return aygeshunt_batch(image.at, image.len, memory.at, memory.len, c->peer, bytes.at, bytes.len, room.at, room.len, taken);
+    case TICK: return aygeshunt_tick(memory.at, memory.len, c->tick, c->limit, room.at, room.len);
     default: return aygeshunt_disconnect(memory.at, memory.len, c->peer, room.at, room.len);
     }
 }

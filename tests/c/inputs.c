@@ -6,6 +6,11 @@ void put_word(uint8_t *at, uint32_t x) {
     for (int i = 0; i < 4; i++) at[i] = (uint8_t)(x >> 8 * i);
 }
 
+void put_long(uint8_t *at, uint64_t x) {
+    put_word(at, (uint32_t)x);
+    put_word(at + 4, (uint32_t)(x >> 32));
+}
+
 slice text(const char *s) { return (slice){(uint8_t *)(uintptr_t)s, strlen(s)}; }
 
 // ---- messages

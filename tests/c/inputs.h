@@ -5,6 +5,9 @@
 // A number in four bytes, little-endian, as messages, images and memory hold it.
 void put_word(uint8_t *at, uint32_t x);
 
+// A tick in eight bytes, as memory holds it.
+void put_long(uint8_t *at, uint64_t x);
+
 // The bytes of a text, and no bytes at an address that can be read.
 slice text(const char *s);
 extern slice empty;

@@ -19,6 +19,9 @@ int main(void) {
     stream_cases();
     batch_cases();
     refusal_cases();
+    tick_cases();
+    expiry_cases();
+    damage_cases();
     cut_cases();
     return finish();
 }

@@ -126,12 +126,7 @@ void stream_cases(void) {
     must(single(PIECE, closed.at, 1, all_of(&broken_stream), 0), 1, "closed");
     static stream again, next, answer;
     add(&again, to_peer(":1.1", 1, 0)), add(&next, to_peer(":1.1", 17, 0)), add(&answer, reply_to(":1.2", 1));
-    for (uint32_t serial = 1; serial <= 16; serial++) {
-        static stream call;
-        memset(&call, 0, sizeof call);
-        add(&call, to_peer(":1.1", serial, 0));
-        must(single(PIECE, waits.at, 2, all_of(&call), 0), 0, "wait");
-    }
+    for (uint32_t serial = 1; serial <= 16; serial++) await(waits.at, 2, ":1.1", serial);
     both((call){.name = "closed", .image = open_image, .memory = closed, .peer = 1, .bytes = c, .same = 1, .expect = {{40}}});
     both((call){.name = "closed, no bytes", .image = open_image, .memory = closed, .peer = 1, .bytes = empty, .same = 1, .expect = {{40}}});
     both((call){.name = "goes on", .image = open_image, .memory = begun, .peer = 1, .bytes = {c.at + 40, 8}, .expect = {{0, 8, 1, 0, 0, 1, 0}}});
@@ -147,7 +142,7 @@ void stream_cases(void) {
 
 // Every call that takes an image tests it first, then memory.
 void refusal_cases(void) {
-    static const enum kind kinds[] = {CONNECT, OWN, PIECE, BATCH, RELEASE, DISCONNECT};
+    static const enum kind kinds[] = {CONNECT, OWN, PIECE, BATCH, RELEASE, DISCONNECT, TICK};
     slice m = fresh_memory(), bad = copied(), shorter = {fresh, MEMORY - 1}, c = call_c();
     bad.at[MEMORY - 1] = 1;
     struct {
@@ -164,7 +159,7 @@ void refusal_cases(void) {
                  {"neither", empty, empty, 50}};
     for (size_t k = 0; k < sizeof kinds / sizeof *kinds; k++)
         for (size_t i = 0; i < sizeof cases / sizeof *cases; i++) {
-            int takes_image = kinds[k] != RELEASE && kinds[k] != DISCONNECT;
+            int takes_image = kinds[k] != RELEASE && kinds[k] != DISCONNECT && kinds[k] != TICK;
             if (!takes_image && cases[i].answer == 50) continue;
             // everything else is wrong too, which comes behind: no such peer, too many gids
             run((call){.name = cases[i].name, .kind = kinds[k], .image = cases[i].image, .memory = cases[i].memory, .peer = 77, .gids = 17, .bytes = c, .same = 1,

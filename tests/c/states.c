@@ -23,6 +23,19 @@ uint32_t single(enum kind kind, uint8_t *memory, uint32_t peer, slice bytes, uin
     return aygeshunt_word(place, AYGESHUNT_ANSWER);
 }
 
+uint32_t ticked(uint8_t *memory, uint64_t tick, uint64_t limit, uint32_t *ended) {
+    uint8_t place[PLACE];
+    if (aygeshunt_tick(memory, MEMORY, tick, limit, place, PLACE) != 1) return 9999;
+    *ended = aygeshunt_word(place, AYGESHUNT_ENDED);
+    return aygeshunt_word(place, AYGESHUNT_ANSWER);
+}
+
+void await(uint8_t *memory, uint32_t caller, const char *callee, uint32_t serial) {
+    stream call = {.len = 0};
+    add(&call, to_peer(callee, serial, 0));
+    must(single(PIECE, memory, caller, all_of(&call), 0), 0, "wait");
+}
+
 void make_fresh(void) {
     must(single(START, fresh, 0, empty, 0), 0, "start");
     must(single(CONNECT, fresh, 1000, empty, 1), 0, "connect");

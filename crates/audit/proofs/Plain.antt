@@ -7,24 +7,25 @@ use native.Mathlib.Omega.{arith}
 use native.Mathlib.Decide.{decLe}
 use native.Mathlib.Nat.{add-zero, mul-le-mul-left}
 use lib.Dec.{leb}
-use lib.ListN.{length, take, drop, replicate, length-drop}
-use lib.Seq.{drop-drop, length-take-le, take-take}
+use lib.ListN.{length, take, drop, replicate, length-drop, take-append-drop}
+use lib.Seq.{drop-drop, length-take-le, take-take, take-all}
 use borrow.Author.Tests.{lt-leb, ne-eqb}
 use Rattle.wire.specs.Bytes.{Below, allZero, same, front}
-use Rattle.wire.specs.Words.{wordAt, wordBytes}
+use Rattle.wire.specs.Words.{wordAt, longAt, wordBytes, longBytes}
 use Rattle.wire.specs.declared.Order.the-variants.{Little}
 use Rattle.wire.proofs.Texts.{same-refl}
 use Rattle.wire.proofs.Parts.{drop-take, drop-taken}
 use Rattle.wire.proofs.Blocks.{zeroes, zeroes-divides}
 use Rattle.wire.proofs.Words.{word-length, bytes-again, word-bytes}
+use Rattle.wire.proofs.Longs.{long-bytes}
 use Rattle.tables.specs.Tables.{tableBytes, tableOf, plainCells}
-use Rattle.tables.proofs.Words.{word-part, word-front, bytes-take, bytes-drop, word-cut}
+use Rattle.tables.proofs.Words.{word-part, word-front, bytes-take, bytes-drop}
 use Rattle.tables.proofs.Table.{table-length, table-take}
 use Rattle.tables.proofs.Same.{same-zeros, same-split, table-same, plain-always}
 use Rattle.policy.specs.Names.{cellOf, nameOf, nameWidth}
 use Rattle.stream.specs.Tail.{Tail}
 use Rattle.rules.specs.State.{Slot, free, peer}
-use Rattle.memory.specs.Layout.{gidWidth, gidRoom, serialOffset, callWidth, callRoom, nameRoom, headRoom, gidsLength}
+use Rattle.memory.specs.Layout.{gidWidth, gidRoom, serialOffset, tickOffset, callWidth, callRoom, nameRoom, headRoom, gidsLength}
 use Rattle.memory.specs.Layout.{pendingLength, namesLength, keptLength, restLength, uidAt, gidsAt, pendingAt, namesAt, firstName}
 use Rattle.memory.specs.Layout.{takenAt, headAt, firstByte, restAt, slotLength, slotStart, memoryLength}
 use Rattle.memory.specs.Encoding.{pendingBytes, headBytes, restBytes, peerBytes, slotBytes, wordOf, pendingOf, slotOf}
@@ -87,10 +88,13 @@ module _ (m : List ℕ) (f : Below 256 m) where
 
 pending-again : (b : List ℕ) → length b ≡ callWidth → Below 256 b → pendingBytes (pendingOf b) ≡ b
 pending-again b l f =
-    let q : length (drop serialOffset b) ≡ 4 = length-drop serialOffset b ∙ omega arith in
-    let y : wordBytes (wordAt Little b serialOffset) ≡ drop serialOffset b
-    = rw (← word-front b serialOffset) (bytes-again (drop serialOffset b) q (bytes-drop serialOffset b f)) in
-    ap (λ (z : List ℕ). wordBytes (wordAt Little b 0) ++ z) y ∙ sym (word-cut b (omega arith) f)
+    let x : wordBytes (wordAt Little b 0) ≡ take 4 b = word-bytes b 0 f (omega arith) in
+    let y : wordBytes (wordAt Little b serialOffset) ≡ take 4 (drop serialOffset b) = word-bytes b serialOffset f (omega arith) in
+    let z : longBytes (longAt b tickOffset) ≡ drop 4 (drop serialOffset b)
+    = long-bytes b tickOffset f (omega arith)
+    ∙ take-all 8 (drop tickOffset b) (omega (arith, length-drop tickOffset b))
+    ∙ sym (drop-drop 4 serialOffset b) in
+    ap₂ _++_ x (ap₂ _++_ y z ∙ take-append-drop 4 (drop serialOffset b)) ∙ take-append-drop 4 b
 
 zeros-same : (n : ℕ) (d : List ℕ) → n ≤ length d → same (replicate n 0) (take n d) ≡ allZero (take n d)
 zeros-same n d h = rw (length-take-le n d h) at (same-zeros (take n d))

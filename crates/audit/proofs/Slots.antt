@@ -64,20 +64,20 @@ pub ruleset streams = (stream-is, stream-small, needs)
 
 -- ---- its peer
 
-module _ (m : List ℕ) (i n last : ℕ) (e : n ≡ numberAt m i) where
-  pub peer-high : last < n → false ≡ goodPeer (stateOf m .slots) last (peerAt m i) (drop (i + 1) (stateOf m .slots))
+module _ (m : List ℕ) (i n last tick : ℕ) (e : n ≡ numberAt m i) where
+  pub peer-high : last < n → false ≡ goodPeer (stateOf m .slots) last tick (peerAt m i) (drop (i + 1) (stateOf m .slots))
   unfolding goodPeer
   peer-high h = rw (← e, lt-leb n last h, and-false)
 
   module _ (h : i < 16) (f : ℕ) (g : FoundSlot (isPeer n) m (i + 1) f) where
-    pub peer-twice : f < 16 → false ≡ goodPeer (stateOf m .slots) last (peerAt m i) (drop (i + 1) (stateOf m .slots))
+    pub peer-twice : f < 16 → false ≡ goodPeer (stateOf m .slots) last tick (peerAt m i) (drop (i + 1) (stateOf m .slots))
     unfolding goodPeer
     peer-twice k = rw (← e, found-any (isPeer n) m (i + 1) f g, lt-ltb f 16 k, and-false)
 
-    pub peer-good : 1 ≤ n → n ≤ last → 16 ≤ f → (p q r : Bool) → p ≡ goodPending (stateOf m .slots) (peerAt m i .pending)
+    pub peer-good : 1 ≤ n → n ≤ last → 16 ≤ f → (p q r : Bool) → p ≡ goodPending (stateOf m .slots) tick (peerAt m i .pending)
         → q ≡ goodNames (peerAt m i .names) (drop (i + 1) (stateOf m .slots))
         → r ≡ goodTail (peerAt m i .stream)
-        → p && q && r ≡ goodPeer (stateOf m .slots) last (peerAt m i) (drop (i + 1) (stateOf m .slots))
+        → p && q && r ≡ goodPeer (stateOf m .slots) last tick (peerAt m i) (drop (i + 1) (stateOf m .slots))
     unfolding goodPeer
     peer-good a b c p q r x y z =
         rw (
@@ -98,11 +98,11 @@ pub ruleset peers = (peer-high, peer-twice, peer-good, needs)
 
 -- ---- the slot
 
-module _ (m : List ℕ) (f : Octets m) (l : length m ≡ memoryLength) (i : ℕ) (h : i < 16) (n last : ℕ) (e : n ≡ numberAt m i) where
+module _ (m : List ℕ) (f : Octets m) (l : length m ≡ memoryLength) (i : ℕ) (h : i < 16) (n last tick : ℕ) (e : n ≡ numberAt m i) where
   slot-is : slotOf (take slotLength (drop (slotStart i) m)) ≡ getD (stateOf m .slots) i free
   slot-is = sym (slot-at m i h)
 
-  pub slot-unused : n ≡ 0 → (r : Bool) → r ≡ allZero (take (slotStart i + slotLength - (slotStart i)) (drop (slotStart i) m)) → r ≡ slotTest m i last
+  pub slot-unused : n ≡ 0 → (r : Bool) → r ≡ allZero (take (slotStart i + slotLength - (slotStart i)) (drop (slotStart i) m)) → r ≡ slotTest m i last tick
   unfolding slotTest
   slot-unused z r q =
       let s : slotOf (take slotLength (drop (slotStart i) m)) ≡ free = slot-is ∙ slot-free m i h (sym e ∙ z) in
@@ -115,13 +115,13 @@ module _ (m : List ℕ) (f : Octets m) (l : length m ≡ memoryLength) (i : ℕ)
     shaped : same (slotBytes (slotOf (take slotLength (drop (slotStart i) m)))) (take slotLength (drop (slotStart i) m)) ≡ shapeTest m i
     shaped = slot-plain m (λ j. f j .fits) l i h (λ y. z (e ∙ y))
 
-    pub slot-shapeless : (s : Bool) → s ≡ shapeTest m i → not s ≡ true → false ≡ slotTest m i last
+    pub slot-shapeless : (s : Bool) → s ≡ shapeTest m i → not s ≡ true → false ≡ slotTest m i last tick
     unfolding slotTest
     slot-shapeless s q t = rw (shaped, ← q, not-true s t, and-false)
 
     pub slot-good : (s : Bool) → s ≡ shapeTest m i → not s ≡ false → (r : Bool)
-        → r ≡ goodPeer (stateOf m .slots) last (peerAt m i) (drop (i + 1) (stateOf m .slots))
-        → r ≡ slotTest m i last
+        → r ≡ goodPeer (stateOf m .slots) last tick (peerAt m i) (drop (i + 1) (stateOf m .slots))
+        → r ≡ slotTest m i last tick
     unfolding slotTest
     slot-good s q t r p = p ∙ sym (rw (shaped, ← q, not-false s t, and-true, slot-used))
 
@@ -133,8 +133,8 @@ pub ruleset slot-tests = (slot-unused, slot-shapeless, slot-good, one-or-more, n
 -- ---- the slots, of which i are tested
 
 -- what the slots from i on come to
-unfoldable pub leftGood : List ℕ → ℕ → ℕ → Bool
-leftGood m last i = goodSlots (stateOf m .slots) last (drop i (stateOf m .slots)) && plainSlots (drop i (parts slotLength 16 (drop slotsAt m)))
+unfoldable pub leftGood : List ℕ → ℕ → ℕ → ℕ → Bool
+leftGood m last tick i = goodSlots (stateOf m .slots) last tick (drop i (stateOf m .slots)) && plainSlots (drop i (parts slotLength 16 (drop slotsAt m)))
 
 mix : (a b c d : Bool) → (a && b) && (c && d) ≡ (a && c) && (b && d)
 mix true true c d = refl
@@ -142,38 +142,38 @@ mix true false true d = refl
 mix true false false d = refl
 mix false b c d = refl
 
-left-step : (m : List ℕ) (last i : ℕ) → i < 16 → leftGood m last i ≡ slotTest m i last && leftGood m last (i + 1)
+left-step : (m : List ℕ) (last tick i : ℕ) → i < 16 → leftGood m last tick i ≡ slotTest m i last tick && leftGood m last tick (i + 1)
 unfolding leftGood goodSlots plainSlots slotTest
-left-step m last i h =
+left-step m last tick i h =
     let p = parts slotLength 16 (drop slotsAt m) in
     let b = take slotLength (drop (slotStart i) m) in
     let s : drop i (stateOf m .slots) ≡ slotOf b ∷ drop (i + 1) (stateOf m .slots)
     = drop-cons (stateOf m .slots) i free (rw (sixteen m) h) ∙ rw (slot-at m i h, add-one) in
     let q : drop i p ≡ b ∷ drop (i + 1) p = drop-cons p i [] (rw (parts-length slotLength 16 (drop slotsAt m)) h) ∙ rw (slot-part m i h, add-one) in
     rw (s, q)
-    (mix (goodSlot (stateOf m .slots) last (slotOf b) (drop (i + 1) (stateOf m .slots))) (goodSlots (stateOf m .slots) last (drop (i + 1) (stateOf m .slots)))
+    (mix (goodSlot (stateOf m .slots) last tick (slotOf b) (drop (i + 1) (stateOf m .slots))) (goodSlots (stateOf m .slots) last tick (drop (i + 1) (stateOf m .slots)))
     (same (slotBytes (slotOf b)) b) (plainSlots (drop (i + 1) p)))
 
-pub record Auditing (m : List ℕ) (last i : ℕ) : Type 0 where
+pub record Auditing (m : List ℕ) (last tick i : ℕ) : Type 0 where
   pub sized : length m ≡ memoryLength
   pub inside : i ≤ 16
-  pub left : good m ≡ leftGood m last i
+  pub left : good m ≡ leftGood m last tick i
 
 pub wrong-length : (m : List ℕ) → (length m ≡ memoryLength → ⊥) → false ≡ good m
 unfolding good
 wrong-length m h = rw (ne-eqb (length m) memoryLength h)
 
-pub auditing-begins : {m : List ℕ} {last : ℕ} → length m ≡ memoryLength → last ≡ stateOf m .last → Auditing m last 0
+pub auditing-begins : {m : List ℕ} {last tick : ℕ} → length m ≡ memoryLength → last ≡ stateOf m .last → tick ≡ stateOf m .tick → Auditing m last tick 0
 unfolding good leftGood
-auditing-begins {m} {last} l e = record { sized = l; inside = omega arith; left = rw (eq-eqb (length m) memoryLength l, e) }
+auditing-begins {m} {last} {tick} l e f = record { sized = l; inside = omega arith; left = rw (eq-eqb (length m) memoryLength l, e, f) }
 
-module _ {m : List ℕ} {last i : ℕ} (a : Auditing m last i) where
-  module _ (h : i < 16) {r : Bool} (e : r ≡ slotTest m i last) where
-    pub auditing-more : not r ≡ false → Auditing m last (i + 1)
-    auditing-more t = record { sized = a .sized; inside = omega arith; left = a .left ∙ left-step m last i h ∙ rw (← e, not-false r t) }
+module _ {m : List ℕ} {last tick i : ℕ} (a : Auditing m last tick i) where
+  module _ (h : i < 16) {r : Bool} (e : r ≡ slotTest m i last tick) where
+    pub auditing-more : not r ≡ false → Auditing m last tick (i + 1)
+    auditing-more t = record { sized = a .sized; inside = omega arith; left = a .left ∙ left-step m last tick i h ∙ rw (← e, not-false r t) }
 
     pub auditing-stops : not r ≡ true → false ≡ good m
-    auditing-stops t = sym (a .left ∙ left-step m last i h ∙ rw (← e, not-true r t))
+    auditing-stops t = sym (a .left ∙ left-step m last tick i h ∙ rw (← e, not-true r t))
 
   pub auditing-ends : 16 ≤ i → true ≡ good m
   unfolding leftGood goodSlots plainSlots

@@ -1,12 +1,13 @@
 -- What the test of memory asks of one name and of one pending call of a slot, each a line of `goodNames` and `goodPending`; and of its shape.
-use mathlib.Core.Bool.{Bool, not, _&&_}
+use mathlib.Core.Bool.{Bool, true, not, _&&_}
+use mathlib.Core.Path.{_≡_}
 use mathlib.Core.List.{List}
 use Prim.Native.Nat.{ℕ, _+_, _-_, _*_}
 use lib.Dec.{leb}
 use lib.ListN.{take, drop}
 use Rattle.wire.specs.Bytes.{allZero, same}
-use Rattle.wire.specs.Lists.{any}
-use Rattle.wire.specs.Words.{wordAt}
+use Rattle.wire.specs.Lists.{any, every}
+use Rattle.wire.specs.Words.{wordAt, longAt}
 use Rattle.wire.specs.declared.Order.the-variants.{Little}
 use Rattle.policy.specs.Names.{owns, cellOf, nameOf, nameWidth}
 use Rattle.rules.specs.State.{isPeer}
@@ -14,7 +15,7 @@ use Rattle.rules.specs.Addresses.{ownable}
 use Rattle.rules.specs.Pending.{awaits}
 use Rattle.rules.specs.Calls.{isOwner}
 use Rattle.tables.specs.Tables.{plainCells}
-use Rattle.memory.specs.Layout.{slotLength, slotStart, gidsAt, gidWidth, gidRoom, pendingAt, firstCallee, firstSerial, callWidth}
+use Rattle.memory.specs.Layout.{slotLength, slotStart, gidsAt, gidWidth, gidRoom, pendingAt, firstCallee, firstSerial, firstTick, callWidth}
 use Rattle.memory.specs.Layout.{callRoom, namesAt, firstName, nameRoom, headAt, headRoom, firstByte}
 use Rattle.memory.specs.Encoding.{slotBytes, slotOf, stateOf}
 use Rattle.memory.specs.Good.{nobody, goodSlot}
@@ -26,17 +27,25 @@ nameTest m i j =
     && nobody (isOwner (nameAt m i j)) (drop (i + 1) (stateOf m .slots))
     && not (owns (drop (j + 1) (peerAt m i .names)) (nameAt m i j))
 
--- the callee and the serial of pending call j
+-- the callee, the serial and the tick of pending call j
 abbrev pub calleeAt : List ℕ → ℕ → ℕ → ℕ
 calleeAt m i j = wordAt Little m (slotStart i + (firstCallee + callWidth * j))
 
 abbrev pub serialAt : List ℕ → ℕ → ℕ → ℕ
 serialAt m i j = wordAt Little m (slotStart i + (firstSerial + callWidth * j))
 
-unfoldable pub callTest : List ℕ → ℕ → ℕ → Bool
-callTest m i j =
+abbrev pub callTickAt : List ℕ → ℕ → ℕ → ℕ
+callTickAt m i j = longAt m (slotStart i + (firstTick + callWidth * j))
+
+-- the serials of the pending calls of slot i from j on are n or more
+pub record Above (m : List ℕ) (i j n : ℕ) : Type 0 where
+  pub are : every (λ w. leb n (w .serial)) (drop j (peerAt m i .pending)) ≡ true
+
+unfoldable pub callTest : List ℕ → ℕ → ℕ → ℕ → Bool
+callTest m i j tick =
     any (isPeer (calleeAt m i j)) (stateOf m .slots)
     && leb 1 (serialAt m i j)
+    && leb (callTickAt m i j) tick
     && not (awaits (calleeAt m i j) (serialAt m i j) (drop (j + 1) (peerAt m i .pending)))
 
 -- ---- shape: zeros behind what a slot holds (rule 10.5)
@@ -78,7 +87,7 @@ shapeTest m i =
 -- ---- a slot
 
 -- slot i keeps the rules beside the slots after it, and is the bytes of what is read off it
-unfoldable pub slotTest : List ℕ → ℕ → ℕ → Bool
-slotTest m i last =
+unfoldable pub slotTest : List ℕ → ℕ → ℕ → ℕ → Bool
+slotTest m i last tick =
     let b = take slotLength (drop (slotStart i) m) in
-    goodSlot (stateOf m .slots) last (slotOf b) (drop (i + 1) (stateOf m .slots)) && same (slotBytes (slotOf b)) b
+    goodSlot (stateOf m .slots) last tick (slotOf b) (drop (i + 1) (stateOf m .slots)) && same (slotBytes (slotOf b)) b

@@ -5,6 +5,7 @@ use memory::FIRST_BYTE;
 use memory::FIRST_CALLEE;
 use memory::FIRST_NAME;
 use memory::FIRST_SERIAL;
+use memory::FIRST_TICK;
 use memory::GID_ROOM;
 use memory::GID_WIDTH;
 use memory::GIDS_AT;
@@ -30,7 +31,7 @@ ghost use Rattle.memory.specs.Good.{goodNames, goodPending, goodPeer, good};
 ghost use Rattle.memory.specs.Places.{numberAt};
 ghost use Rattle.stream.specs.Tail.{goodTail};
 ghost use Rattle.slots.specs.Slots.{peerAt, At};
-ghost use Rattle.audit.specs.Tests.{nameTest, callTest, plainCell, tableTest, cellsTest, headTest, shapeTest, slotTest};
+ghost use Rattle.audit.specs.Tests.{nameTest, Above, callTest, plainCell, tableTest, cellsTest, headTest, shapeTest, slotTest};
 
 // Name j of slot i is ownable, and stands nowhere else from there on.
 fn is_name_good(memory: &[u8], i: usize, j: usize) -> bool
@@ -63,11 +64,12 @@ fn are_names_good(memory: &[u8], i: usize) -> bool
     true
 }
 
-// Pending call j of slot i has a connected callee and a serial, and stands once from there on.
-fn is_call_good(memory: &[u8], i: usize, j: usize) -> bool
+// Pending call j of slot i has a connected callee and a serial, is not newer than the tick, and stands once from there on. Callers count their serials up: one
+// that is below all those behind it needs no search.
+fn is_call_good(memory: &[u8], i: usize, j: usize, tick: u64, least: u32) -> bool
     requires { ⌜ (length (now memory) ≡ memoryLength) × (i < 16) × (j < length (peerAt (now memory) i .pending))
-        × (length (peerAt (now memory) i .pending) ≤ callRoom) ⌝ }
-    ensures { λ r. ⌜ r ≡ callTest (now (memory .entry)) i j ⌝ }
+        × (length (peerAt (now memory) i .pending) ≤ callRoom) × (Above (now memory) i (j + 1) least) ⌝ }
+    ensures { λ r. ⌜ r ≡ callTest (now (memory .entry)) i j tick ⌝ }
 {
     let callee = slots::word_at(memory, i, FIRST_CALLEE + CALL_WIDTH * j);
     let serial = slots::word_at(memory, i, FIRST_SERIAL + CALL_WIDTH * j);
@@ -77,21 +79,35 @@ fn is_call_good(memory: &[u8], i: usize, j: usize) -> bool
     if serial == 0 {
         return false;
     }
+    if tick < slots::long_at(memory, i, FIRST_TICK + CALL_WIDTH * j) {
+        return false;
+    }
+    if serial < least {
+        return true;
+    }
     slots::count_pending(memory, i) <= slots::find_pending(memory, i, callee, serial, j + 1)
 }
 
-// Every pending call of slot i has a connected callee and a serial, and stands once.
-fn are_calls_good(memory: &[u8], i: usize) -> bool
-    requires { ⌜ At (now memory) i ⌝ }
-    ensures { λ r. ⌜ r ≡ goodPending (stateOf (now (memory .entry)) .slots) (peerAt (now (memory .entry)) i .pending) ⌝ }
+fn smaller(a: u32, b: u32) -> u32
+    ensures { λ r. ⌜ (r ≤ a) × (r ≤ b) ⌝ }
 {
-    let count = slots::count_pending(memory, i);
-    let mut j = 0;
-    while j < count {
-        if !is_call_good(memory, i, j) {
+    if a < b { a } else { b }
+}
+
+// Every pending call of slot i has a connected callee and a serial, is not newer than the tick, and stands once: from the last to the first.
+fn are_calls_good(memory: &[u8], i: usize, tick: u64) -> bool
+    requires { ⌜ At (now memory) i ⌝ }
+    ensures { λ r. ⌜ r ≡ goodPending (stateOf (now (memory .entry)) .slots) tick (peerAt (now (memory .entry)) i .pending) ⌝ }
+{
+    let mut j = slots::count_pending(memory, i);
+    let mut least: u32 = 4294967295;
+    while 0 < j {
+        j -= 1;
+        if !is_call_good(memory, i, j, tick, least) {
             return false;
         }
-        j += 1;
+        let serial = slots::word_at(memory, i, FIRST_SERIAL + CALL_WIDTH * j);
+        least = smaller(least, serial);
     }
     true
 }
@@ -190,10 +206,10 @@ fn is_stream_good(memory: &[u8], i: usize) -> bool
 }
 
 // The peer of slot i keeps the rules, beside the slots after it.
-fn is_peer_good(memory: &[u8], i: usize, number: u32, last: u32) -> bool
+fn is_peer_good(memory: &[u8], i: usize, number: u32, last: u32, tick: u64) -> bool
     requires { ⌜ (length (now memory) ≡ memoryLength) × (i < 16) × (number ≡ numberAt (now memory) i) × (1 ≤ number) ⌝ }
     ensures { λ r.
-        ⌜ r ≡ goodPeer (stateOf (now (memory .entry)) .slots) last (peerAt (now (memory .entry)) i) (drop (i + 1) (stateOf (now (memory .entry)) .slots)) ⌝ }
+        ⌜ r ≡ goodPeer (stateOf (now (memory .entry)) .slots) last tick (peerAt (now (memory .entry)) i) (drop (i + 1) (stateOf (now (memory .entry)) .slots)) ⌝ }
 {
     if last < number {
         return false;
@@ -201,13 +217,13 @@ fn is_peer_good(memory: &[u8], i: usize, number: u32, last: u32) -> bool
     if slots::find(memory, number, i + 1) < 16 {
         return false;
     }
-    are_calls_good(memory, i) & are_names_good(memory, i) & is_stream_good(memory, i)
+    are_calls_good(memory, i, tick) & are_names_good(memory, i) & is_stream_good(memory, i)
 }
 
 // Slot i is good, beside the slots after it.
-fn is_slot_good(memory: &[u8], i: usize, last: u32) -> bool
+fn is_slot_good(memory: &[u8], i: usize, last: u32, tick: u64) -> bool
     requires { ⌜ At (now memory) i ⌝ }
-    ensures { λ r. ⌜ r ≡ slotTest (now (memory .entry)) i last ⌝ }
+    ensures { λ r. ⌜ r ≡ slotTest (now (memory .entry)) i last tick ⌝ }
 {
     let number = slots::number_at(memory, i);
     if number == 0 {
@@ -217,7 +233,7 @@ fn is_slot_good(memory: &[u8], i: usize, last: u32) -> bool
     if !is_shaped(memory, i) {
         return false;
     }
-    is_peer_good(memory, i, number, last)
+    is_peer_good(memory, i, number, last, tick)
 }
 
 // The memory is good; any other is answered with 51 (rule 10.6).
@@ -228,9 +244,10 @@ pub fn is_good(memory: &[u8]) -> bool
         return false;
     }
     let last = slots::last_of(memory);
+    let tick = slots::tick_of(memory);
     let mut i = 0;
     while i < 16 {
-        if !is_slot_good(memory, i, last) {
+        if !is_slot_good(memory, i, last, tick) {
             return false;
         }
         i += 1;

@@ -3,9 +3,9 @@
 use memory::MEMORY_LENGTH;
 use places::PLACE_LENGTH;
 ghost use mathlib.Core.Path.{_≡_};
-ghost use Rattle.rules.specs.Places.{plainWords, connectedWords, ownedWords, takenWords, goneWords};
+ghost use Rattle.rules.specs.Places.{plainWords, connectedWords, ownedWords, takenWords, goneWords, tickedWords};
 ghost use Rattle.memory.specs.Layout.{memoryLength};
-ghost use Rattle.memory.specs.Calls.{startOn, connectOn, ownOn, releaseOn, pieceOn, batchOn, disconnectOn, onPlace};
+ghost use Rattle.memory.specs.Calls.{startOn, connectOn, ownOn, releaseOn, pieceOn, batchOn, disconnectOn, tickOn, onPlace};
 ghost use Rattle.places.specs.Places.{placesIn, Wrote, Batched};
 
 // The length of memory that a host lends (rule 10.1).
@@ -151,5 +151,25 @@ pub extern "C" fn aygeshunt_disconnect(memory: &mut [u8], peer: u32, place: &mut
         return 0;
     }
     places::put(place, places::gone(guard::disconnect(memory, peer)));
+    1
+}
+
+// Sets the tick, and ends the pending calls that are old enough (rule 8.12).
+#[no_mangle]
+pub extern "C" fn aygeshunt_tick(
+    memory: &mut [u8],
+    tick: u64,
+    limit: u64,
+    place: &mut [u8],
+) -> usize
+    ensures { λ r.
+        ⌜ Wrote tickedWords
+        (onPlace (placesIn (now (place .entry))) (now (memory .entry)) (tickOn (now (memory .entry)) tick limit))
+        (now (place .entry)) r (now (memory .exit)) (now (place .exit)) ⌝ }
+{
+    if place.len() < PLACE_LENGTH {
+        return 0;
+    }
+    places::put(place, places::ticked(guard::tick(memory, tick, limit)));
     1
 }

@@ -23,9 +23,9 @@ use Rattle.policy.specs.Decisions.{decidesIn, connectDecision, ownDecision, tra
 use Rattle.stream.specs.Stream.{offer}
 use Rattle.rules.specs.State.{firstBy, dropFirst}
 use Rattle.rules.specs.Addresses.{digits, uniqueName, answersTo, resolve}
-use Rattle.rules.specs.Pending.{awaits, ended, endedAll}
+use Rattle.rules.specs.Pending.{awaits, ended, endedWhere, countWhere, countIn}
 use Rattle.rules.specs.Judge.{maskOf, countOf, judged}
-use Rattle.rules.specs.Calls.{connect, own, piece, disconnect}
+use Rattle.rules.specs.Calls.{connect, own, piece, disconnect, tick}
 use Rattle.book.specs.Book.{cutOff}
 use Rattle.rules.specs.Series.{series}
 use Rattle.book.specs.Lists.{modelStep, answers, after}
@@ -41,7 +41,7 @@ unfolding allZero same wordAt wordBytes startsWith wellKnown unique validName in
     judgedHead readHead readHeader goodCounts goodSections goodHeader goodString goodOrAny goodOwned goodConnectRule goodOwnRule goodStrings
     goodTransactionRule goodRule goodImage outcomeOf imageAnswer inGroups subjectFits owns deciding connectFits ownedFits ownFits messageOf partFits
     interfaceFits partsFit nameFits transactionFits transactionMatches decidesIn connectDecision ownDecision transactionDecision offer firstBy digits
-    uniqueName answersTo resolve dropFirst awaits ended endedAll maskOf countOf judged connect own piece disconnect cutOff modelStep answers callTallied
+    uniqueName answersTo resolve dropFirst awaits ended endedWhere countWhere countIn maskOf countOf judged connect own piece disconnect tick cutOff modelStep answers callTallied
     begins tallied series after
 all-agree = (refl, refl, refl, refl)
 

@@ -1,4 +1,4 @@
--- The count of a peer's pending calls that memory stores is what the list of calls says (rule 12.4).
+-- A peer's pending calls that memory stores, and their count, are what the list of calls says (rule 12.4).
 use mathlib.Core.Path.{_≡_, refl, sym, ap, _∙_, subst}
 use mathlib.Core.Bool.{cond, _&&_}
 use mathlib.Core.List.{List}
@@ -12,6 +12,7 @@ use Rattle.image.specs.Good.{imageAnswer}
 use Rattle.stream.specs.Stream.{Verdict, more, broken, whole, offer, settled}
 use Rattle.stream.specs.Tail.{Tail}
 use Rattle.rules.specs.State.{Slot, free, peer, Peer, State, isPeer, firstBy, putSlot, withStream}
+use Rattle.rules.specs.Pending.{isTo, countWhere}
 use Rattle.rules.specs.Calls.{Step, empty, slotAt, noPiece, offered, pieceAt, piece}
 use Rattle.rules.specs.declared.Connected.{Connected}
 use Rattle.rules.specs.declared.Owned.{Owned}
@@ -28,11 +29,11 @@ use Rattle.sound.proofs.Put.{peer-fine}
 use Rattle.sound.proofs.Slots.{Single, single-set}
 use Rattle.sound.proofs.Kept.{Alone, sound-kept}
 use Rattle.book.specs.Book.{books, tailView}
-use Rattle.book.specs.Lists.{Call, starts, connects, claims, releases, offers, leaves, Answer, modelStep, after, Run, done, then, Reached}
+use Rattle.book.specs.Lists.{Call, starts, connects, claims, releases, offers, leaves, ticks, Answer, modelStep, after, Run, done, then, Reached}
 use Rattle.book.specs.Lists.{ran-start, since-start, since-empty, underImage}
-use Rattle.book.specs.Tally.{Tally, noCalls, piecePassed, verdictOn, callTallied, begins, tallyAfter, tallied, since, callsTo, isCallee}
+use Rattle.book.specs.Tally.{Tally, noCalls, piecePassed, verdictOn, callTallied, begins, tallyAfter, tallied, since}
 use Rattle.book.proofs.Counts.{Right}
-use Rattle.book.proofs.Tally.{RightAt, Counts, same-counts, judged-counts, owned-counts, released-counts, connected-counts, left-counts}
+use Rattle.book.proofs.Tally.{RightAt, Counts, same-counts, judged-counts, owned-counts, released-counts, connected-counts, left-counts, ticked-counts}
 use Rattle.book.proofs.List.{Holds, one, empty-holds, start-holds}
 use Rattle.book.proofs.Runs.{reached-holds, held-slot}
 
@@ -47,7 +48,7 @@ module _ {m : List ℕ} {b : State (List ℕ)} (h : Holds m b) where
 
   pub low-number : (j : ℕ) (p : Peer (List ℕ)) → slotAt b j ≡ peer p → p .number ≤ b .last
   low-number j p e =
-      subst (Alone (b .last)) (slot-seen tailView b j ∙ ap (seenSlot tailView) e) (sound-kept (h .sound) .each j) .high
+      subst (Alone (b .last) (b .tick)) (slot-seen tailView b j ∙ ap (seenSlot tailView) e) (sound-kept (h .sound) .each j) .high
 
 -- ---- a piece
 
@@ -55,14 +56,14 @@ module _ (n : ℕ) (t : Tally) (image : List ℕ) (b : State (List ℕ)) (k : �
     (single : Single (isPeer n) (b .slots)) (c : Counts n t b) where
   -- the tally after a piece that heard v
   abbrev Heard : Verdict → Step (List ℕ) Taken → Type 0
-  Heard v z = Counts n (cond (eqb (z .result .judgement .answer) 0) (piecePassed n k v (z .result .judgement .receiver) t) t) (z .state)
+  Heard v z = Counts n (cond (eqb (z .result .judgement .answer) 0) (piecePassed n k (b .tick) v (z .result .judgement .receiver) t) t) (z .state)
 
   offered-counts : (i taken : ℕ) (q : Peer (List ℕ)) (v : Verdict) (s : State (List ℕ)) → Single (isPeer n) (s .slots) → Counts n t s → slotAt s i ≡ peer q
-      → q .number ≡ k
+      → q .number ≡ k → s .tick ≡ b .tick
       → Heard v (offered image s i q taken v)
-  offered-counts i taken q more s u d e f = d
-  offered-counts i taken q (broken a) s u d e f = choice (λ (y : Tally). Counts n y s) (eqb a 0) t t (λ z. d) (λ z. d)
-  offered-counts i taken q (whole h x) s u d e f = rw (← f) (judged-counts n s t u d image i q e x h)
+  offered-counts i taken q more s u d e f z = d
+  offered-counts i taken q (broken a) s u d e f z = choice (λ (y : Tally). Counts n y s) (eqb a 0) t t (λ w. d) (λ w. d)
+  offered-counts i taken q (whole h x) s u d e f z = rw (← f, ← z) (judged-counts n s t u d image i q e x h)
 
   piece-at : (i : ℕ) (y : Slot (List ℕ)) → slotAt b i ≡ y → ((p : Peer (List ℕ)) → y ≡ peer p → p .number ≡ k) → Heard (verdictOn y bytes) (pieceAt books image b i y bytes)
   piece-at i free e f = c
@@ -73,7 +74,7 @@ module _ (n : ℕ) (t : Tally) (image : List ℕ) (b : State (List ℕ)) (k : �
       choice (Heard (o .verdict)) (books .closed (p .stream)) _ _ (λ z. c)
       (λ z. offered-counts i (o .taken) q (o .verdict) (putSlot b i (peer q))
       (single-set (isPeer n) (b .slots) i (peer q) l single (λ j g h. single j i h (ap (isPeer n) e ∙ g)))
-      (same-counts n b t single c i p q e refl refl) (getD-set-same (b .slots) i (peer q) free l) (f p refl))
+      (same-counts n b t single c i p q e refl refl) (getD-set-same (b .slots) i (peer q) free l) (f p refl) refl)
 
   pub piece-counts : Heard (verdictOn (slotAt b (firstBy (isPeer k) (b .slots))) bytes) (underImage noPiece image b (piece books image b k bytes))
   unfolding piece
@@ -104,6 +105,7 @@ module _ (n : ℕ) where
   step-counts b t h c (releases k name) = released-counts n b t (one-slot h n) c k name
   step-counts b t h c (offers image k bytes) = piece-counts n t image b k bytes (one-slot h n) c
   step-counts b t h c (leaves k) = left-counts n b t (one-slot h n) c books k
+  step-counts b t h c (ticks now limit) = ticked-counts n b t (one-slot h n) c now limit
 
   run-counts : {m e : List ℕ} {cs : List Call} {given : List Answer} (b : State (List ℕ)) (t : Tally) → Run m cs given e → Holds m b → Counts n t b
       → Counts n (tallied n b cs t) (after b cs)
@@ -148,6 +150,10 @@ module _ {m : List ℕ} {cs : List Call} (run : Reached m cs) (i : ℕ) (h : i <
   pub count-claim : countAt m i + (since n cs .replied + since n cs .otherwise) ≡ since n cs .admitted
   count-claim = omega (arith, stored-there, right-there .sum)
 
-  -- and by callee, its records are the calls that neither was replied to nor has ended otherwise
-  pub callee-claim : (c : ℕ) → callsTo (isCallee c) (there .pending) ≡ since n cs .waiting c
-  callee-claim = right-there .each
+  -- THE RECORDS: they are the calls that neither were replied to nor have ended otherwise, each with the tick at which it passed
+  pub records-claim : there .pending ≡ since n cs .waiting
+  records-claim = right-there .are
+
+  -- and so of each callee as many
+  pub callee-claim : (c : ℕ) → countWhere (isTo c) (there .pending) ≡ countWhere (isTo c) (since n cs .waiting)
+  callee-claim c = ap (countWhere (isTo c)) records-claim

@@ -1,7 +1,8 @@
--- An offering ends, whatever the memory, the image and the piece: a call that does not end it takes at least one byte.
+-- An offering ends, whatever the memory, the image and the piece: a call that does not end it takes at least one byte. So every stream can be offered, in any
+-- parts and with any ticks between them.
 use mathlib.Core.Path.{_≡_, refl, sym, _∙_}
 use mathlib.Core.Bool.{false, not, false≢true}
-use mathlib.Core.List.{List, _++_}
+use mathlib.Core.List.{List, [], _∷_, _++_, map}
 use Prim.Native.Nat.{ℕ, zero, suc, _<_}
 use native.Mathlib.Omega.{arith}
 use lib.Dec.{eqb, ltb}
@@ -19,9 +20,10 @@ use Rattle.rules.specs.declared.Taken.{Taken}
 use Rattle.wire.proofs.Tests.{choice, by-test}
 use Rattle.memory.specs.Encoding.{stateOf}
 use Rattle.memory.specs.Good.{good}
-use Rattle.memory.specs.Calls.{MemoryStep, Did, pieceOn}
+use Rattle.memory.specs.Calls.{MemoryStep, Did, pieceOn, tickOn}
 use Rattle.rules.specs.Places.{isStop, goesOn}
-use Rattle.book.specs.Split.{said, Offers, ends, again}
+use Rattle.book.specs.Split.{said, Offers, ends, again, OffersAll, nothing, next}
+use Rattle.book.specs.Split.{Cutting, pieces, ticking, Heard, verdict, report, OffersCut, all-offered, then-tick}
 use Rattle.book.proofs.Images.{image-refuses}
 
 -- the answer ends an offering, or bytes were taken
@@ -75,3 +77,21 @@ module _ (image : List ℕ) (n : ℕ) where
 
   pub offering-ends : (m p : List ℕ) → Ended m p
   offering-ends m p = ending (suc (length p)) m p (omega arith)
+
+  -- ---- any pieces, and any ticks between them
+
+  pieces-offered : (m : List ℕ) (ps : List (List ℕ)) → (e : List ℕ) × (vs : List Judgement) × OffersAll image n m e ps vs
+  pieces-offered m [] = (m, [], nothing)
+  pieces-offered m (p ∷ ps) =
+      let a = offering-ends m p in
+      let z = pieces-offered (a .memory) ps in
+      (z .0, a .verdicts ++ z .1, next (a .offered) (z .2))
+
+  -- so that what is said of all cuttings is said of something
+  pub cutting-offered : (m : List ℕ) (c : Cutting) → (e : List ℕ) × (hs : List Heard) × OffersCut image n m e c hs
+  cutting-offered m (pieces ps) = let a = pieces-offered m ps in (a .0, map verdict (a .1), all-offered (a .2))
+  cutting-offered m (ticking ps now limit c) =
+      let a = pieces-offered m ps in
+      let t = tickOn (a .0) now limit in
+      let z = cutting-offered (t .memory) c in
+      (z .0, map verdict (a .1) ++ (report (t .result) ∷ z .1), then-tick (a .2) (record { result = refl; memory = refl }) (z .2))

@@ -6,11 +6,9 @@ use mathlib.Core.List.{List}
 use Prim.Native.Nat.{ℕ, _+_, _≤_, _<_}
 use native.Mathlib.Omega.{arith}
 use lib.ListN.{length}
-use borrow.Author.Tests.{eq-eqb}
 use Rattle.header.specs.declared.Header.{Header}
-use Rattle.wire.proofs.Texts.{impossible}
 use Rattle.rules.specs.State.{peer, Peer, State, isPeer, firstBy, putSlot}
-use Rattle.rules.specs.Judge.{Judged, expectsReply, judged}
+use Rattle.rules.specs.Judge.{expectsReply, judged}
 use Rattle.rules.specs.Calls.{Step, empty}
 use Rattle.rules.specs.declared.Judgement.{Judgement}
 use Rattle.rules.specs.declared.Receiver.the-variants as to
@@ -18,9 +16,6 @@ use Rattle.rules.specs.declared.Taken.{Taken}
 use Rattle.rules.specs.View.{seen, seenSlot, seenPeer}
 use Rattle.rules.proofs.View.{slot-seen}
 use Rattle.rules.proofs.First.{number-found}
-use Rattle.wire.proofs.Tests.{clash}
-use Rattle.rules.proofs.Replies.{reply-only}
-use Rattle.sound.proofs.Judged.{judged-any}
 use Rattle.sound.proofs.Put.{peer-fine}
 use Rattle.book.specs.Book.{books, tailView}
 use Rattle.book.specs.Lists.{Call, offers, taken, numberOf, modelStep, after, Ran, Reached}
@@ -29,25 +24,11 @@ use Rattle.book.specs.Tally.{receiverOf, since}
 use Rattle.book.proofs.List.{one}
 use Rattle.book.proofs.Runs.{reached-holds}
 use Rattle.book.proofs.Pieces.{pieceUnder, consumed, ends-is}
+use Rattle.book.proofs.Waiting.{full-judged, room-judged}
 use Rattle.book.proofs.Counts.{Right}
 use Rattle.book.proofs.Counted.{reached-counts}
 use Rattle.book.proofs.Tally.{RightAt}
 use Rattle.book.proofs.Consequences.{message-ended}
-
--- ---- a judgement
-
-module _ {S : Type 0} (image : List ℕ) (s : State S) (i : ℕ) (sender : Peer S) (h : List ℕ) (x : Header) where
-  full-judged : judged image s i sender h x .judgement .answer ≡ 26 → 16 ≤ length (sender .pending)
-  full-judged =
-      judged-any image s i sender x (λ (z : Judged S). z .judgement .answer ≡ 26 → 16 ≤ length (sender .pending))
-      (λ a p q e. absurd (clash (eq-eqb a 26 e) q)) (λ l e. l) (λ d j f. f) (λ e. absurd (omega arith)) (λ m k e. absurd (omega arith))
-      (λ j q y r w e. absurd (omega arith)) (λ j q y w a l e. absurd (omega arith)) (λ j q y r a e. absurd (omega arith)) h
-
-  room-judged : expectsReply x ≡ true → (k : ℕ) → judged image s i sender h x .judgement .receiver ≡ to.Peer k → length (sender .pending) < 16
-  room-judged w k =
-      judged-any image s i sender x (λ (z : Judged S). z .judgement .receiver ≡ to.Peer k → length (sender .pending) < 16)
-      (λ a p q e. impossible cc) (λ l e. impossible cc) (λ d j f. f) (λ e. impossible cc) (λ m c e. impossible cc) (λ j q y r v e. absurd (clash w v))
-      (λ j q y v a l e. l) (λ j q y r a e. absurd (clash w (reply-only x r))) h
 
 -- ---- a piece that ends a message
 

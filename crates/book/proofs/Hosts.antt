@@ -29,7 +29,6 @@ use Rattle.memory.specs.Encoding.{memoryOf, stateOf}
 use Rattle.memory.specs.Good.{good}
 use Rattle.memory.specs.Sound.{Sound}
 use Rattle.memory.specs.Calls.{MemoryStep, Did, stored, startOn, pieceOn, onPlace, batchOn}
-use Rattle.memory.proofs.Good.{good-is, good-sound}
 use Rattle.book.specs.Book.{books, tailView}
 use Rattle.book.specs.Lists.{Call, starts, Answer, plain, taken, underImage, ran-start, ran-piece, Run, done, then, Reached, since-start, since-empty}
 use Rattle.book.specs.Lists.{modelStep, after, Agrees}
@@ -40,16 +39,7 @@ use Rattle.book.proofs.Tails.{simulates}
 use Rattle.book.proofs.Images.{image-refuses}
 use Rattle.book.proofs.List.{Holds, on-image, empty-holds, start-holds, one, all, run-claim, empty-claim}
 use Rattle.book.proofs.Runs.{run-append}
-use Rattle.book.proofs.Split.{below-drop, step, step-is, piece-on, step-sound, split-claim}
-
--- ---- memory of which something is known: it is the bytes of a sound state, or it is not good; no bytes are neither
-
-pub data Known (m : List ℕ) : Type 0 where
-  known-sound : (s : State Tail) → Sound s → m ≡ memoryOf s → Known m
-  known-bad : good m ≡ false → Known m
-
-pub known : (m : List ℕ) → Below 256 m → Known m
-known m b = by-test (good m) (λ g. known-sound (stateOf m) (good-sound m b g) (sym (good-is m b g))) known-bad
+use Rattle.book.proofs.Split.{below-drop, Known, known-sound, known-bad, known, step, step-is, piece-on, step-sound, split-claim}
 
 -- ---- the single calls of at most k places, from memory m to memory e: they end with one that does not go on, or when all places are used
 

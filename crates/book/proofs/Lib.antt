@@ -12,9 +12,11 @@ pub mod Hosts
 pub mod Messages
 pub mod Pieces
 pub mod Replied
-pub mod Consequences
-pub mod Ends
+pub mod Expiry
+pub mod Waiting
 pub mod Counts
 pub mod Tally
 pub mod Counted
+pub mod Consequences
+pub mod Ends
 pub mod Full

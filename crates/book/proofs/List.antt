@@ -9,22 +9,22 @@ use borrow.Author.Tests.{eq-eqb}
 use Rattle.image.specs.Good.{imageAnswer}
 use Rattle.stream.specs.Tail.{Tail, tails}
 use Rattle.rules.specs.State.{State}
-use Rattle.rules.specs.Calls.{Step, empty, connect, own, release, piece, disconnect, noConnect, noOwn, noPiece, noGone}
+use Rattle.rules.specs.Calls.{Step, empty, connect, own, release, piece, disconnect, tick, noConnect, noOwn, noPiece, noGone, noTick}
 use Rattle.wire.proofs.Tests.{choice}
 use Rattle.rules.specs.View.{seen, seenStep}
 use Rattle.rules.proofs.View.{chosen}
-use Rattle.rules.proofs.Seen.{connect-seen, own-seen, release-seen, piece-seen, disconnect-seen}
+use Rattle.rules.proofs.Seen.{connect-seen, own-seen, release-seen, piece-seen, disconnect-seen, tick-seen}
 use Rattle.memory.specs.Layout.{memoryLength}
 use Rattle.memory.specs.Encoding.{memoryOf, stateOf}
 use Rattle.memory.specs.Sound.{Sound}
-use Rattle.memory.specs.Calls.{MemoryStep, Did, stored, onMemory, onImage, startOn, connectOn, ownOn, releaseOn, pieceOn, disconnectOn}
+use Rattle.memory.specs.Calls.{MemoryStep, Did, stored, onMemory, onImage, startOn, connectOn, ownOn, releaseOn, pieceOn, disconnectOn, tickOn}
 use Rattle.memory.proofs.Sound.{state-again, good-memory}
 use Rattle.memory.proofs.Frame.{memory-length}
 use Rattle.memory.proofs.Octets.{every-below}
-use Rattle.sound.proofs.Keep.{empty-sound, connect-sound, own-sound, release-sound, piece-sound, disconnect-sound}
+use Rattle.sound.proofs.Keep.{empty-sound, connect-sound, own-sound, release-sound, piece-sound, disconnect-sound, tick-sound}
 use Rattle.book.specs.Book.{books, tailView}
-use Rattle.book.specs.Lists.{Call, starts, Answer, plain, connected, owned, taken, gone, underImage, ModelStep, toldStep, modelStep, answers, after}
-use Rattle.book.specs.Lists.{Ran, ran-start, ran-connect, ran-own, ran-release, ran-piece, ran-leave, Run, done, then, Agrees}
+use Rattle.book.specs.Lists.{Call, starts, Answer, plain, connected, owned, taken, gone, ticked, underImage, ModelStep, toldStep, modelStep, answers, after}
+use Rattle.book.specs.Lists.{Ran, ran-start, ran-connect, ran-own, ran-release, ran-piece, ran-leave, ran-tick, Run, done, then, Agrees}
 use Rattle.book.proofs.Tails.{simulates}
 use Rattle.book.proofs.Never.{nevers}
 
@@ -94,7 +94,7 @@ module _ {m : List ℕ} (b : State (List ℕ)) (h : Holds m b) where
   v = seen tailView b
 
   pub one : {e : List ℕ} {c : Call} {a : Answer} → Ran m e c a → Told (modelStep b c) a e
-  unfolding modelStep connectOn ownOn releaseOn pieceOn disconnectOn
+  unfolding modelStep connectOn ownOn releaseOn pieceOn disconnectOn tickOn
   one (ran-start d) = let s = start-holds m (holds-length h) d in record { answer = ap plain (s .0); holds = s .1 }
   one (ran-connect {image} {uid} {gids} u w d) =
       meets-image connected h noConnect (λ s. connect tails image s uid gids) (connect books image b uid gids)
@@ -110,6 +110,8 @@ module _ {m : List ℕ} (b : State (List ℕ)) (h : Holds m b) where
   one (ran-leave {n} d) =
       meets-memory gone h noGone (λ s. disconnect tails s n) (disconnect books b n) (disconnect-seen books tails tailView simulates b n)
       (disconnect-sound v (h .sound) n) d
+  one (ran-tick {now} {limit} w d) =
+      meets-memory ticked h noTick (λ s. tick s now limit) (tick b now limit) (tick-seen tailView b now limit) (tick-sound v (h .sound) now limit w) d
 
 -- ---- the list
 

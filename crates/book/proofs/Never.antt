@@ -1,4 +1,4 @@
--- 51 is no answer of the model, whatever it holds (rule 11.3): its calls answer at most 40, and an image that is refused answers something else.
+-- 51 is no answer of the model, whatever it holds (rule 11.3): its calls answer at most 41, and an image that is refused answers something else.
 use mathlib.Core.Path.{_≡_}
 use mathlib.Core.List.{List, [], _∷_}
 use Prim.Native.Nat.{ℕ, _≤_}
@@ -14,15 +14,15 @@ use Rattle.rules.specs.declared.Owned.{Owned}
 use Rattle.rules.specs.declared.Taken.{Taken}
 use Rattle.wire.proofs.Tests.{choice}
 use Rattle.sound.proofs.Numbers.{broken-number}
-use Rattle.sound.proofs.Answers.{connect-modest, own-modest, release-modest, piece-modest, disconnect-modest}
+use Rattle.sound.proofs.Answers.{connect-modest, own-modest, release-modest, piece-modest, disconnect-modest, tick-modest}
 use Rattle.book.specs.Book.{current, books}
-use Rattle.book.specs.Lists.{Call, starts, connects, claims, releases, offers, leaves, modelStep, answers, numberOf, Never51}
+use Rattle.book.specs.Lists.{Call, starts, connects, claims, releases, offers, leaves, ticks, modelStep, answers, numberOf, Never51}
 use Rattle.book.proofs.Images.{image-refuses}
 
 pub book-faults : (xs : List ℕ) (a : ℕ) → books .judge xs ≡ broken a → (1 ≤ a) × (a ≤ 9)
 book-faults xs a e = broken-number (length (current xs)) (current xs) a e
 
-few : {a : ℕ} → a ≤ 40 → a ≡ 51 → ⊥
+few : {a : ℕ} → a ≤ 41 → a ≡ 51 → ⊥
 few h e = omega arith
 
 never : (b : State (List ℕ)) (c : Call) → numberOf (modelStep b c .answer) ≡ 51 → ⊥
@@ -39,6 +39,7 @@ never b (offers image n bytes) =
     choice (λ (z : Step (List ℕ) Taken). z .result .judgement .answer ≡ 51 → ⊥) (eqb (imageAnswer image) 0) _ _
     (λ a. few (piece-modest books book-faults b image n bytes .most)) (λ a. image-refuses image a .not51)
 never b (leaves n) = few (disconnect-modest books b n .most)
+never b (ticks now limit) = few (tick-modest b now limit .most)
 
 pub nevers : (b : State (List ℕ)) (cs : List Call) → Never51 (answers b cs)
 unfolding answers

@@ -2,6 +2,7 @@
 use mathlib.Core.Path.{_≡_, refl, sym, ap, _∙_}
 use mathlib.Core.Bool.{Bool, true, false, cond}
 use mathlib.Core.List.{List}
+use mathlib.Core.Option.{Option}
 use Prim.Native.Nat.{ℕ}
 use lib.ListN.{set}
 use lib.Seq.{set-getD}
@@ -61,10 +62,14 @@ module _ {S : Type 0} (s : State S) (i : ℕ) (p : Peer S) (t : S) (e : slotAt s
   same-unread =
       let q : seenSlot unread (peer p) ≡ slotAt (seen unread s) i = ap (seenSlot unread) (sym e) ∙ sym (slot-seen unread s i) in
       sym (put-seen unread s i (peer (withStream p t)))
-      ∙ ap (λ (l : List (Slot Tail)). record { last = s .last; slots = l }) (ap (set (seen unread s .slots) i) q ∙ set-getD (seen unread s .slots) i free)
+      ∙ ap (λ (l : List (Slot Tail)). record { last = s .last; tick = s .tick; slots = l }) (ap (set (seen unread s .slots) i) q ∙ set-getD (seen unread s .slots) i free)
 
   pub awaited-later : (n : ℕ) (h : List ℕ) (x : Header) → isAwaited moved n h x ≡ isAwaited s n h x
   awaited-later n h x = sym (awaited-seen unread moved n h x) ∙ ap (λ (z : State Tail). isAwaited z n h x) same-unread ∙ awaited-seen unread s n h x
+
+  -- whom an address means is the same
+  pub resolve-later : (d : Option (List ℕ)) → resolve (moved .slots) d ≡ resolve (s .slots) d
+  resolve-later d = sym (resolve-seen unread moved d) ∙ ap (λ (z : State Tail). resolve (z .slots) d) same-unread ∙ resolve-seen unread s d
 
   pub ok-later : (j : ℕ) → okSlot (slotAt moved j) ≡ okSlot (slotAt s j)
   ok-later j = sym (ok-slots unread moved j) ∙ ap (λ (z : State Tail). okSlot (slotAt z j)) same-unread ∙ ok-slots unread s j
@@ -106,6 +111,6 @@ module _ (b : State (List ℕ)) (image : List ℕ) (n : ℕ) (bytes h : List ℕ
       ∙ reply-once image later place done h x r
       (λ j p e. sym (ap okSlot e) ∙ ok-later b place sender (done .stream) (m .takes .sits) j ∙ ok j) (awaited-same ∙ w))
 
-pub alone-ok : (last : ℕ) (y : Slot Tail) → Alone last y → okSlot y ≡ true
-alone-ok last free a = refl
-alone-ok last (peer p) a = a .waits
+pub alone-ok : (last tick : ℕ) (y : Slot Tail) → Alone last tick y → okSlot y ≡ true
+alone-ok last tick free a = refl
+alone-ok last tick (peer p) a = a .waits

@@ -11,11 +11,12 @@ use Rattle.rules.proofs.View.{slot-seen}
 use Rattle.memory.specs.Layout.{memoryLength}
 use Rattle.memory.specs.Encoding.{stateOf}
 use Rattle.memory.proofs.Sound.{state-again}
-use Rattle.memory.specs.Calls.{MemoryStep, Did, startOn, connectOn, ownOn, releaseOn, pieceOn, disconnectOn}
+use Rattle.memory.specs.Calls.{MemoryStep, Did, startOn, connectOn, ownOn, releaseOn, pieceOn, disconnectOn, tickOn}
 use Rattle.book.specs.Book.{tailView}
-use Rattle.book.specs.Lists.{Call, starts, connects, claims, releases, offers, leaves, Answer, plain, connected, owned, taken, gone, after}
+use Rattle.book.specs.Lists.{Call, starts, connects, claims, releases, offers, leaves, ticks, Answer, plain, connected, owned, taken, gone, ticked, after}
 use Rattle.book.specs.Lists.{FitsTypes, AllFit}
-use Rattle.book.specs.Lists.{Ran, ran-start, ran-connect, ran-own, ran-release, ran-piece, ran-leave, Run, done, then, Reached, since-start, since-empty}
+use Rattle.book.specs.Lists.{Ran, ran-start, ran-connect, ran-own, ran-release, ran-piece, ran-leave, ran-tick, Run, done, then}
+use Rattle.book.specs.Lists.{Reached, since-start, since-empty}
 use Rattle.book.proofs.List.{Holds, empty-holds, all, started}
 
 -- ---- there is a run
@@ -32,6 +33,7 @@ call-exists m (claims image n name) f = let o = ownOn image m n name in (owned (
 call-exists m (releases n name) f = let o = releaseOn m n name in (plain (o .result), o .memory, ran-release (itself o))
 call-exists m (offers image n bytes) f = let o = pieceOn image m n bytes in (taken (o .result), o .memory, ran-piece f (itself o))
 call-exists m (leaves n) f = let o = disconnectOn m n in (gone (o .result), o .memory, ran-leave (itself o))
+call-exists m (ticks now limit) f = let o = tickOn m now limit in (ticked (o .result), o .memory, ran-tick f (itself o))
 
 -- whatever the memory and the calls, if only their arguments are of their types
 pub run-exists : (cs : List Call) → AllFit cs → (m : List ℕ) → (given : List Answer) × (e : List ℕ) × Run m cs given e

@@ -1,9 +1,9 @@
--- A piece offered whole or in parts: the same verdicts in the same order, the same bytes afterwards, and so the same answers to whatever calls follow
--- (rule 12.2).
+-- A piece offered whole or in parts: the same verdicts in the same order, the same bytes afterwards, and so the same answers to whatever calls follow; and
+-- so with ticks between the parts (rule 12.2).
 use mathlib.Core.Path.{_≡_, refl, sym, ap, ap₂, _∙_, subst}
 use mathlib.Core.Bool.{true, false, cond, false≢true}
 use mathlib.Core.List.{List, [], _∷_, _++_, map, append-nil}
-use Prim.Native.Nat.{ℕ, zero, suc, _+_}
+use Prim.Native.Nat.{ℕ, zero, suc, _+_, _<_}
 use native.Mathlib.Omega.{arith}
 use lib.Dec.{eqb}
 use lib.ListN.{length, drop}
@@ -12,9 +12,10 @@ use Rattle.wire.specs.Bytes.{Below}
 use Rattle.image.specs.Good.{imageAnswer}
 use Rattle.stream.specs.Tail.{Tail, tails}
 use Rattle.rules.specs.State.{State}
-use Rattle.rules.specs.Calls.{Step, stays, empty, piece, noPiece}
+use Rattle.rules.specs.Calls.{Step, stays, empty, piece, tick, noPiece, noTick}
 use Rattle.rules.specs.declared.Judgement.{Judgement}
 use Rattle.rules.specs.declared.Taken.{Taken}
+use Rattle.rules.specs.declared.Ticked.{Ticked}
 use Rattle.wire.proofs.Tests.{choice, by-test}
 use Rattle.rules.proofs.View.{chosen}
 use Rattle.rules.specs.View.{seen}
@@ -22,17 +23,18 @@ use Rattle.memory.specs.Layout.{memoryLength}
 use Rattle.memory.specs.Encoding.{memoryOf, stateOf}
 use Rattle.memory.specs.Good.{good}
 use Rattle.memory.specs.Sound.{Sound}
-use Rattle.memory.specs.Calls.{MemoryStep, Did, stored, unchanged, pieceOn}
+use Rattle.memory.specs.Calls.{MemoryStep, Did, stored, unchanged, pieceOn, tickOn}
 use Rattle.memory.proofs.Good.{good-is, good-sound}
 use Rattle.memory.proofs.Octets.{every-below}
-use Rattle.sound.proofs.Keep.{piece-sound}
+use Rattle.sound.proofs.Keep.{piece-sound, tick-sound}
 use Rattle.book.specs.Book.{tailView}
-use Rattle.book.specs.Lists.{Call, starts, offers, Answer, plain, connected, owned, taken, gone, underImage, after, Ran, ran-start, ran-connect}
-use Rattle.book.specs.Lists.{ran-own, ran-release, ran-piece, ran-leave, Run, done, then}
+use Rattle.book.specs.Lists.{Call, starts, offers, Answer, plain, connected, owned, taken, gone, ticked, underImage, after, Ran, ran-start, ran-connect}
+use Rattle.book.specs.Lists.{ran-own, ran-release, ran-piece, ran-leave, ran-tick, Run, done, then}
 use Rattle.rules.specs.Places.{isStop}
 use Rattle.book.specs.Split.{said, Offers, ends, again, OffersAll, nothing, next, joinedPieces}
+use Rattle.book.specs.Split.{Cutting, Alike, same-bytes, same-tick, FitsCutting, Heard, verdict, report, OffersCut, all-offered, then-tick}
 use Rattle.book.proofs.Images.{Refusal, image-refuses}
-use Rattle.book.proofs.List.{on-image, started}
+use Rattle.book.proofs.List.{on-memory, on-image, started}
 use Rattle.book.proofs.Bytewise.{Offering, Refuses, Laws, idle-refuses, refuses, bytewise, bytewise-none, bytewise-append, call-first, call-last}
 use Rattle.book.proofs.Ways.{stepOf, piece-laws}
 
@@ -49,6 +51,15 @@ below-right (x ∷ p) q h = below-right p q (λ j. h (suc j))
 
 pub below-drop : (k : ℕ) (p : List ℕ) → Below 256 p → Below 256 (drop k p)
 below-drop k p h i = rw (getD-drop k p i 0) (h (k + i))
+
+-- ---- memory of which something is known: it is the bytes of a sound state, or it is not good; no bytes are neither
+
+pub data Known (m : List ℕ) : Type 0 where
+  known-sound : (s : State Tail) → Sound s → m ≡ memoryOf s → Known m
+  known-bad : good m ≡ false → Known m
+
+pub known : (m : List ℕ) → Below 256 m → Known m
+known m b = by-test (good m) (λ g. known-sound (stateOf m) (good-sound m b g) (sym (good-is m b g))) known-bad
 
 -- ---- the guard's step, under any image
 
@@ -156,6 +167,20 @@ module _ (image : List ℕ) (n : ℕ) where
       let z = comes-all s g b q os in
       (a .said ∙ sym (z .said), a .bytes ∙ sym (z .bytes))
 
+  -- the same bytes in parts, cut in two ways, over memory of which something is known; and so much is known of what they leave
+  parts-alike : {m e d : List ℕ} {ps qs : List (List ℕ)} {vs ws : List Judgement} → Known m → Below 256 (joinedPieces ps) → joinedPieces ps ≡ joinedPieces qs
+      → OffersAll image n m e ps vs
+      → OffersAll image n m d qs ws
+      → (vs ≡ ws) × (e ≡ d) × Known e
+  parts-alike {ps = ps} (known-sound s g q) b j o os =
+      let a = comes-all s g b q o in
+      let z = rw (← j) at (comes-all s g (rw (← j) b) q os) in
+      (a .said ∙ sym (z .said), a .bytes ∙ sym (z .bytes), known-sound (bytewise step s (joinedPieces ps) .state) (a .sound) (a .bytes))
+  parts-alike (known-bad g) b j o os =
+      let a = bad-all g o in
+      let z = bad-all g os in
+      (a .0 ∙ sym (z .0), a .1 ∙ sym (z .1), known-bad (rw (a .1) g))
+
   -- THE CLAIM: over any memory, good or not, and any image
   pub split-claim : {m e d : List ℕ} {ps : List (List ℕ)} {vs ws : List Judgement} → Below 256 m → Below 256 (joinedPieces ps)
       → Offers image n e m (joinedPieces ps) vs
@@ -164,6 +189,37 @@ module _ (image : List ℕ) (n : ℕ) where
   split-claim {m} bm b o os =
       by-test (good m) (λ g. sound-split (stateOf m) (good-sound m bm g) (sym (good-is m bm g)) b o os)
       (λ g. let a = bad g o in let z = bad-all g os in (a .0 ∙ sym (z .0), a .1 ∙ sym (z .1)))
+
+-- ---- ticks between the parts
+
+known-tick : {m e : List ℕ} {r : Ticked} (now limit : ℕ) → Known m → now < 18446744073709551616 → Did (tickOn m now limit) r e → Known e
+unfolding tickOn
+known-tick now limit (known-sound s g q) h d =
+    let w = ap (λ (x : List ℕ). tickOn x now limit) q ∙ on-memory s g noTick (λ z. tick z now limit) in
+    known-sound (tick s now limit .state) (tick-sound s g now limit h) (d .memory ∙ ap (λ (x : MemoryStep Ticked). x .memory) w)
+known-tick now limit (known-bad g) h d = known-bad (rw (rw g at (d .memory)) g)
+
+cuttings : {m e d : List ℕ} {b c : Cutting} {xs ys : List Heard} (image : List ℕ) (n : ℕ) → Known m → FitsCutting b → Alike b c
+    → OffersCut image n m e b xs
+    → OffersCut image n m d c ys
+    → (xs ≡ ys) × (e ≡ d)
+cuttings image n k f (same-bytes j) (all-offered o) (all-offered os) =
+    let a = parts-alike image n k f j o os in
+    (ap (map verdict) (a .0), a .1)
+cuttings {d = e₂} image n k f (same-tick {now = now} {limit = limit} {d = c} j l) (then-tick o t rest) (then-tick {k = k₂} {r = r₂} {hs = ys} os u more) =
+    let a = parts-alike image n k (f .0) j o os in
+    let v : Did (tickOn _ now limit) r₂ k₂ = rw (← (a .1)) at u in
+    let z = cuttings image n (known-tick now limit (a .2) (f .1) t) (f .2) l rest
+    (subst (λ (x : List ℕ). OffersCut image n x e₂ c ys) (v .memory ∙ sym (t .memory)) more) in
+    (ap₂ _++_ (ap (map verdict) (a .0)) (ap₂ (λ (x : Ticked) (y : List Heard). report x ∷ y) (t .result ∙ sym (v .result)) (z .0)), z .1)
+
+-- THE CLAIM with ticks: over any memory of bytes and any image. Where only the cuts differ, what is heard is the same in the same order, ticks' reports too,
+-- and the same bytes are left.
+pub ticks-alike : {m e d : List ℕ} {b c : Cutting} {xs ys : List Heard} (image : List ℕ) (n : ℕ) → Below 256 m → FitsCutting b → Alike b c
+    → OffersCut image n m e b xs
+    → OffersCut image n m d c ys
+    → (xs ≡ ys) × (e ≡ d)
+ticks-alike {m} image n bm f l o os = cuttings image n (known m bm) f l o os
 
 -- ---- the same calls from the same memory give the same
 
@@ -174,6 +230,7 @@ same-ran (ran-own d) (ran-own e) = (ap owned (d .result ∙ sym (e .result)), d 
 same-ran (ran-release d) (ran-release e) = (ap plain (d .result ∙ sym (e .result)), d .memory ∙ sym (e .memory))
 same-ran (ran-piece w d) (ran-piece z e) = (ap taken (d .result ∙ sym (e .result)), d .memory ∙ sym (e .memory))
 same-ran (ran-leave d) (ran-leave e) = (ap gone (d .result ∙ sym (e .result)), d .memory ∙ sym (e .memory))
+same-ran (ran-tick u d) (ran-tick v e) = (ap ticked (d .result ∙ sym (e .result)), d .memory ∙ sym (e .memory))
 
 pub same-run : {m d e : List ℕ} {cs : List Call} {xs ys : List Answer} → Run m cs xs d → Run m cs ys e → (xs ≡ ys) × (d ≡ e)
 same-run done done = (refl, refl)
@@ -209,6 +266,7 @@ verdicts (connected r ∷ l) = verdicts l
 verdicts (owned r ∷ l) = verdicts l
 verdicts (taken r ∷ l) = said r ++ verdicts l
 verdicts (gone r ∷ l) = verdicts l
+verdicts (ticked r ∷ l) = verdicts l
 
 pub record Listed (image : List ℕ) (n : ℕ) (e m : List ℕ) (vs : List Judgement) : Type 0 where
   pub pieces : List (List ℕ)

@@ -1,6 +1,6 @@
 -- Each call keeps a peer's pending calls what the tally says of them, whatever streams are made of.
 use mathlib.Core.Path.{_≡_, refl, sym, ap, _∙_, subst}
-use mathlib.Core.Bool.{false, cond, _&&_, false≢true}
+use mathlib.Core.Bool.{Bool, false, cond, _&&_, false≢true}
 use mathlib.Core.List.{List}
 use Prim.Native.Nat.{ℕ, _+_, _≤_, _<_}
 use native.Mathlib.Omega.{arith}
@@ -14,18 +14,20 @@ use Rattle.policy.specs.Decisions.{connectDecision, ownDecision}
 use Rattle.stream.specs.Stream.{Streams}
 use Rattle.rules.specs.State.{Pending, Slot, free, peer, Peer, State, isFree, isPeer, firstBy, putSlot, withPending}
 use Rattle.rules.specs.Addresses.{ownable}
-use Rattle.rules.specs.Pending.{removeCallsTo}
+use Rattle.rules.specs.Pending.{isTo, expired, removeCalls}
 use Rattle.rules.specs.Judge.{Judged, judged}
-use Rattle.rules.specs.Calls.{Step, stays, noConnect, seated, connectAt, connect, slotAt, ownNew, ownAt, own, releaseAt, release, disconnectAt, disconnect}
+use Rattle.rules.specs.Calls.{Step, stays, noConnect, seated, connectAt, connect, slotAt, ownNew, ownAt, own, releaseAt, release}
+use Rattle.rules.specs.Calls.{disconnectAt, disconnect, tick}
 use Rattle.rules.specs.declared.Connected.{Connected}
 use Rattle.rules.specs.declared.Owned.{Owned}
+use Rattle.rules.specs.declared.Ticked.{Ticked}
 use Rattle.wire.proofs.Tests.{choice, refute}
 use Rattle.rules.proofs.Replies.{reply-only}
 use Rattle.rules.proofs.First.{taken-below, number-found}
 use Rattle.sound.proofs.Slots.{put-cases, Single}
 use Rattle.sound.proofs.Judged.{judged-any}
-use Rattle.book.specs.Tally.{Tally, noCalls, calleeLeft, messagePassed}
-use Rattle.book.proofs.Counts.{Right, right-none, right-admitted, right-replied, right-left}
+use Rattle.book.specs.Tally.{Tally, noCalls, callsEnded, calleeLeft, callsExpired, messagePassed}
+use Rattle.book.proofs.Counts.{Right, right-none, right-admitted, right-replied, right-ended}
 
 -- peer n, if the slot is its, has the pending calls that the tally says
 abbrev pub RightAt : {S : Type 0} → ℕ → Tally → Slot S → Type 0
@@ -71,15 +73,15 @@ module _ {S : Type 0} (n : ℕ) where
     module _ (image : List ℕ) (i : ℕ) (sender : Peer S) (e : slotAt s i ≡ peer sender) (x : Header) where
       -- what it is to the tally, as it was answered
       abbrev Kept : Judged S → Type 0
-      Kept z = Counts n (cond (eqb (z .judgement .answer) 0) (messagePassed n (sender .number) x (z .judgement .receiver) t) t) (z .state)
+      Kept z = Counts n (cond (eqb (z .judgement .answer) 0) (messagePassed n (sender .number) (s .tick) x (z .judgement .receiver) t) t) (z .state)
 
       pub judged-counts : (h : List ℕ) → Kept (judged image s i sender h x)
       judged-counts =
           judged-any image s i sender x Kept (λ a p q. choice (λ (u : Tally). Counts n u s) (eqb a 0) t t (λ z. c) (λ z. c)) (λ l. c) (λ d j k. k) c (λ m k. c)
           (λ j q y r w. rw (w, r) c)
-          (λ j q y w a l. rw w (own-counts i sender _ _ e (λ r. right-admitted t (q .number) (sender .pending) r (x .serial))))
+          (λ j q y w a l. rw w (own-counts i sender _ _ e (λ r. right-admitted t (sender .pending) r (q .number) (x .serial) (s .tick))))
           (λ j q y r a. rw (reply-only x r, r)
-          (own-counts j q _ _ y (λ z. right-replied t (sender .number) (q .pending) z (x .«reply_serial») a)))
+          (own-counts j q _ _ y (λ z. right-replied t (q .pending) z (sender .number) (x .«reply_serial») a)))
 
     -- ---- own and release
 
@@ -130,19 +132,26 @@ module _ {S : Type 0} (n : ℕ) where
           (λ a. choice After (d .allow) (connectAt O s (firstBy isFree (s .slots)) uid gids) (stays s (noConnect 36))
           (λ b. search (choice After, seated-after, ltb-true)) (λ b. c))
 
-    -- ---- disconnect
+    -- ---- calls that end by a test: disconnect and tick
 
-    left-right : (k : ℕ) (y : Slot S) → RightAt n t y → RightAt n (calleeLeft k t) (removeCallsTo k y)
-    left-right k free r = tt
-    left-right k (peer p) r = λ e. right-left t k (p .pending) (r e)
+    ended-right : (test : Pending → Bool) (y : Slot S) → RightAt n t y → RightAt n (callsEnded test t) (removeCalls test y)
+    ended-right test free r = tt
+    ended-right test (peer p) r = λ e. right-ended t (p .pending) (r e) test
 
     left-at : (O : Streams S) (k i : ℕ) (y : Slot S) → slotAt s i ≡ y → ((p : Peer S) → y ≡ peer p → p .number ≡ k)
         → Counts n (cond (eqb (disconnectAt O s i y .result .answer) 0) (calleeLeft k t) t) (disconnectAt O s i y .state)
     left-at O k i free e f = c
     left-at O k i (peer p) e f =
-        λ j. rw (List·getD-map (removeCallsTo (p .number)) (set (s .slots) i free) j free, f p refl)
-        (left-right k (getD (set (s .slots) i free) j free) (put-cases (RightAt n t) (s .slots) i free (taken-below (s .slots) i p e) j (λ z. tt) (λ z. c j)))
+        λ j. rw (List·getD-map (removeCalls (isTo (p .number))) (set (s .slots) i free) j free, f p refl)
+        (ended-right (isTo k) (getD (set (s .slots) i free) j free) (put-cases (RightAt n t) (s .slots) i free (taken-below (s .slots) i p e) j (λ z. tt) (λ z. c j)))
 
     pub left-counts : (O : Streams S) (k : ℕ) → Counts n (cond (eqb (disconnect O s k .result .answer) 0) (calleeLeft k t) t) (disconnect O s k .state)
     unfolding disconnect
     left-counts O k = let i = firstBy (isPeer k) (s .slots) in left-at O k i (slotAt s i) refl (number-found (s .slots) k)
+
+    pub ticked-counts : (now limit : ℕ)
+        → Counts n (cond (eqb (tick s now limit .result .answer) 0) (callsExpired now limit t) t) (tick s now limit .state)
+    unfolding tick
+    ticked-counts now limit =
+        choice (λ (z : Step S Ticked). Counts n (cond (eqb (z .result .answer) 0) (callsExpired now limit t) t) (z .state)) (ltb now (s .tick)) _ _ (λ a. c)
+        (λ a j. rw (List·getD-map (removeCalls (expired now limit)) (s .slots) j free) (ended-right (expired now limit) (slotAt s j) (c j)))

@@ -12,7 +12,7 @@ use Rattle.rules.specs.Calls.{empty}
 use Rattle.rules.specs.Places.{receiverWords, shownWords, goesOn}
 use Rattle.rules.specs.Bench.{unshown, byRule, byNone}
 use Rattle.rules.specs.declared.Taken.{Taken}
-use Rattle.book.specs.Lists.{Call, starts, connects, claims, offers, Answer, plain, connected, owned, taken, gone, answers}
+use Rattle.book.specs.Lists.{Call, starts, connects, claims, offers, ticks, Answer, plain, connected, owned, taken, gone, ticked, answers}
 use Rattle.book.specs.Book.{books}
 use Rattle.book.specs.Split.{isVerdict}
 
@@ -124,6 +124,7 @@ answerShown (connected r) = r .answer ∷ r .number ∷ r .slot ∷ shownWords (
 answerShown (owned r) = r .answer ∷ shownWords (r .rule)
 answerShown (taken r) = r .judgement .answer ∷ r .taken ∷ (receiverWords (r .judgement .receiver) ++ shownWords (r .judgement .rule))
 answerShown (gone r) = r .answer ∷ r .bytes ∷ []
+answerShown (ticked r) = r .answer ∷ r .ended ∷ []
 
 abbrev pub lastOf : List Answer → List ℕ
 lastOf [] = []
@@ -241,4 +242,7 @@ furtherRows =
     ∷ (sends (interfaceRule 1 0 0 6 1) signalToAll, 0 ∷ 64 ∷ 3 ∷ 1 ∷ 1 ∷ unshown)  -- of a broadcast no rule is shown
     ∷ (asks (starts ∷ connects prefix 7 [] ∷ claims prefix 1 (bytes "org.foo") ∷ claims prefix 1 (bytes "org.foo") ∷ []), 0 ∷ byRule 0)  -- held already
     ∷ (asks (starts ∷ connects noRulesAtAll 7 [] ∷ []), 36 ∷ 0 ∷ 0 ∷ byNone)
+    ∷ (asks (starts ∷ ticks 5 0 ∷ ticks 4 0 ∷ []), 41 ∷ 0 ∷ [])  -- a tick does not go back (rule 8.12)
+    ∷ (asks (starts ∷ ticks 5 0 ∷ ticks 5 0 ∷ []), 0 ∷ 0 ∷ [])  -- but may come again
+    ∷ (asks (starts ∷ ticks 5 0 ∷ starts ∷ ticks 4 0 ∷ []), 0 ∷ 0 ∷ [])  -- and a start goes back to 0 (rule 8.2)
     ∷ []

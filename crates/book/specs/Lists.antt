@@ -8,18 +8,19 @@ use lib.ListN.{length}
 use Rattle.wire.specs.Bytes.{Below}
 use Rattle.image.specs.Good.{imageAnswer}
 use Rattle.rules.specs.State.{State}
-use Rattle.rules.specs.Calls.{Step, stays, empty, connect, own, release, piece, disconnect, noConnect, noOwn, noPiece}
+use Rattle.rules.specs.Calls.{Step, stays, empty, connect, own, release, piece, disconnect, tick, noConnect, noOwn, noPiece}
 use Rattle.rules.specs.declared.Connected.{Connected}
 use Rattle.rules.specs.declared.Owned.{Owned}
 use Rattle.rules.specs.declared.Taken.{Taken}
 use Rattle.rules.specs.declared.Gone.{Gone}
-use Rattle.memory.specs.Calls.{Did, startOn, connectOn, ownOn, releaseOn, pieceOn, disconnectOn}
+use Rattle.rules.specs.declared.Ticked.{Ticked}
+use Rattle.memory.specs.Calls.{Did, startOn, connectOn, ownOn, releaseOn, pieceOn, disconnectOn, tickOn}
 use Rattle.memory.specs.Layout.{memoryLength}
 use Rattle.memory.specs.Encoding.{memoryOf}
 use Rattle.rules.specs.View.{seen}
 use Rattle.book.specs.Book.{books, tailView}
 
--- each with its arguments, and nothing of the guard's memory (rule 11.1)
+-- each with its arguments, and nothing of the guard's memory; a tick's are the new tick and the limit (rule 11.1)
 pub data Call : Type 0 where
   starts : Call
   connects : List ℕ → ℕ → List ℕ → Call
@@ -27,14 +28,16 @@ pub data Call : Type 0 where
   releases : ℕ → List ℕ → Call
   offers : List ℕ → ℕ → List ℕ → Call
   leaves : ℕ → Call
+  ticks : ℕ → ℕ → Call
 
--- all that a call reports
+-- all that a call reports (rule 11.3)
 pub data Answer : Type 0 where
   plain : ℕ → Answer
   connected : Connected → Answer
   owned : Owned → Answer
   taken : Taken → Answer
   gone : Gone → Answer
+  ticked : Ticked → Answer
 
 -- ---- the model
 
@@ -58,6 +61,7 @@ modelStep b (claims image n name) = toldStep owned (underImage noOwn image b (ow
 modelStep b (releases n name) = toldStep plain (release b n name)
 modelStep b (offers image n bytes) = toldStep taken (underImage noPiece image b (piece books image b n bytes))
 modelStep b (leaves n) = toldStep gone (disconnect books b n)
+modelStep b (ticks now limit) = toldStep ticked (tick b now limit)
 
 -- what the model says to a list of calls (rule 11.3)
 unfoldable pub answers : State (List ℕ) → List Call → List Answer
@@ -71,7 +75,7 @@ after b (c ∷ cs) = after (modelStep b c .state) cs
 
 -- ---- a run of the guard
 
--- arguments that fit in their types: numbers of 32 bits, and bytes
+-- arguments that fit in their types: numbers of 32 bits, ticks of 64, and bytes
 abbrev pub FitsTypes : Call → Type 0
 FitsTypes starts = Unit {0}
 FitsTypes (connects image uid gids) = (uid < 4294967296) × Below 4294967296 gids
@@ -79,6 +83,7 @@ FitsTypes (claims image n name) = Unit {0}
 FitsTypes (releases n name) = Unit {0}
 FitsTypes (offers image n bytes) = Below 256 bytes
 FitsTypes (leaves n) = Unit {0}
+FitsTypes (ticks now limit) = now < 18446744073709551616
 
 abbrev pub AllFit : List Call → Type 0
 AllFit [] = Unit {0}
@@ -96,6 +101,7 @@ pub data Ran (m e : List ℕ) : Call → Answer → Type 0 where
       → Did (pieceOn image m n bytes) r e
       → Ran m e (offers image n bytes) (taken r)
   ran-leave : {n : ℕ} {r : Gone} → Did (disconnectOn m n) r e → Ran m e (leaves n) (gone r)
+  ran-tick : {now limit : ℕ} {r : Ticked} → now < 18446744073709551616 → Did (tickOn m now limit) r e → Ran m e (ticks now limit) (ticked r)
 
 -- calls one after the other, each with the memory as the last left it (rule 12.1)
 pub data Run : List ℕ → List Call → List Answer → List ℕ → Type 0 where
@@ -119,6 +125,7 @@ numberOf (connected r) = r .answer
 numberOf (owned r) = r .answer
 numberOf (taken r) = r .judgement .answer
 numberOf (gone r) = r .answer
+numberOf (ticked r) = r .answer
 
 -- 51 is no answer among these (rule 11.3)
 abbrev pub Never51 : List Answer → Type 0

@@ -1,4 +1,4 @@
--- The messages of a stream, the message that a piece ends, and a broken head: what proofs/Consequences.antt speaks of.
+-- The messages of a stream, the message that a piece ends, a broken head, and a pending call: what proofs/Consequences.antt speaks of.
 use mathlib.Core.Bool.{false}
 use mathlib.Core.List.{List, [], _∷_, _++_}
 use mathlib.Core.Path.{_≡_}
@@ -10,7 +10,7 @@ use Rattle.header.specs.Header.{readHeader}
 use Rattle.image.specs.Good.{imageAnswer}
 use Rattle.stream.specs.Stream.{broken, whole, Streams, offer}
 use Rattle.stream.specs.Tail.{Tail, judge, brokenAt}
-use Rattle.rules.specs.State.{peer, Peer, State, isPeer, firstBy}
+use Rattle.rules.specs.State.{Pending, peer, Peer, State, isPeer, firstBy}
 use Rattle.rules.specs.Calls.{slotAt}
 use Rattle.memory.specs.Encoding.{stateOf}
 use Rattle.book.specs.Book.{firstVerdict, isWhole, books}
@@ -54,3 +54,11 @@ pub record BrokenIn (m : List ℕ) (n a : ℕ) : Type 0 where
   pub number : who .number ≡ n
   pub reads : judge (who .stream) ≡ broken a
   pub found : who .stream .taken ≡ brokenAt a (who .stream .head)
+
+-- in memory m the peer of slot j has w among its pending calls (rule 1.2)
+pub record PendingIn (m : List ℕ) (j : ℕ) (w : Pending) : Type 0 where
+  pub who : Peer Tail
+  pub sits : slotAt (stateOf m) j ≡ peer who
+  pub before : List Pending
+  pub later : List Pending
+  pub among : who .pending ≡ before ++ (w ∷ later)

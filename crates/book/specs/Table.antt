@@ -4,7 +4,7 @@ use Prim.Native.Nat.{ℕ, _+_}
 use lib.ListN.{take, drop}
 use Rattle.wire.specs.Bytes.{byte, bytes}
 use Rattle.wire.specs.Words.{wordBytes}
-use Rattle.book.specs.Lists.{Call, starts, connects, offers, leaves}
+use Rattle.book.specs.Lists.{Call, starts, connects, offers, leaves, ticks}
 use Rattle.book.specs.Tally.{since}
 use Rattle.book.specs.Bench.{callC, openImage, transactionRuleOf}
 
@@ -38,6 +38,10 @@ joins = connects allowBoth 7 []
 abbrev pub says : ℕ → List ℕ → Call
 says k message = offers allowBoth k message
 
+-- peer 1 has called peer 2 at tick 0 and again at tick 3
+abbrev pub olderYounger : List Call → List Call
+olderYounger cs = says 1 (callMessage 0 1 2) ∷ ticks 3 9 ∷ says 1 (callMessage 0 2 2) ∷ cs
+
 -- ---- lines
 
 -- what calls say of peer n, once two peers have connected
@@ -57,4 +61,10 @@ tallyTable =
     ∷ ((1, says 1 (callMessage 0 1 1) ∷ leaves 2 ∷ []), 1 ∷ 0 ∷ 0 ∷ [])  -- another leaves
     ∷ ((1, says 1 (callMessage 0 1 2) ∷ starts ∷ joins ∷ []), 0 ∷ 0 ∷ 0 ∷ [])  -- a start begins anew
     ∷ ((3, says 1 (callMessage 0 1 2) ∷ leaves 1 ∷ joins ∷ []), 0 ∷ 0 ∷ 0 ∷ [])  -- so does a newcomer, in the same slot
+    ∷ ((1, says 1 (callMessage 0 1 2) ∷ ticks 5 5 ∷ []), 1 ∷ 0 ∷ 1 ∷ [])  -- it expires
+    ∷ ((1, says 1 (callMessage 0 1 2) ∷ ticks 4 5 ∷ []), 1 ∷ 0 ∷ 0 ∷ [])  -- not one tick before
+    ∷ ((2, says 1 (callMessage 0 1 2) ∷ ticks 5 5 ∷ []), 0 ∷ 0 ∷ 0 ∷ [])  -- nor for the callee
+    ∷ ((1, says 1 (callMessage 0 1 2) ∷ ticks 5 5 ∷ says 1 (callMessage 0 1 2) ∷ []), 2 ∷ 0 ∷ 1 ∷ [])  -- and may wait again
+    ∷ ((1, olderYounger (ticks 5 5 ∷ says 2 (returnMessage 1 1) ∷ says 2 (returnMessage 2 1) ∷ [])), 2 ∷ 1 ∷ 1 ∷ [])  -- the older of two to one callee expires, and a late reply counts for nothing; the younger is replied to
+    ∷ ((1, olderYounger (ticks 2 0 ∷ [])), 2 ∷ 0 ∷ 0 ∷ [])  -- a tick that is refused counts nothing
     ∷ []

@@ -10,26 +10,28 @@ use lib.ListN.{length, take, drop, length-drop}
 use lib.Seq.{length-take-le}
 use borrow.Author.Needs.{needs}
 use borrow.Author.Tests.{eq-eqb, ne-eqb, lt-ltb, leb-true, leb-false}
-use Rattle.wire.specs.Words.{wordAt}
+use Rattle.wire.specs.Words.{wordAt, longAt}
 use Rattle.wire.specs.declared.Order.the-variants.{Little}
 use Rattle.wire.proofs.Words.{Octets, rest-at, cut-at}
 use Rattle.tables.proofs.Words.{bytes-drop}
 use Rattle.wire.proofs.Tests.{by-test}
 use Rattle.rules.specs.Calls.{connect}
-use Rattle.rules.specs.Places.{plainWords, connectedWords, ownedWords, takenWords, goneWords}
+use Rattle.rules.specs.Places.{plainWords, connectedWords, ownedWords, takenWords, goneWords, tickedWords}
 use Rattle.rules.specs.declared.Connected.{Connected}
 use Rattle.rules.specs.declared.Owned.{Owned}
 use Rattle.rules.specs.declared.Taken.{Taken}
 use Rattle.rules.specs.declared.Gone.{Gone}
-use Rattle.memory.specs.Calls.{Did, MemoryStep, startOn, connectOn, ownOn, releaseOn, pieceOn, disconnectOn}
-use Rattle.book.specs.Lists.{plain, connected, owned, taken, gone, connects, Ran, ran-start, ran-connect, ran-own, ran-release, ran-piece, ran-leave}
+use Rattle.rules.specs.declared.Ticked.{Ticked}
+use Rattle.memory.specs.Calls.{Did, MemoryStep, startOn, connectOn, ownOn, releaseOn, pieceOn, disconnectOn, tickOn}
+use Rattle.book.specs.Lists.{plain, connected, owned, taken, gone, ticked, connects, ticks}
+use Rattle.book.specs.Lists.{Ran, ran-start, ran-connect, ran-own, ran-release, ran-piece, ran-leave, ran-tick}
 use Rattle.places.specs.declared.Report.{Report}
 use Rattle.places.specs.Places.{placeLength, placeOf, reportWords, Shows}
 use Rattle.calls.specs.declared.Gids.{Gids}
 use Rattle.calls.specs.Script.{sizeOf, wellSized, words, gidsOf, peerCall, callOf}
 use Rattle.calls.specs.Steps.{Reported, Stepped, GidsIn, Entry}
 use Rattle.calls.proofs.Words.{words-length, words-below}
-use Rattle.calls.proofs.Entries.{at-least}
+use Rattle.calls.proofs.Entries.{at-least, four-words}
 
 -- ---- connect: more gids than sixteen are as many as seventeen
 
@@ -87,6 +89,16 @@ module _ (image m rest e : List ℕ) (kind n : ℕ) (r : Report) where
 
 pub ruleset peering = (own-reported, release-reported, piece-reported, needs)
 
+-- ---- a tick
+
+pub tick-reported : (m a e : List ℕ) (k limit : ℕ) → k ≡ longAt a 0 → k < 18446744073709551616 → limit ≡ longAt a 8
+    → (t : Ticked) → Did (tickOn m k limit) t e
+    → (r : Report) → Shows (tickedWords t) r
+    → Reported (ticks (longAt a 0) (longAt a 8)) m r e
+tick-reported m a e k limit p h q t d r s = rw (← p, ← q) (record { answer = ticked t; ran = ran-tick h d; shows = s })
+
+pub ruleset ticking = (tick-reported, needs)
+
 -- ---- any call
 
 module _ (image m a e : List ℕ) (kind : ℕ) where
@@ -99,17 +111,23 @@ module _ (image m a e : List ℕ) (kind : ℕ) where
     unfolding callOf
     connect-called r k s = rw (ne-eqb kind 0 h, eq-eqb kind 1 k) s
 
-    module _ (j : kind ≡ 1 → ⊥) (n : ℕ) (p : n ≡ wordAt Little a 0) where
-      pub leave-called : (r : Report) → kind ≡ 5 → (g : Gone) → Did (disconnectOn m n) g e → Shows (goneWords g) r → Reported (callOf image kind a) m r e
+    module _ (j : kind ≡ 1 → ⊥) where
+      pub tick-called : (r : Report) → kind ≡ 6 → Reported (ticks (longAt a 0) (longAt a 8)) m r e → Reported (callOf image kind a) m r e
       unfolding callOf
-      leave-called r k g d s = rw (ne-eqb kind 0 h, ne-eqb kind 1 j, eq-eqb kind 5 k) (record { answer = gone g; ran = ran-leave (rw p at d); shows = s })
+      tick-called r k s = rw (ne-eqb kind 0 h, ne-eqb kind 1 j, eq-eqb kind 6 k) s
 
-      pub peer-called : (r : Report) → (kind ≡ 5 → ⊥) → Reported (peerCall image kind n (take (length a - 4) (drop 4 a))) m r e
-          → Reported (callOf image kind a) m r e
-      unfolding callOf
-      peer-called r k s = rw (ne-eqb kind 0 h, ne-eqb kind 1 j, ne-eqb kind 5 k, ← p) (rw (rest-at 4 a) at s)
+      module _ (i : kind ≡ 6 → ⊥) (n : ℕ) (p : n ≡ wordAt Little a 0) where
+        pub leave-called : (r : Report) → kind ≡ 5 → (g : Gone) → Did (disconnectOn m n) g e → Shows (goneWords g) r → Reported (callOf image kind a) m r e
+        unfolding callOf
+        leave-called r k g d s =
+            rw (ne-eqb kind 0 h, ne-eqb kind 1 j, ne-eqb kind 6 i, eq-eqb kind 5 k) (record { answer = gone g; ran = ran-leave (rw p at d); shows = s })
 
-pub ruleset calling = (at-least, start-called, connect-called, leave-called, peer-called, needs)
+        pub peer-called : (r : Report) → (kind ≡ 5 → ⊥) → Reported (peerCall image kind n (take (length a - 4) (drop 4 a))) m r e
+            → Reported (callOf image kind a) m r e
+        unfolding callOf
+        peer-called r k s = rw (ne-eqb kind 0 h, ne-eqb kind 1 j, ne-eqb kind 6 i, ne-eqb kind 5 k, ← p) (rw (rest-at 4 a) at s)
+
+pub ruleset calling = (at-least, four-words, start-called, connect-called, tick-called, leave-called, peer-called, needs)
 
 -- ---- the entry in front
 

@@ -30,23 +30,32 @@ module _ (kind n : ℕ) where
     sized-connect e = rw (ne-eqb kind 0 h, eq-eqb kind 1 e)
 
     module _ (k : kind ≡ 1 → ⊥) where
-      pub sized-leave : kind ≡ 5 → eqb n 4 ≡ wellSized kind n
+      pub sized-tick : kind ≡ 6 → eqb n 16 ≡ wellSized kind n
       unfolding wellSized
-      sized-leave e = rw (ne-eqb kind 0 h, ne-eqb kind 1 k, eq-eqb kind 5 e)
+      sized-tick e = rw (ne-eqb kind 0 h, ne-eqb kind 1 k, eq-eqb kind 6 e)
 
-      pub sized-peer : (kind ≡ 5 → ⊥) → ltb kind 5 && leb 4 n ≡ wellSized kind n
-      unfolding wellSized
-      sized-peer e = rw (ne-eqb kind 0 h, ne-eqb kind 1 k, ne-eqb kind 5 e)
+      pub four-words : kind ≡ 6 → wellSized kind n ≡ true → n ≡ 16
+      four-words e w = eqb-true n 16 (sized-tick e ∙ w)
+
+      module _ (i : kind ≡ 6 → ⊥) where
+        pub sized-leave : kind ≡ 5 → eqb n 4 ≡ wellSized kind n
+        unfolding wellSized
+        sized-leave e = rw (ne-eqb kind 0 h, ne-eqb kind 1 k, ne-eqb kind 6 i, eq-eqb kind 5 e)
+
+        pub sized-peer : (kind ≡ 5 → ⊥) → ltb kind 5 && leb 4 n ≡ wellSized kind n
+        unfolding wellSized
+        sized-peer e = rw (ne-eqb kind 0 h, ne-eqb kind 1 k, ne-eqb kind 6 i, ne-eqb kind 5 e)
 
     -- all but a start begin with a word
     pub at-least : wellSized kind n ≡ true → 4 ≤ n
     unfolding wellSized
     at-least w =
         choice (λ (b : Bool). b ≡ true → 4 ≤ n) (eqb kind 1) _ _ (λ p e. leb-true 4 n (both-first (leb 4 n) (eqb (n % 4) 0) e))
-        (λ p. choice (λ (b : Bool). b ≡ true → 4 ≤ n) (eqb kind 5) _ _ (λ q e. omega (arith, eqb-true n 4 e))
-        (λ q e. leb-true 4 n (both-second (ltb kind 5) (leb 4 n) e))) (rw (ne-eqb kind 0 h) at w)
+        (λ p. choice (λ (b : Bool). b ≡ true → 4 ≤ n) (eqb kind 6) _ _ (λ q e. omega (arith, eqb-true n 16 e))
+        (λ q. choice (λ (b : Bool). b ≡ true → 4 ≤ n) (eqb kind 5) _ _ (λ o e. omega (arith, eqb-true n 4 e))
+        (λ o e. leb-true 4 n (both-second (ltb kind 5) (leb 4 n) e)))) (rw (ne-eqb kind 0 h) at w)
 
-pub ruleset kinds = (sized-start, sized-connect, sized-leave, sized-peer, needs)
+pub ruleset kinds = (sized-start, sized-connect, sized-tick, sized-leave, sized-peer, needs)
 
 -- ---- the first entry
 

@@ -15,7 +15,7 @@ use Rattle.rules.specs.Calls.{empty}
 use Rattle.memory.specs.Layout.{memoryLength}
 use Rattle.memory.specs.Encoding.{memoryOf}
 use Rattle.memory.specs.Calls.{Did, startOn}
-use Rattle.book.specs.Lists.{Call, starts, Answer, plain, connected, owned, taken, gone, modelStep, answers, after, Run, done, then}
+use Rattle.book.specs.Lists.{Call, starts, Answer, plain, connected, owned, taken, gone, ticked, modelStep, answers, after, Run, done, then}
 use Rattle.places.specs.Places.{placeLength, placesIn, filled}
 use Rattle.places.proofs.Rooms.{shown-length, taken-length, filled-none, filled-length, filled-next}
 use Rattle.book.proofs.List.{empty-claim}
@@ -40,6 +40,7 @@ answer-length (connected r) = omega (arith, shown-length (r .rule))
 answer-length (owned r) = omega (arith, shown-length (r .rule))
 answer-length (taken r) = taken-length r
 answer-length (gone r) = refl
+answer-length (ticked r) = refl
 
 -- ---- the entries behind `rest` are to come; those before it have run
 

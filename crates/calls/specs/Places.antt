@@ -8,12 +8,12 @@ use lib.Dec.{eqb, ltb}
 use lib.ListN.{length}
 use Rattle.rules.specs.Calls.{empty}
 use Rattle.rules.specs.View.{seen}
-use Rattle.rules.specs.Places.{plainWords, connectedWords, ownedWords, takenWords, goneWords}
+use Rattle.rules.specs.Places.{plainWords, connectedWords, ownedWords, takenWords, goneWords, tickedWords}
 use Rattle.memory.specs.Layout.{memoryLength}
 use Rattle.memory.specs.Encoding.{memoryOf}
 use Rattle.places.specs.Places.{placesIn, filled}
 use Rattle.book.specs.Book.{tailView}
-use Rattle.book.specs.Lists.{Call, Answer, plain, connected, owned, taken, gone, answers, after}
+use Rattle.book.specs.Lists.{Call, Answer, plain, connected, owned, taken, gone, ticked, answers, after}
 use Rattle.calls.specs.Script.{decode}
 
 -- the seven words of an answer (rule 8.11)
@@ -23,6 +23,7 @@ wordsOf (connected r) = connectedWords r
 wordsOf (owned r) = ownedWords r
 wordsOf (taken r) = takenWords r
 wordsOf (gone r) = goneWords r
+wordsOf (ticked r) = tickedWords r
 
 -- an answer, memory and the room for answers
 pub record RunEnd : Type 0 where

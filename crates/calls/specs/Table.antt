@@ -4,12 +4,12 @@ use mathlib.Core.Option.{Option, none, some}
 use Prim.Native.Nat.{ℕ}
 use lib.ListN.{length, take}
 use Rattle.wire.specs.Bytes.{byte}
-use Rattle.wire.specs.Words.{wordBytes}
+use Rattle.wire.specs.Words.{wordBytes, longBytes}
 use Rattle.image.specs.declared.Section.the-variants as of
 use Rattle.policy.specs.declared.Decider.the-variants.{Nobody, Rule}
 use Rattle.rules.specs.declared.Receiver.the-variants as to
 use Rattle.rules.specs.declared.Shown.the-variants.{Nothing, By}
-use Rattle.book.specs.Lists.{Call, starts, connects, claims, releases, offers, leaves, Answer, plain, connected, owned, taken, gone}
+use Rattle.book.specs.Lists.{Call, starts, connects, claims, releases, offers, leaves, ticks, Answer, plain, connected, owned, taken, gone, ticked}
 use Rattle.calls.specs.Script.{decode}
 use Rattle.calls.specs.Places.{wordsOf}
 
@@ -25,6 +25,7 @@ numbers (claims image n name) l = 2 ∷ n ∷ (name ++ l)
 numbers (releases n name) l = 3 ∷ n ∷ (name ++ l)
 numbers (offers image n bytes) l = 4 ∷ n ∷ (bytes ++ l)
 numbers (leaves n) l = 5 ∷ n ∷ l
+numbers (ticks now limit) l = 6 ∷ now ∷ limit ∷ l
 
 abbrev pub callNumbers : List Call → List ℕ
 callNumbers [] = []
@@ -63,7 +64,9 @@ scriptTable =
     ∷ (script (entryOf 4 (wordBytes 9)), 0 ∷ 4 ∷ 9 ∷ [])
     ∷ (script (entryOf 4 (9 ∷ 0 ∷ 0 ∷ [])), 67 ∷ [])  -- a peer's number is a whole word
     ∷ (script (entryOf 5 (wordBytes 9 ++ (0 ∷ []))), 67 ∷ [])  -- a disconnect has nothing behind it
-    ∷ (script (entryOf 6 (wordBytes 9)), 67 ∷ [])
+    ∷ (script (entryOf 6 (longBytes 9 ++ longBytes 18446744073709551615)), 0 ∷ 6 ∷ 9 ∷ 18446744073709551615 ∷ [])
+    ∷ (script (entryOf 6 (longBytes 9)), 67 ∷ [])  -- a tick has its limit
+    ∷ (script (entryOf 7 (wordBytes 9)), 67 ∷ [])
     ∷ (script (take 11 (entryOf 5 (wordBytes 9))), 67 ∷ [])  -- an argument is whole
     ∷ (report (plain 35), 35 ∷ 0 ∷ 0 ∷ 0 ∷ 0 ∷ 0 ∷ 0 ∷ [])
     ∷ (report (connected (record { answer = 0; number = 3; slot = 2; rule = By (Rule of.Connect 4) })), 0 ∷ 0 ∷ 0 ∷ 3 ∷ 2 ∷ 1 ∷ 4 ∷ [])
@@ -75,4 +78,5 @@ scriptTable =
       23 ∷ 64 ∷ 0 ∷ 0 ∷ 0 ∷ 1 ∷ 9 ∷ [],
     )
     ∷ (report (gone (record { answer = 0; bytes = 10 })), 0 ∷ 0 ∷ 0 ∷ 10 ∷ 0 ∷ 0 ∷ 0 ∷ [])
+    ∷ (report (ticked (record { answer = 0; ended = 3 })), 0 ∷ 0 ∷ 0 ∷ 3 ∷ 0 ∷ 0 ∷ 0 ∷ [])
     ∷ []

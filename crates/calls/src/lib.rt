@@ -7,10 +7,10 @@ ghost use mathlib.Core.Path.{_≡_};
 ghost use mathlib.Core.Bool.{true};
 ghost use Prim.Native.Nat.{_≤_};
 ghost use lib.ListN.{length, take};
-ghost use Rattle.wire.specs.Words.{wordAt};
+ghost use Rattle.wire.specs.Words.{wordAt, longAt};
 ghost use Rattle.wire.specs.declared.Order.the-variants.{Little};
 ghost use Rattle.memory.specs.Calls.{connectOn, Did};
-ghost use Rattle.book.specs.Lists.{connects};
+ghost use Rattle.book.specs.Lists.{connects, ticks};
 ghost use Rattle.places.specs.Places.{placeLength};
 ghost use Rattle.calls.specs.Script.{wellSized, gidsOf, peerCall, callOf};
 ghost use Rattle.calls.specs.Places.{outcome, EndsAs};
@@ -79,6 +79,16 @@ fn peer_call(image: &[u8], memory: &mut [u8], kind: u32, peer: u32, rest: &[u8])
     places::taken(guard::piece(image, memory, peer, rest))
 }
 
+fn tick(memory: &mut [u8], argument: &[u8]) -> Report
+    requires { ⌜ length (now argument) ≡ 16 ⌝ }
+    ensures { λ r.
+        ⌜ Reported (ticks (longAt (now (argument .entry)) 0) (longAt (now (argument .entry)) 8)) (now (memory .entry)) r (now (memory .exit)) ⌝ }
+{
+    let present = wire::u64_at(argument, 0);
+    let limit = wire::u64_at(argument, 8);
+    places::ticked(guard::tick(memory, present, limit))
+}
+
 fn call(image: &[u8], memory: &mut [u8], kind: u32, argument: &[u8]) -> Report
     requires { ⌜ wellSized kind (length (now argument)) ≡ true ⌝ }
     ensures { λ r. ⌜ Reported (callOf (now (image .entry)) kind (now (argument .entry))) (now (memory .entry)) r (now (memory .exit)) ⌝ }
@@ -88,6 +98,9 @@ fn call(image: &[u8], memory: &mut [u8], kind: u32, argument: &[u8]) -> Report
     }
     if kind == 1 {
         return connect(image, memory, argument);
+    }
+    if kind == 6 {
+        return tick(memory, argument);
     }
     let peer = wire::u32_at(Order::Little, argument, 0);
     if kind == 5 {
@@ -106,6 +119,9 @@ fn is_sized(kind: u32, n: u32) -> bool
     }
     if kind == 1 {
         return (4 <= n) & (n % 4 == 0);
+    }
+    if kind == 6 {
+        return n == 16;
     }
     if kind == 5 {
         return n == 4;

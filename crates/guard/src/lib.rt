@@ -1,4 +1,4 @@
-// The guard: seven calls on lent memory. No call asks anything of its caller: images, memory, names, pieces and rooms may be any bytes.
+// The guard: eight calls on lent memory. No call asks anything of its caller: images, memory, names, pieces and rooms may be any bytes.
 use image::Outcome;
 use memory::MEMORY_LENGTH;
 use places::PLACE_LENGTH;
@@ -7,13 +7,15 @@ use rules::Connected;
 use rules::Gone;
 use rules::Owned;
 use rules::Taken;
+use rules::Ticked;
 use rules::no_connect;
 use rules::no_gone;
 use rules::no_own;
 use rules::no_piece;
+use rules::no_tick;
 ghost use mathlib.Core.Path.{_≡_};
 ghost use Rattle.image.specs.Good.{imageAnswer};
-ghost use Rattle.memory.specs.Calls.{startOn, connectOn, ownOn, releaseOn, pieceOn, batchOn, disconnectOn, Did};
+ghost use Rattle.memory.specs.Calls.{startOn, connectOn, ownOn, releaseOn, pieceOn, batchOn, disconnectOn, tickOn, Did};
 ghost use Rattle.places.specs.Places.{placesIn, Batched};
 
 // What a call that takes this image answers before all else (rules 5.9 and 8.1); 0 where it goes on.
@@ -119,4 +121,14 @@ pub fn disconnect(memory: &mut [u8], peer: u32) -> Gone
         return no_gone(51);
     }
     peers::disconnect(memory, peer)
+}
+
+// Sets the tick, and ends every pending call that is at least `limit` ticks old (rule 8.12).
+pub fn tick(memory: &mut [u8], tick: u64, limit: u64) -> Ticked
+    ensures { λ r. ⌜ Did (tickOn (now (memory .entry)) tick limit) r (now (memory .exit)) ⌝ }
+{
+    if !audit::is_good(memory) {
+        return no_tick(51);
+    }
+    endings::tick(memory, tick, limit)
 }

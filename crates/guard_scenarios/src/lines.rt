@@ -1,4 +1,5 @@
 // The guard's calls, each with the line that it comes to.
+use crate::ALLOW;
 use crate::messages;
 use memory::MEMORY_LENGTH;
 use rules::Receiver;
@@ -106,6 +107,16 @@ pub fn disconnect(memory: &mut [u8; MEMORY_LENGTH], peer: u32) {
     end(&before, memory);
 }
 
+pub fn tick(memory: &mut [u8; MEMORY_LENGTH], tick: u64, limit: u64) {
+    let before = *memory;
+    number(b"tick ", tick);
+    number(b" limit ", limit);
+    let t = guard::tick(memory, tick, limit);
+    number(b": ", t.answer as u64);
+    number(b" ended ", t.ended as u64);
+    end(&before, memory);
+}
+
 pub fn piece(
     image: &[u8],
     memory: &mut [u8; MEMORY_LENGTH],
@@ -118,6 +129,19 @@ pub fn piece(
     io::write_all(1, b" ");
     io::write_all(1, label);
     taken(guard::piece(image, memory, peer, bytes));
+    end(&before, memory);
+}
+
+// A piece offered message after message, with room for four places of 28 bytes.
+pub fn batch(memory: &mut [u8; MEMORY_LENGTH], label: &[u8], peer: u32, bytes: &[u8]) {
+    let before = *memory;
+    let mut room = [0u8; 112];
+    number(b"batch ", peer as u64);
+    io::write_all(1, b" ");
+    io::write_all(1, label);
+    let b = guard::batch(&ALLOW, memory, peer, bytes, &mut room);
+    number(b": places ", b.written as u64);
+    number(b", taken ", b.taken as u64);
     end(&before, memory);
 }
 

@@ -2,6 +2,7 @@
 mod cuts;
 mod lines;
 mod messages;
+mod ticks;
 
 use memory::MEMORY_LENGTH;
 use rules::Taken;
@@ -268,6 +269,7 @@ fn main() {
     zeros(&mut memory);
     closed(&mut memory);
     denied(&mut memory);
+    ticks::ticks(&mut memory);
     longest(&mut memory);
     cuts::cuts(&mut memory);
 }

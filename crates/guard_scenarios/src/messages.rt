@@ -80,6 +80,28 @@ pub fn call_to(big: bool, flags: u8, serial: u32, to: &[u8]) -> [u8; 67]
     s
 }
 
+// The bytes from `at` on, where there is room.
+fn copy_in(s: &mut [u8], at: usize, t: &[u8]) {
+    if at <= s.len() {
+        if t.len() <= s.len() - at {
+            let end = at + t.len();
+            wire::copy(&mut s[at..end], t);
+        }
+    }
+}
+
+// Two calls, one behind the other, with the serials 1 and 2.
+pub fn two_calls(to: &[u8]) -> [u8; 134]
+    ensures { λ r. ⌜ 134 ≡ length r ⌝ }
+{
+    let mut s = [0u8; 134];
+    let first = call_to(false, 0, 1, to);
+    let second = call_to(false, 0, 2, to);
+    copy_in(&mut s, 0, &first);
+    copy_in(&mut s, 67, &second);
+    s
+}
+
 pub fn call_to_bus(big: bool, serial: u32) -> [u8; 51]
     ensures { λ r. ⌜ 51 ≡ length r ⌝ }
 {

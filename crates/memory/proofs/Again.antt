@@ -1,17 +1,21 @@
 -- What the tables of a good slot hold is read back from their bytes.
 use mathlib.Core.Bool.{Bool, true, not, _&&_}
-use mathlib.Core.List.{List, [], _∷_, map}
-use mathlib.Core.Path.{_≡_, refl, ap₂}
+use mathlib.Core.List.{List, [], _∷_, _++_, map, append-nil}
+use mathlib.Core.Path.{_≡_, refl, sym, ap, ap₂, _∙_}
 use Prim.Native.Nat.{ℕ, _≤_, _<_}
 use native.Mathlib.Omega.{arith}
 use lib.Dec.{leb}
-use lib.ListN.{length}
-use lib.Seq.{take-at}
+use lib.ListN.{length, drop}
+use lib.Seq.{take-at, drop-at, drop-drop}
 use borrow.Author.Tests.{ltb-true, leb-true}
 use Rattle.wire.specs.Lists.{every, any}
 use Rattle.wire.specs.Bytes.{same}
-use Rattle.wire.specs.Words.{wordAt, wordBytes}
-use Rattle.wire.proofs.Texts.{both-first, both-second}
+use Rattle.wire.specs.Words.{wordAt, longAt, wordBytes, longBytes}
+use Rattle.wire.specs.declared.Order.the-variants.{Little}
+use Rattle.wire.proofs.Words.{word-length, word-again}
+use Rattle.wire.proofs.Longs.{long-front, long-again}
+use Rattle.tables.proofs.Words.{word-front}
+use Rattle.wire.proofs.Texts.{both, both-first, both-second}
 use Rattle.wire.proofs.Parts.{pad-fits}
 use Rattle.names.specs.Names.{wellKnown, nameLimit}
 use Rattle.policy.specs.Names.{cellOf, nameOf, busName}
@@ -22,7 +26,8 @@ use Rattle.rules.specs.Pending.{sameCall}
 use Rattle.rules.specs.Calls.{isOwner}
 use Rattle.memory.specs.Encoding.{pendingBytes, pendingOf, wordOf}
 use Rattle.memory.specs.Good.{nobody, goodNames, goodPending, goodSlots}
-use Rattle.memory.specs.Sound.{word32}
+use Rattle.memory.specs.Layout.{serialOffset, tickOffset}
+use Rattle.memory.specs.Sound.{word32, word64}
 use Rattle.memory.proofs.Octets.{every-both, distinct-every}
 use Rattle.memory.proofs.Peers.{connected-within}
 
@@ -32,12 +37,20 @@ pub word-back : (n : ℕ) → n < 4294967296 → wordOf (wordBytes n) ≡ n
 unfolding wordAt wordBytes
 word-back n h = omega arith
 
-pub pending-back : (w : Pending) → w .callee < 4294967296 → w .serial < 4294967296 → pendingOf (pendingBytes w) ≡ w
-unfolding wordAt wordBytes
-pending-back w h k =
-    let a : wordOf (wordBytes (w .callee)) ≡ w .callee = word-back (w .callee) h in
-    let b : wordOf (wordBytes (w .serial)) ≡ w .serial = word-back (w .serial) k in
-    λ j. record { callee = a j; serial = b j }
+pub pending-back : (w : Pending) → w .callee < 4294967296 → w .serial < 4294967296 → w .tick < 18446744073709551616 → pendingOf (pendingBytes w) ≡ w
+pending-back w h k l =
+    let c = wordBytes (w .callee) in
+    let s = wordBytes (w .serial) in
+    let t = longBytes (w .tick) in
+    let e : drop serialOffset (c ++ (s ++ t)) ≡ s ++ t = drop-at c (s ++ t) serialOffset (word-length (w .callee)) in
+    let f : drop tickOffset (c ++ (s ++ t)) ≡ t
+    = sym (drop-drop 4 serialOffset (c ++ (s ++ t))) ∙ ap (drop 4) e ∙ drop-at s t 4 (word-length (w .serial)) in
+    let x : wordAt Little (c ++ (s ++ t)) 0 ≡ w .callee = word-again (w .callee) (s ++ t) h in
+    let y : wordAt Little (c ++ (s ++ t)) serialOffset ≡ w .serial
+    = sym (word-front (c ++ (s ++ t)) serialOffset) ∙ ap (λ (z : List ℕ). wordAt Little z 0) e ∙ word-again (w .serial) t k in
+    let z : longAt (c ++ (s ++ t)) tickOffset ≡ w .tick
+    = sym (long-front (c ++ (s ++ t)) tickOffset) ∙ ap (λ (z : List ℕ). longAt z 0) (f ∙ sym (append-nil t)) ∙ long-again (w .tick) [] l in
+    λ j. record { callee = x j; serial = y j; tick = z j }
 
 pub name-back : (name : List ℕ) → length name ≤ nameLimit → nameOf (cellOf name) ≡ name
 unfolding cellOf
@@ -65,14 +78,16 @@ names-back xs later e =
     maps-back t cellOf nameOf (λ x h. name-back x (ownable-short x (both-first (ownable x) (nobody (isOwner x) later) h))) xs
     (distinct-every t (λ x y. same y x) xs e)
 
-pub pendings-back : (all : List (Slot Tail)) (last : ℕ) (ws : List Pending) → goodSlots all last all ≡ true → last < 4294967296
-    → goodPending all ws ≡ true → every (λ w. word32 (w .serial)) ws ≡ true → map pendingOf (map pendingBytes ws) ≡ ws
+pub pendings-back : (all : List (Slot Tail)) (last tick : ℕ) (ws : List Pending) → goodSlots all last tick all ≡ true → last < 4294967296
+    → goodPending all tick ws ≡ true → every (λ w. word32 (w .serial) && word64 (w .tick)) ws ≡ true → map pendingOf (map pendingBytes ws) ≡ ws
 unfolding goodPending
-pendings-back all last ws g l e n =
-    let t : Pending → Bool = λ w. any (isPeer (w .callee)) all && leb 1 (w .serial) in
-    let u : Pending → Bool = λ w. word32 (w .serial) in
+pendings-back all last tick ws g l e n =
+    let t : Pending → Bool = λ w. any (isPeer (w .callee)) all && leb 1 (w .serial) && leb (w .tick) tick in
+    let u : Pending → Bool = λ w. word32 (w .serial) && word64 (w .tick) in
     maps-back (λ w. t w && u w) pendingBytes pendingOf
-    (λ w h. let k : w .callee ≤ last = connected-within all last (w .callee) all g
-    (both-first (any (isPeer (w .callee)) all) (leb 1 (w .serial)) (both-first (t w) (u w) h)) in
-    pending-back w (omega arith) (ltb-true (w .serial) 4294967296 (both-second (t w) (u w) h)))
+    (λ w h. let c : any (isPeer (w .callee)) all ≡ true = search both in
+    let k : w .callee ≤ last = connected-within all last tick (w .callee) all g c in
+    let x : word32 (w .serial) ≡ true = search both in
+    let y : word64 (w .tick) ≡ true = search both in
+    pending-back w (omega arith) (ltb-true (w .serial) 4294967296 x) (ltb-true (w .tick) 18446744073709551616 y))
     ws (every-both t u ws (distinct-every t sameCall ws e) n)

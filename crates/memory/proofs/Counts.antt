@@ -11,7 +11,7 @@ use lib.Seq.{drop-at, drop-drop, length-take-le}
 use borrow.Author.Tests.{eqb-true, eqb-false}
 use Rattle.wire.specs.Bytes.{allZero}
 use Rattle.wire.specs.Lists.{any, every}
-use Rattle.wire.specs.Words.{wordAt, wordBytes}
+use Rattle.wire.specs.Words.{wordAt, longAt, wordBytes}
 use Rattle.wire.specs.declared.Order.the-variants.{Little}
 use Rattle.wire.proofs.Texts.{both}
 use Rattle.wire.proofs.Parts.{drop-past, drop-taken}
@@ -24,7 +24,7 @@ use Rattle.stream.specs.Tail.{Tail}
 use Rattle.rules.specs.State.{Pending, Slot, free, peer, isPeer}
 use Rattle.rules.specs.Pending.{sameCall}
 use Rattle.wire.proofs.Tests.{clash, refute, by-test}
-use Rattle.memory.specs.Layout.{memoryLength, slotLength, slotStart, pendingAt, pendingLength, firstCallee, callWidth, callRoom, serialOffset}
+use Rattle.memory.specs.Layout.{memoryLength, slotLength, slotStart, pendingAt, pendingLength, firstCallee, callWidth, callRoom, serialOffset, tickOffset}
 use Rattle.memory.specs.Encoding.{pendingBytes, pendingOf, slotBytes, peerOf, slotOf, stateOf}
 use Rattle.memory.specs.Good.{goodPending, goodPeer, goodSlot, goodSlots, good}
 use Rattle.memory.specs.Places.{countAt, recordsAt, countPut}
@@ -43,9 +43,10 @@ use Rattle.memory.proofs.Held.{held-part}
 abbrev Counts : List ℕ → Type 0
 Counts b = wordAt Little b pendingAt ≡ used (parts callWidth callRoom (drop firstCallee b))
 
-module _ (all : List (Slot Tail)) (last : ℕ) where
+module _ (all : List (Slot Tail)) (last tick : ℕ) where
   -- a pending call has a serial, so that its bytes are not all zero
-  call-some : (b : List ℕ) → any (isPeer (wordAt Little b 0)) all && leb 1 (wordAt Little b serialOffset) ≡ true → allZero b ≡ false
+  call-some : (b : List ℕ) → any (isPeer (wordAt Little b 0)) all && leb 1 (wordAt Little b serialOffset) && leb (longAt b tickOffset) tick ≡ true
+      → allZero b ≡ false
   call-some b e =
       refute (allZero b) (λ z. let f : leb 1 (wordAt Little b serialOffset) ≡ true = search both in clash (rw (zeros-word b serialOffset z) at f) refl)
 
@@ -54,26 +55,26 @@ module _ (all : List (Slot Tail)) (last : ℕ) where
   free-counted b q =
       ap (λ (z : List ℕ). wordAt Little z pendingAt) q ∙ ap (λ (z : List ℕ). used (parts callWidth callRoom (drop firstCallee z))) (sym q)
 
-  peer-counted : (b : List ℕ) (later : List (Slot Tail)) → b ≡ slotBytes (peer (peerOf b)) → goodPeer all last (peerOf b) later ≡ true → Counts b
+  peer-counted : (b : List ℕ) (later : List (Slot Tail)) → b ≡ slotBytes (peer (peerOf b)) → goodPeer all last tick (peerOf b) later ≡ true → Counts b
   unfolding peerOf goodPending
   peer-counted b later q g =
       let p = peerOf b in
-      let t : Pending → Bool = λ w. any (isPeer (w .callee)) all && leb 1 (w .serial) in
+      let t : Pending → Bool = λ w. any (isPeer (w .callee)) all && leb 1 (w .serial) && leb (w .tick) tick in
       let d = drop pendingAt b in
       let s : take pendingLength d ≡ tableBytes callWidth callRoom pendingBytes (p .pending)
       = ap (λ (z : List ℕ). take pendingLength (drop pendingAt z)) q ∙ table-part (pending-in p) in
-      let e : every t (p .pending) ≡ true = distinct-every t sameCall (p .pending) (peer-good all last p later g .pending) in
+      let e : every t (p .pending) ≡ true = distinct-every t sameCall (p .pending) (peer-good all last tick p later g .pending) in
       sym (word-front b pendingAt)
       ∙ table-used callWidth pendingOf t call-some callRoom pendingBytes pending-length d (omega arith) s e
       ∙ ap (λ (z : List ℕ). used (parts callWidth callRoom z)) (drop-drop 4 pendingAt b)
 
-  slot-counted : (b : List ℕ) (later : List (Slot Tail)) → b ≡ slotBytes (slotOf b) → goodSlot all last (slotOf b) later ≡ true → Counts b
+  slot-counted : (b : List ℕ) (later : List (Slot Tail)) → b ≡ slotBytes (slotOf b) → goodSlot all last tick (slotOf b) later ≡ true → Counts b
   slot-counted b later q g =
       by-test (eqb (wordAt Little b 0) 0)
       (λ t. free-counted b (q ∙ ap slotBytes (part-free b (eqb-true (wordAt Little b 0) 0 t))))
       (λ f. let e = part-peer b (eqb-false (wordAt Little b 0) 0 f) in peer-counted b later (q ∙ ap slotBytes e) (rw e at g))
 
-  slots-at : (l : List (Slot Tail)) (i : ℕ) → goodSlots all last l ≡ true → goodSlot all last (getD l i free) (drop (suc i) l) ≡ true
+  pub slots-at : (l : List (Slot Tail)) (i : ℕ) → goodSlots all last tick l ≡ true → goodSlot all last tick (getD l i free) (drop (suc i) l) ≡ true
   unfolding goodSlots
   slots-at [] i e = refl
   slots-at (x ∷ l) zero e = search both
@@ -88,9 +89,9 @@ count-is m g i h =
     let all = stateOf m .slots in
     let b = take slotLength (drop a m) in
     let s : getD all i free ≡ slotOf b = slot-at m i h in
-    let k = slots-at all (stateOf m .last) all i (good-slots m g) in
+    let k = slots-at all (stateOf m .last) (stateOf m .tick) all i (good-slots m g) in
     sym (word-part m a slotLength pendingAt (omega arith))
-    ∙ slot-counted all (stateOf m .last) b (drop (suc i) all) (held-part m i (held-of m g) h ∙ ap slotBytes s) (rw s at k)
+    ∙ slot-counted all (stateOf m .last) (stateOf m .tick) b (drop (suc i) all) (held-part m i (held-of m g) h ∙ ap slotBytes s) (rw s at k)
     ∙ rw (drop-taken firstCallee slotLength (drop a m), drop-drop firstCallee a m)
     (ap used (parts-take callWidth callRoom (slotLength - firstCallee) (drop (a + firstCallee) m) (omega arith)))
 

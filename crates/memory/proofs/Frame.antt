@@ -4,10 +4,11 @@ use mathlib.Core.Path.{_≡_, refl, ap₂, _∙_}
 use Prim.Native.Nat.{ℕ, _+_, _*_, _<_}
 use native.Mathlib.Omega.{arith}
 use lib.ListN.{length, getD, take, drop, replicate, length-append, length-replicate, replicate-append-replicate}
-use lib.Seq.{drop-at, drop-drop}
+use lib.Seq.{take-at, drop-at, drop-drop}
 use Rattle.wire.specs.Bytes.{pad}
-use Rattle.wire.specs.Words.{wordBytes}
+use Rattle.wire.specs.Words.{wordBytes, longBytes}
 use Rattle.wire.proofs.Words.{word-length}
+use Rattle.wire.proofs.Longs.{long-length}
 use Rattle.wire.proofs.Texts.{pad-length}
 use Rattle.tables.specs.Tables.{cells}
 use Rattle.wire.proofs.Parts.{take-past, drop-past}
@@ -17,14 +18,13 @@ use Rattle.policy.specs.Names.{nameLimit, cellOf, nameWidth}
 use Rattle.stream.specs.Tail.{Tail}
 use Rattle.rules.specs.State.{Pending, Peer, Slot, free, peer, State, putSlot}
 use Rattle.rules.specs.Calls.{empty}
-use Rattle.memory.specs.Layout.{memoryLength, slotsAt, slotLength, slotStart, callWidth, headRoom, keptLength, restLength}
-use Rattle.memory.specs.Encoding.{pendingBytes, headBytes, restBytes, peerBytes, slotBytes, memoryOf}
+use Rattle.memory.specs.Layout.{memoryLength, tickAt, slotsAt, slotLength, slotStart, callWidth, headRoom, keptLength, restLength}
+use Rattle.memory.specs.Encoding.{pendingBytes, headBytes, restBytes, peerBytes, slotBytes, clockBytes, memoryOf}
 
 -- ---- widths
 
 pub pending-length : (w : Pending) → length (pendingBytes w) ≡ callWidth
-pending-length w =
-    length-append (wordBytes (w .callee)) (wordBytes (w .serial)) ∙ omega (arith, word-length (w .callee), word-length (w .serial))
+pending-length w = simp (length-append, word-length, long-length)
 
 pub cell-length : (name : List ℕ) → length (cellOf name) ≡ nameWidth
 unfolding cellOf
@@ -47,37 +47,55 @@ unfolding slotBytes
 slot-length free = length-replicate {A = ℕ} slotLength 0
 slot-length (peer p) = peer-length p
 
+pub clock-length : (s : State Tail) → length (clockBytes s) ≡ slotsAt
+unfolding clockBytes
+clock-length s = simp (length-append, word-length, long-length)
+
 pub memory-length : (s : State Tail) → length (s .slots) ≡ 16 → length (memoryOf s) ≡ memoryLength
 unfolding memoryOf
 memory-length s e =
-    length-append (wordBytes (s .last)) (cells slotBytes (s .slots))
-    ∙ omega (arith, cells-length slotLength slotBytes slot-length (s .slots), word-length (s .last))
+    length-append (clockBytes s) (cells slotBytes (s .slots))
+    ∙ omega (arith, cells-length slotLength slotBytes slot-length (s .slots), clock-length s)
 
 -- ---- frames
 
--- the slots begin after the last number
+-- the slots begin after the last number and the last tick
 pub memory-slots : (s : State Tail) → drop slotsAt (memoryOf s) ≡ cells slotBytes (s .slots)
 unfolding memoryOf
-memory-slots s = drop-at (wordBytes (s .last)) (cells slotBytes (s .slots)) slotsAt (word-length (s .last))
+memory-slots s = drop-at (clockBytes s) (cells slotBytes (s .slots)) slotsAt (clock-length s)
 
 -- slot i put by its bytes
 pub put-memory : (s : State Tail) (i : ℕ) (x : Slot Tail) → i < length (s .slots)
     → memoryOf (putSlot s i x) ≡ take (slotStart i) (memoryOf s) ++ (slotBytes x ++ drop (slotStart i + slotLength) (memoryOf s))
-unfolding memoryOf
+unfolding memoryOf clockBytes
 put-memory s i x h =
     let e : slotStart i + slotLength ≡ slotsAt + (slotLength * i + slotLength) = omega arith in
     rw (
       e,
-      take-past (wordBytes (s .last)) (cells slotBytes (s .slots)) slotsAt (slotLength * i) (word-length (s .last)),
-      drop-past (wordBytes (s .last)) (cells slotBytes (s .slots)) slotsAt (slotLength * i + slotLength) (word-length (s .last)),
+      take-past (clockBytes s) (cells slotBytes (s .slots)) slotsAt (slotLength * i) (clock-length s),
+      drop-past (clockBytes s) (cells slotBytes (s .slots)) slotsAt (slotLength * i + slotLength) (clock-length s),
       cells-put slotLength slotBytes slot-length (s .slots) i x h,
-      append-assoc (wordBytes (s .last)),
+      append-assoc (clockBytes s),
     )
 
 -- the last number put by its bytes
-pub put-last : (s : State Tail) (n : ℕ) → memoryOf (record { last = n; slots = s .slots }) ≡ wordBytes n ++ drop slotsAt (memoryOf s)
-unfolding memoryOf
-put-last s n = rw (drop-at (wordBytes (s .last)) (cells slotBytes (s .slots)) slotsAt (word-length (s .last)))
+pub put-last : (s : State Tail) (n : ℕ) → memoryOf (record { last = n; tick = s .tick; slots = s .slots }) ≡ wordBytes n ++ drop tickAt (memoryOf s)
+unfolding memoryOf clockBytes
+put-last s n =
+    rw (
+      append-assoc (wordBytes (s .last)),
+      append-assoc (wordBytes n),
+      drop-at (wordBytes (s .last)) (longBytes (s .tick) ++ cells slotBytes (s .slots)) tickAt (word-length (s .last)),
+    )
+
+-- the last tick put by its bytes
+pub put-tick : (s : State Tail) (k : ℕ)
+    → memoryOf (record { last = s .last; tick = k; slots = s .slots }) ≡ take tickAt (memoryOf s) ++ (longBytes k ++ drop slotsAt (memoryOf s))
+unfolding memoryOf clockBytes
+put-tick s k =
+    let w = wordBytes (s .last) in
+    let c = cells slotBytes (s .slots) in
+    rw (memory-slots s, append-assoc w (longBytes (s .tick)) c, append-assoc w (longBytes k) c, take-at w (longBytes (s .tick) ++ c) tickAt (word-length (s .last)))
 
 -- slot i stands at its place
 pub memory-at : (s : State Tail) (i : ℕ) → i < length (s .slots)
@@ -95,6 +113,14 @@ pub free-bytes : slotBytes free ≡ replicate slotLength 0
 unfolding slotBytes
 free-bytes = refl
 
+long-zero : longBytes 0 ≡ replicate 8 0
+unfolding longBytes wordBytes
+long-zero = refl
+
+clock-zero : clockBytes empty ≡ replicate slotsAt 0
+unfolding clockBytes
+clock-zero = ap₂ _++_ word-zero long-zero ∙ replicate-append-replicate {A = ℕ} tickAt 8 0
+
 pub empty-bytes : memoryOf empty ≡ replicate memoryLength 0
 unfolding memoryOf
-empty-bytes = ap₂ _++_ word-zero (cells-zeros slotLength slotBytes free free-bytes 16) ∙ replicate-append-replicate {A = ℕ} slotsAt (slotLength * 16) 0
+empty-bytes = ap₂ _++_ clock-zero (cells-zeros slotLength slotBytes free free-bytes 16) ∙ replicate-append-replicate {A = ℕ} slotsAt (slotLength * 16) 0

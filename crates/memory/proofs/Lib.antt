@@ -15,6 +15,7 @@ pub mod Removal
 pub mod Heads
 pub mod Held
 pub mod Counts
+pub mod Newer
 pub mod Names
 pub mod Newcomer
 pub mod Puts

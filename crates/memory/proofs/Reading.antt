@@ -7,9 +7,10 @@ use native.Mathlib.Nat.{add-zero}
 use lib.ListN.{length, getD, take, drop, length-map, List·getD-map}
 use lib.Seq.{drop-drop, take-take}
 use borrow.Author.Tests.{ne-eqb}
-use Rattle.wire.specs.Words.{wordAt}
+use Rattle.wire.specs.Words.{wordAt, longAt}
 use Rattle.wire.specs.declared.Order.the-variants.{Little}
 use Rattle.wire.proofs.Words.{word-drop}
+use Rattle.wire.proofs.Longs.{long-part}
 use Rattle.tables.specs.Tables.{parts}
 use Rattle.wire.proofs.Parts.{drop-take}
 use Rattle.tables.proofs.Words.{word-take, word-part, word-front}
@@ -17,8 +18,8 @@ use Rattle.tables.proofs.Cells.{parts-length, parts-at}
 use Rattle.tables.proofs.Table.{table-take, table-many, table-next}
 use Rattle.policy.specs.Names.{nameOf, nameWidth}
 use Rattle.rules.specs.State.{free, peer}
-use Rattle.memory.specs.Layout.{slotLength, slotStart, gidsAt, firstGid, gidWidth, gidRoom, pendingAt, firstCallee, firstSerial, callWidth, callRoom}
-use Rattle.memory.specs.Layout.{namesAt, firstName, nameRoom, takenAt, headAt, firstByte, headRoom, slotsAt, uidAt, serialOffset}
+use Rattle.memory.specs.Layout.{slotLength, slotStart, gidsAt, firstGid, gidWidth, gidRoom, pendingAt, firstCallee, firstSerial, firstTick, callWidth, callRoom}
+use Rattle.memory.specs.Layout.{namesAt, firstName, nameRoom, takenAt, headAt, firstByte, headRoom, tickAt, slotsAt, uidAt, serialOffset, tickOffset}
 use Rattle.memory.specs.Encoding.{wordOf, pendingOf, slotTail, peerOf, slotOf, stateOf}
 use Rattle.memory.specs.Places.{peerFrom, numberAt}
 
@@ -31,6 +32,10 @@ sixteen m = length-map (parts slotLength 16 (drop slotsAt m)) slotOf ∙ parts-l
 pub last-at : (m : List ℕ) → stateOf m .last ≡ wordAt Little m 0
 unfolding stateOf
 last-at m = refl
+
+pub tick-at : (m : List ℕ) → stateOf m .tick ≡ longAt m tickAt
+unfolding stateOf
+tick-at m = refl
 
 pub slot-part : (m : List ℕ) (i : ℕ) → i < 16 → getD (parts slotLength 16 (drop slotsAt m)) i [] ≡ take slotLength (drop (slotStart i) m)
 slot-part m i h = parts-at slotLength 16 (drop slotsAt m) i h ∙ ap (take slotLength) (drop-drop (slotLength * i) slotsAt m)
@@ -117,14 +122,28 @@ gid-next m a j h =
 
 pub pending-next : (m : List ℕ) (a j : ℕ) → j < length (peerFrom m a .pending)
     → drop j (peerFrom m a .pending)
-    ≡ record { callee = wordAt Little m (a + firstCallee + callWidth * j); serial = wordAt Little m (a + firstSerial + callWidth * j) }
+    ≡ record {
+      callee = wordAt Little m (a + firstCallee + callWidth * j);
+      serial = wordAt Little m (a + firstSerial + callWidth * j);
+      tick = longAt m (a + firstTick + callWidth * j);
+    }
     ∷ drop (j + 1) (peerFrom m a .pending)
 pending-next m a j h =
     let c = a + firstCallee + callWidth * j in
     let e : a + pendingAt + (4 + callWidth * j) ≡ c = omega arith in
     let f : c + serialOffset ≡ a + firstSerial + callWidth * j = omega arith in
+    let g : c + tickOffset ≡ a + firstTick + callWidth * j = omega arith in
     table-next callWidth callRoom pendingOf (drop (a + pendingAt) m) j h
-    ∙ rw (drop-drop (4 + callWidth * j), e, word-part m c callWidth 0 (omega arith), add-zero, word-part m c callWidth serialOffset (omega arith), f)
+    ∙ rw (
+      drop-drop (4 + callWidth * j),
+      e,
+      word-part m c callWidth 0 (omega arith),
+      add-zero,
+      word-part m c callWidth serialOffset (omega arith),
+      long-part m c callWidth tickOffset (omega arith),
+      f,
+      g,
+    )
 
 pub name-next : (m : List ℕ) (a j : ℕ) → j < length (peerFrom m a .names)
     → drop j (peerFrom m a .names) ≡ nameOf (take nameWidth (drop (a + firstName + nameWidth * j) m)) ∷ drop (j + 1) (peerFrom m a .names)

@@ -1,18 +1,18 @@
--- The names and pending calls without one of them, or without all of one callee, as a loop over their places makes them.
+-- The names and pending calls without one of them, or without all that pass a test, as a loop over their places makes them.
 use mathlib.Core.Bool.{Bool, true, false, cond}
-use mathlib.Core.List.{List, [], _∷_, _++_, append-nil}
+use mathlib.Core.List.{List, [], _∷_, _++_, append-nil, append-assoc}
 use mathlib.Core.Path.{_≡_, refl, sym, ap, _∙_}
 use Prim.Native.Nat.{ℕ, suc, _+_, _≤_, _<_}
 use native.Mathlib.Omega.{arith}
 use native.Mathlib.Numerals.{add-one}
 use lib.ListN.{length, getD, take, drop, drop-of-length-le}
-use lib.Seq.{take-at, drop-at, drop-cons, take-suc, append-snoc, take-all, length-take-le}
-use borrow.Author.Tests.{eq-eqb, ne-eqb}
+use lib.Seq.{take-at, drop-at, drop-cons, take-suc, take-all, length-take-le}
+use Rattle.wire.proofs.Tests.{by-test}
 use Rattle.wire.specs.Bytes.{same}
 use Rattle.tables.specs.Cut.{without}
 use Rattle.tables.proofs.Change.{without-length, without-next}
 use Rattle.rules.specs.State.{Pending, firstBy, dropFirst}
-use Rattle.rules.specs.Pending.{isCall, ended, endedAll}
+use Rattle.rules.specs.Pending.{isCall, ended, endedWhere}
 use Rattle.rules.specs.Calls.{released}
 
 -- ---- the first that passes a test taken out, or nothing
@@ -34,45 +34,57 @@ pub ended-without : (callee serial : ℕ) (ws : List Pending) → ended callee s
 unfolding ended
 ended-without callee serial ws = drop-without (isCall callee serial) ws
 
--- ---- all of one callee: those before place j stay, and those from j on are still to be looked at
+-- ---- all that pass a test: those from place j on have been looked at and stay, and those before j are still to be looked at
 
-pub record Leaving (c : ℕ) (ws₀ ws : List Pending) (j : ℕ) : Type 0 where
+pub record Leaving (t : Pending → Bool) (ws₀ ws : List Pending) (j : ℕ) : Type 0 where
   pub below : j ≤ length ws
-  pub left : endedAll c ws₀ ≡ take j ws ++ endedAll c (drop j ws)
+  pub left : endedWhere t ws₀ ≡ endedWhere t (take j ws) ++ drop j ws
 
-pub leaving-begins : (c : ℕ) (ws : List Pending) → Leaving c ws ws 0
-leaving-begins c ws = record { below = omega arith; left = refl }
+pub leaving-begins : (t : Pending → Bool) (ws : List Pending) (n : ℕ) → n ≡ length ws → Leaving t ws ws n
+leaving-begins t ws n e =
+    record { below = omega arith; left = sym (rw (take-all n ws (omega arith), drop-of-length-le ws {i = n} (omega arith)) (append-nil (endedWhere t ws))) }
 
-module _ (c : ℕ) (ws₀ ws : List Pending) (j : ℕ) (g : Leaving c ws₀ ws j) where
-  -- call j is one of the callee's: it is taken out
-  pub leaving-out : (d : Pending) → j < length ws → getD ws j d .callee ≡ c → Leaving c ws₀ (without j ws) j
-  unfolding endedAll
-  leaving-out d h e =
-      let t : length (take j ws) ≡ j = length-take-le j ws (omega arith) in
+-- the last one goes or stays
+ended-last : (t : Pending → Bool) (ws : List Pending) (w : Pending) → endedWhere t (ws ++ (w ∷ [])) ≡ endedWhere t ws ++ cond (t w) [] (w ∷ [])
+unfolding endedWhere
+ended-last t [] w = refl
+ended-last t (v ∷ ws) w = by-test (t v) (λ p. rw (p, ended-last t ws w)) (λ p. rw (p, ended-last t ws w))
+
+module _ (t : Pending → Bool) (ws₀ ws : List Pending) (j : ℕ) (g : Leaving t ws₀ ws (j + 1)) (d : Pending) where
+  inside : j < length ws
+  inside = omega (arith, g .below)
+
+  -- call j by itself
+  apart : endedWhere t ws₀ ≡ (endedWhere t (take j ws) ++ cond (t (getD ws j d)) [] (getD ws j d ∷ [])) ++ drop (j + 1) ws
+  apart =
+      g .left
+      ∙ ap (λ (z : List Pending). z ++ drop (j + 1) ws) (ap (endedWhere t) (ap (λ (n : ℕ). take n ws) (add-one j) ∙ take-suc ws j d inside)
+      ∙ ended-last t (take j ws) (getD ws j d))
+
+  -- it passes: it is taken out
+  pub leaving-out : t (getD ws j d) ≡ true → Leaving t ws₀ (without j ws) j
+  leaving-out e =
+      let l : length (take j ws) ≡ j = length-take-le j ws (omega (arith, inside)) in
       record {
-        below = omega (arith, without-length j ws h);
+        below = omega (arith, without-length j ws inside, inside);
         left =
-            g .left
+            apart
             ∙ rw (
-              drop-cons ws j d h,
-              eq-eqb (getD ws j d .callee) c e,
-              take-at (take j ws) (drop (j + 1) ws) j t,
-              drop-at (take j ws) (drop (j + 1) ws) j t,
-              add-one j,
+              e,
+              append-nil (endedWhere t (take j ws)),
+              take-at (take j ws) (drop (j + 1) ws) j l,
+              drop-at (take j ws) (drop (j + 1) ws) j l,
             );
       }
 
-  pub leaving-stays : (d : Pending) → j < length ws → (getD ws j d .callee ≡ c → ⊥) → Leaving c ws₀ ws (j + 1)
-  unfolding endedAll
-  leaving-stays d h e =
+  pub leaving-stays : t (getD ws j d) ≡ false → Leaving t ws₀ ws j
+  leaving-stays e =
+      let q : drop j ws ≡ getD ws j d ∷ drop (j + 1) ws = rw (add-one j) (drop-cons ws j d inside) in
       record {
-        below = omega arith;
-        left =
-            g .left
-            ∙ rw (add-one j, drop-cons ws j d h, ne-eqb (getD ws j d .callee) c e, take-suc ws j d h)
-            (sym (append-snoc (take j ws) (getD ws j d) (endedAll c (drop (suc j) ws))));
+        below = omega (arith, inside);
+        left = apart ∙ rw (e, q) (append-assoc (endedWhere t (take j ws)) (getD ws j d ∷ []) (drop (j + 1) ws));
       }
 
-  pub leaving-ends : length ws ≤ j → ws ≡ endedAll c ws₀
-  unfolding endedAll
-  leaving-ends h = sym (g .left ∙ rw (drop-of-length-le ws {i = j} h, take-all j ws h) (append-nil ws))
+pub leaving-ends : (t : Pending → Bool) (ws₀ ws : List Pending) → Leaving t ws₀ ws 0 → ws ≡ endedWhere t ws₀
+unfolding endedWhere
+leaving-ends t ws₀ ws g = sym (g .left)

@@ -1,25 +1,27 @@
 -- A sound state is read back from its bytes, and these are good memory: memory is good exactly where it is the bytes of a sound state.
 use mathlib.Core.Bool.{true}
 use mathlib.Core.Logic.{_↔_}
-use mathlib.Core.List.{List, [], _∷_, map, append-nil}
-use mathlib.Core.Path.{_≡_, refl, ap₂}
+use mathlib.Core.List.{List, [], _∷_, _++_, map, append-nil, append-assoc}
+use mathlib.Core.Path.{_≡_, refl, sym, ap, ap₂, _∙_}
 use Prim.Native.Nat.{ℕ, _<_}
 use native.Mathlib.Omega.{arith}
 use lib.ListN.{length, drop}
+use lib.Seq.{drop-at}
 use borrow.Author.Tests.{eq-eqb, ltb-true}
 use Rattle.wire.specs.Bytes.{Below}
 use Rattle.wire.specs.Lists.{every}
-use Rattle.wire.specs.Words.{wordAt}
+use Rattle.wire.specs.Words.{wordAt, longAt, wordBytes, longBytes}
 use Rattle.wire.specs.declared.Order.the-variants.{Little}
 use Rattle.wire.proofs.Texts.{both, same-refl}
-use Rattle.wire.proofs.Words.{word-again}
+use Rattle.wire.proofs.Words.{word-length, word-again}
+use Rattle.wire.proofs.Longs.{long-front, long-again}
 use Rattle.tables.specs.Tables.{cells, parts}
 use Rattle.tables.proofs.Cells.{cells-parts}
 use Rattle.stream.proofs.Good.{tail-fits}
 use Rattle.stream.specs.Tail.{Tail}
 use Rattle.rules.specs.State.{Peer, Slot, free, peer, State}
-use Rattle.memory.specs.Layout.{memoryLength, slotLength, slotsAt}
-use Rattle.memory.specs.Encoding.{slotBytes, memoryOf, slotOf, stateOf}
+use Rattle.memory.specs.Layout.{memoryLength, slotLength, tickAt, slotsAt}
+use Rattle.memory.specs.Encoding.{slotBytes, clockBytes, memoryOf, slotOf, stateOf}
 use Rattle.memory.specs.Good.{goodSlot, goodSlots, plainSlots, good}
 use Rattle.memory.specs.Sound.{narrow, Sound}
 use Rattle.memory.proofs.Frame.{slot-length, memory-length, memory-slots}
@@ -34,11 +36,20 @@ slot-parts slots e =
     rw (append-nil (cells slotBytes slots), e) at (cells-parts slotLength slotBytes slot-length slots [])
 
 last-back : (s : State Tail) → s .last < 4294967296 → wordAt Little (memoryOf s) 0 ≡ s .last
-unfolding memoryOf
-last-back s h = word-again (s .last) (cells slotBytes (s .slots)) h
+unfolding memoryOf clockBytes
+last-back s h = rw (append-assoc (wordBytes (s .last))) (word-again (s .last) (longBytes (s .tick) ++ cells slotBytes (s .slots)) h)
 
-module _ (all : List (Slot Tail)) (last : ℕ) (g : goodSlots all last all ≡ true) (l : last < 4294967296) where
-  peer-fits : (p : Peer Tail) (later : List (Slot Tail)) → GoodPeer all last p later → narrow (peer p) ≡ true → Fits p
+tick-back : (s : State Tail) → s .tick < 18446744073709551616 → longAt (memoryOf s) tickAt ≡ s .tick
+unfolding memoryOf clockBytes
+tick-back s h =
+    let t = longBytes (s .tick) ++ cells slotBytes (s .slots) in
+    sym (long-front (memoryOf s) tickAt)
+    ∙ ap (λ (z : List ℕ). longAt z 0) (ap (drop tickAt) (append-assoc (wordBytes (s .last)) (longBytes (s .tick)) (cells slotBytes (s .slots)))
+    ∙ drop-at (wordBytes (s .last)) t tickAt (word-length (s .last)))
+    ∙ long-again (s .tick) (cells slotBytes (s .slots)) h
+
+module _ (all : List (Slot Tail)) (last tick : ℕ) (g : goodSlots all last tick all ≡ true) (l : last < 4294967296) where
+  peer-fits : (p : Peer Tail) (later : List (Slot Tail)) → GoodPeer all last tick p later → narrow (peer p) ≡ true → Fits p
   unfolding narrow
   peer-fits p later q n =
       let taken : p .stream .taken < 134217728 = tail-fits (p .stream) (q .tail) .0 in
@@ -48,25 +59,25 @@ module _ (all : List (Slot Tail)) (last : ℕ) (g : goodSlots all last all ≡ t
         gids = q .gids;
         gidsBack = words-back (p .gids) (search both);
         calls = q .calls;
-        callsBack = pendings-back all last (p .pending) g l (q .pending) (search both);
+        callsBack = pendings-back all last tick (p .pending) g l (q .pending) (search both);
         names = q .few;
         namesBack = names-back (p .names) later (q .names);
         taken = omega arith;
         head = tail-fits (p .stream) (q .tail) .1;
       }
 
-  pub slot-again : (x : Slot Tail) (later : List (Slot Tail)) → goodSlot all last x later ≡ true → narrow x ≡ true → slotOf (slotBytes x) ≡ x
+  pub slot-again : (x : Slot Tail) (later : List (Slot Tail)) → goodSlot all last tick x later ≡ true → narrow x ≡ true → slotOf (slotBytes x) ≡ x
   slot-again free later e n = free-back
   slot-again (peer p) later e n =
-      let q = peer-good all last p later e in
+      let q = peer-good all last tick p later e in
       slot-back p (q .some) (peer-fits p later q n)
 
-  slots-again : (slots : List (Slot Tail)) → goodSlots all last slots ≡ true → every narrow slots ≡ true → map slotOf (map slotBytes slots) ≡ slots
+  slots-again : (slots : List (Slot Tail)) → goodSlots all last tick slots ≡ true → every narrow slots ≡ true → map slotOf (map slotBytes slots) ≡ slots
   unfolding goodSlots
   slots-again [] e n = refl
   slots-again (x ∷ later) e n = ap₂ _∷_ (slot-again x later (search both) (search both)) (slots-again later (search both) (search both))
 
-  plain-slots : (slots : List (Slot Tail)) → goodSlots all last slots ≡ true → every narrow slots ≡ true → plainSlots (map slotBytes slots) ≡ true
+  plain-slots : (slots : List (Slot Tail)) → goodSlots all last tick slots ≡ true → every narrow slots ≡ true → plainSlots (map slotBytes slots) ≡ true
   unfolding goodSlots plainSlots
   plain-slots [] e n = refl
   plain-slots (x ∷ later) e n =
@@ -78,14 +89,15 @@ unfolding stateOf
 state-again s g =
     let a : wordAt Little (memoryOf s) 0 ≡ s .last = last-back s (g .fits) in
     let b : map slotOf (parts slotLength 16 (drop slotsAt (memoryOf s))) ≡ s .slots
-    = rw (memory-slots s, slot-parts (s .slots) (g .sixteen)) (slots-again (s .slots) (s .last) (g .slots) (g .fits) (s .slots) (g .slots) (g .narrows)) in
-    λ j. record { last = a j; slots = b j }
+    = rw (memory-slots s, slot-parts (s .slots) (g .sixteen)) (slots-again (s .slots) (s .last) (s .tick) (g .slots) (g .fits) (s .slots) (g .slots) (g .narrows)) in
+    let c : longAt (memoryOf s) tickAt ≡ s .tick = tick-back s (g .ticks) in
+    λ j. record { last = a j; tick = c j; slots = b j }
 
 -- and its bytes are good
 pub good-memory : (s : State Tail) → Sound s → good (memoryOf s) ≡ true
 unfolding good
 good-memory s g =
-    let p = plain-slots (s .slots) (s .last) (g .slots) (g .fits) (s .slots) (g .slots) (g .narrows) in
+    let p = plain-slots (s .slots) (s .last) (s .tick) (g .slots) (g .fits) (s .slots) (g .slots) (g .narrows) in
     rw (
       eq-eqb (length (memoryOf s)) memoryLength (memory-length s (g .sixteen)),
       state-again s g,

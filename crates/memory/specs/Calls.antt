@@ -7,12 +7,13 @@ use lib.Dec.{eqb}
 use lib.ListN.{length}
 use Rattle.image.specs.Good.{imageAnswer}
 use Rattle.stream.specs.Tail.{Tail, tails}
-use Rattle.rules.specs.Calls.{Step, empty, connect, own, release, piece, disconnect, noConnect, noOwn, noPiece, noGone}
+use Rattle.rules.specs.Calls.{Step, empty, connect, own, release, piece, disconnect, tick, noConnect, noOwn, noPiece, noGone, noTick}
 use Rattle.rules.specs.Series.{series}
 use Rattle.rules.specs.declared.Connected.{Connected}
 use Rattle.rules.specs.declared.Owned.{Owned}
 use Rattle.rules.specs.declared.Taken.{Taken}
 use Rattle.rules.specs.declared.Gone.{Gone}
+use Rattle.rules.specs.declared.Ticked.{Ticked}
 use Rattle.memory.specs.Layout.{memoryLength}
 use Rattle.memory.specs.Encoding.{memoryOf, stateOf}
 use Rattle.memory.specs.Good.{good}
@@ -60,6 +61,10 @@ pieceOn image m n bytes = onImage noPiece image m (piece tails image (stateOf m)
 -- disconnect, which takes no image (rule 8.7)
 unfoldable pub disconnectOn : List ℕ → ℕ → MemoryStep Gone
 disconnectOn m n = onMemory noGone m (disconnect tails (stateOf m) n)
+
+-- tick, which takes no image (rule 8.12)
+unfoldable pub tickOn : List ℕ → ℕ → ℕ → MemoryStep Ticked
+tickOn m now limit = onMemory noTick m (tick (stateOf m) now limit)
 
 -- what a call's `ensures` says: the result and every byte of memory are those of o (rule 8.9)
 pub record Did {R : Type 0} (o : MemoryStep R) (r : R) (m : List ℕ) : Type 0 where

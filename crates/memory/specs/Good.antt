@@ -24,32 +24,32 @@ nobody t slots = not (any t slots)
 unfoldable pub goodNames : List (List ℕ) → List (Slot Tail) → Bool
 goodNames names later = distinct (λ x. ownable x && nobody (isOwner x) later) (λ x y. same y x) names
 
--- the callee of each pending call is connected, its serial is not 0, and none stands twice with its caller (rule 10.3)
-unfoldable pub goodPending : List (Slot Tail) → List Pending → Bool
-goodPending all ws = distinct (λ w. any (isPeer (w .callee)) all && leb 1 (w .serial)) sameCall ws
+-- the callee of each pending call is connected, its serial is not 0, it is not newer than the last tick, and none stands twice with its caller (rule 10.3)
+unfoldable pub goodPending : List (Slot Tail) → ℕ → List Pending → Bool
+goodPending all tick ws = distinct (λ w. any (isPeer (w .callee)) all && leb 1 (w .serial) && leb (w .tick) tick) sameCall ws
 
 -- its number is 1 to the last one given and no later slot's; its counts are within the limits (rules 1.1 and 10.3); its stream is good (rule 10.4)
-unfoldable pub goodPeer : List (Slot Tail) → ℕ → Peer Tail → List (Slot Tail) → Bool
-goodPeer all last p later =
+unfoldable pub goodPeer : List (Slot Tail) → ℕ → ℕ → Peer Tail → List (Slot Tail) → Bool
+goodPeer all last tick p later =
     leb 1 (p .number)
     && leb (p .number) last
     && nobody (isPeer (p .number)) later
     && leb (length (p .gids)) 16
     && leb (length (p .pending)) 16
     && leb (length (p .names)) 4
-    && goodPending all (p .pending)
+    && goodPending all tick (p .pending)
     && goodNames (p .names) later
     && goodTail (p .stream)
 
 -- a free slot keeps the rules (rule 10.3)
-abbrev pub goodSlot : List (Slot Tail) → ℕ → Slot Tail → List (Slot Tail) → Bool
-goodSlot all last free later = true
-goodSlot all last (peer p) later = goodPeer all last p later
+abbrev pub goodSlot : List (Slot Tail) → ℕ → ℕ → Slot Tail → List (Slot Tail) → Bool
+goodSlot all last tick free later = true
+goodSlot all last tick (peer p) later = goodPeer all last tick p later
 
 -- each slot, beside those after it, so that what may stand once is looked for once (rule 10.3)
-unfoldable pub goodSlots : List (Slot Tail) → ℕ → List (Slot Tail) → Bool
-goodSlots all last [] = true
-goodSlots all last (x ∷ later) = goodSlot all last x later && goodSlots all last later
+unfoldable pub goodSlots : List (Slot Tail) → ℕ → ℕ → List (Slot Tail) → Bool
+goodSlots all last tick [] = true
+goodSlots all last tick (x ∷ later) = goodSlot all last tick x later && goodSlots all last tick later
 
 -- each part is the bytes of the slot that is read off it, so that unused places are zero (rule 10.5)
 unfoldable pub plainSlots : List (List ℕ) → Bool
@@ -60,4 +60,4 @@ plainSlots (b ∷ r) = same (slotBytes (slotOf b)) b && plainSlots r
 unfoldable pub good : List ℕ → Bool
 good m =
     eqb (length m) memoryLength
-    && (goodSlots (stateOf m .slots) (stateOf m .last) (stateOf m .slots) && plainSlots (parts slotLength 16 (drop slotsAt m)))
+    && (goodSlots (stateOf m .slots) (stateOf m .last) (stateOf m .tick) (stateOf m .slots) && plainSlots (parts slotLength 16 (drop slotsAt m)))

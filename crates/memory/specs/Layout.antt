@@ -1,4 +1,4 @@
--- Where things stand in the guard's memory: the last number, then sixteen slots of one size. Every place is computed from what stands before it (rule 10.1).
+-- Where things stand in the guard's memory: the last number, the last tick, then sixteen slots of one size. Every place is computed from what stands before it (rule 10.1).
 use Prim.Native.Nat.{ℕ, _+_, _*_}
 use Rattle.header.specs.Fixed.{headLimit}
 use Rattle.policy.specs.Names.{nameWidth}
@@ -11,12 +11,15 @@ gidWidth = 4
 abbrev pub gidRoom : ℕ
 gidRoom = 16
 
--- a pending call: the callee's number, and the call's serial at this place of it
+-- a pending call: the callee's number, then the call's serial and its tick, at these places of it
 abbrev pub serialOffset : ℕ
 serialOffset = 4
 
+abbrev pub tickOffset : ℕ
+tickOffset = serialOffset + 4
+
 abbrev pub callWidth : ℕ
-callWidth = serialOffset + 4
+callWidth = tickOffset + 8
 
 abbrev pub callRoom : ℕ
 callRoom = 16
@@ -77,6 +80,9 @@ firstCallee = pendingAt + 4
 abbrev pub firstSerial : ℕ
 firstSerial = firstCallee + serialOffset
 
+abbrev pub firstTick : ℕ
+firstTick = firstCallee + tickOffset
+
 abbrev pub namesAt : ℕ
 namesAt = pendingAt + pendingLength
 
@@ -100,9 +106,13 @@ slotLength = restAt + restLength
 
 -- ---- slots in memory
 
--- behind the last number
+-- the last tick, behind the last number
+abbrev pub tickAt : ℕ
+tickAt = 4
+
+-- behind both
 abbrev pub slotsAt : ℕ
-slotsAt = 4
+slotsAt = tickAt + 8
 
 -- where slot i stands
 abbrev pub slotStart : ℕ → ℕ

@@ -66,4 +66,4 @@ abbrev pub changed : (Slot Tail → Slot Tail) → List ℕ → List ℕ
 changed f b = slotBytes (f (slotOf b))
 
 abbrev pub mapped : (Slot Tail → Slot Tail) → State Tail → State Tail
-mapped f s = record { last = s .last; slots = map f (s .slots) }
+mapped f s = record { last = s .last; tick = s .tick; slots = map f (s .slots) }

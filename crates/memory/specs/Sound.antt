@@ -1,4 +1,4 @@
--- A good state as a fact: sixteen slots that keep the rules, numbers of 32 bits and bytes of 8. Memory is good exactly where it is the bytes of a sound
+-- A good state as a fact: sixteen slots that keep the rules, numbers of 32 bits, ticks of 64 and bytes of 8. Memory is good exactly where it is the bytes of a sound
 -- state, and every call leaves one (rule 10.6).
 use mathlib.Core.Bool.{Bool, true, _&&_}
 use mathlib.Core.List.{List}
@@ -15,10 +15,13 @@ use Rattle.memory.specs.Layout.{memoryLength}
 abbrev pub word32 : ℕ → Bool
 word32 n = ltb n 4294967296
 
--- the numbers that a call or a message brings are of 32 bits
+abbrev pub word64 : ℕ → Bool
+word64 n = ltb n 18446744073709551616
+
+-- the numbers that a call or a message brings are of 32 bits, and ticks of 64
 unfoldable pub narrow : Slot Tail → Bool
 narrow free = true
-narrow (peer p) = word32 (p .uid) && every word32 (p .gids) && every (λ w. word32 (w .serial)) (p .pending)
+narrow (peer p) = word32 (p .uid) && every word32 (p .gids) && every (λ w. word32 (w .serial) && word64 (w .tick)) (p .pending)
 
 abbrev pub octet : ℕ → Bool
 octet b = ltb b 256
@@ -31,7 +34,8 @@ headOctets (peer p) = every octet (p .stream .head)
 pub record Sound (s : State Tail) : Type 0 where
   pub sixteen : length (s .slots) ≡ 16
   pub fits : s .last < 4294967296
-  pub slots : goodSlots (s .slots) (s .last) (s .slots) ≡ true
+  pub ticks : s .tick < 18446744073709551616
+  pub slots : goodSlots (s .slots) (s .last) (s .tick) (s .slots) ≡ true
   pub narrows : every narrow (s .slots) ≡ true
   pub octets : every headOctets (s .slots) ≡ true
 

@@ -4,10 +4,12 @@ pub const GID_WIDTH: usize = 4;
 
 pub const GID_ROOM: usize = 16;
 
-// Where a pending call has its serial.
+// Where a pending call has its serial, and its tick.
 pub const SERIAL_OFFSET: usize = 4;
 
-pub const CALL_WIDTH: usize = SERIAL_OFFSET + 4;
+pub const TICK_OFFSET: usize = SERIAL_OFFSET + 4;
+
+pub const CALL_WIDTH: usize = TICK_OFFSET + 8;
 
 pub const CALL_ROOM: usize = 16;
 
@@ -47,6 +49,8 @@ pub const FIRST_CALLEE: usize = PENDING_AT + 4;
 
 pub const FIRST_SERIAL: usize = FIRST_CALLEE + SERIAL_OFFSET;
 
+pub const FIRST_TICK: usize = FIRST_CALLEE + TICK_OFFSET;
+
 pub const NAMES_AT: usize = PENDING_AT + PENDING_LENGTH;
 
 pub const FIRST_NAME: usize = NAMES_AT + 4;
@@ -61,7 +65,10 @@ pub const REST_AT: usize = TAKEN_AT + STREAM_LENGTH;
 
 pub const SLOT_LENGTH: usize = REST_AT + REST_LENGTH;
 
-// Slot i begins at SLOTS_AT + SLOT_LENGTH * i, behind the last number.
-pub const SLOTS_AT: usize = 4;
+// The last tick, behind the last number.
+pub const TICK_AT: usize = 4;
+
+// Slot i begins at SLOTS_AT + SLOT_LENGTH * i, behind both.
+pub const SLOTS_AT: usize = TICK_AT + 8;
 
 pub const MEMORY_LENGTH: usize = SLOTS_AT + SLOT_LENGTH * 16;

@@ -23,9 +23,10 @@ fn calls(memory: &mut [u8; MEMORY_LENGTH], n: u8) {
     }
 }
 
-// A peer in every slot: peer 1 has no pending call, each other as many as its number, so that peer 16 has all that there is room for.
+// A peer in every slot: peer 1 has no pending call, each other as many as its number, so that peer 16 has all that there is room for. The calls are of tick 5, the last.
 fn fill(memory: &mut [u8; MEMORY_LENGTH]) {
     guard::start(memory);
+    crate::set_tick(memory, 5);
     crate::connect(memory, &[]);
     let mut i: u8 = 1;
     while i < 16 {
@@ -75,7 +76,10 @@ pub fn show(memory: &mut [u8; MEMORY_LENGTH]) {
     fill(memory);
     crate::line(b"a peer in every slot", crate::is_refused(memory));
     slot_counts(memory, b"used slot ");
+    crate::ticks::show_used(memory);
     guard::start(memory);
+    crate::set_tick(memory, 5);
     crate::line(b"no peer", crate::is_refused(memory));
     slot_counts(memory, b"free slot ");
+    crate::ticks::show_free(memory);
 }

@@ -16,7 +16,7 @@ use Rattle.decide.specs.Rulings.{decisionOf}
 use Rattle.stream.specs.Tail.{tails}
 use Rattle.rules.specs.State.{peer, isFree}
 use Rattle.rules.specs.Calls.{newcomer, connect, noConnect, connectedBy}
-use Rattle.memory.specs.Layout.{slotLength, slotStart, firstGid, gidWidth, gidRoom, slotsAt}
+use Rattle.memory.specs.Layout.{slotLength, slotStart, firstGid, gidWidth, gidRoom, tickAt}
 use Rattle.memory.specs.Encoding.{slotBytes, stateOf}
 use Rattle.memory.specs.Sound.{Held}
 use Rattle.memory.specs.Calls.{stored, Did}
@@ -46,7 +46,7 @@ seat-bytes m gids a n u h e =
 
 pub admit-seated : (m : List ℕ) → Octets m → (i n uid : ℕ) (gids m₁ m₂ : List ℕ) → Free m i gids
     → m₁ ≡ take (slotStart i) m ++ (newBytes n uid gids ++ drop (slotStart i + (firstGid + gidWidth * length gids)) m)
-    → m₂ ≡ wordBytes n ++ drop slotsAt m₁
+    → m₂ ≡ wordBytes n ++ drop tickAt m₁
     → m₂ ≡ admitted m i n uid gids
 unfolding admitted
 admit-seated m f i n uid gids m₁ m₂ g e₁ e₂ =
@@ -54,7 +54,7 @@ admit-seated m f i n uid gids m₁ m₂ g e₁ e₂ =
     let x = peer (newcomer tails n uid gids) in
     let q : m₁ ≡ take a m ++ (slotBytes x ++ drop (a + slotLength) m)
     = e₁ ∙ ap (λ (y : List ℕ). take a m ++ y) (seat-bytes m gids a n uid (g .few) (g .zeros ∙ free-bytes)) in
-    e₂ ∙ ap (λ (y : List ℕ). wordBytes n ++ drop slotsAt y) q ∙ sym (seated m (octets-below m f) (g .held .held) n i x (g .below))
+    e₂ ∙ ap (λ (y : List ℕ). wordBytes n ++ drop tickAt y) q ∙ sym (seated m (octets-below m f) (g .held .held) n i x (g .below))
 
 pub ruleset admitting = (admit-seated, needs)
 

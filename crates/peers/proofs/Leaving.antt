@@ -11,7 +11,7 @@ use Rattle.wire.specs.declared.Order.the-variants.{Little}
 use Rattle.wire.proofs.Words.{Octets, octets-below, cut-at, put-at}
 use Rattle.stream.specs.Tail.{tails}
 use Rattle.rules.specs.State.{free, putSlot, isPeer}
-use Rattle.rules.specs.Pending.{removeCallsTo}
+use Rattle.rules.specs.Pending.{isTo, removeCalls}
 use Rattle.rules.specs.Calls.{disconnect, noGone}
 use Rattle.rules.specs.declared.Gone.{Gone}
 use Rattle.memory.specs.Layout.{slotLength, slotStart, takenAt}
@@ -24,7 +24,8 @@ use Rattle.memory.proofs.Frame.{free-bytes, slot-length}
 use Rattle.memory.proofs.Slots.{free-back}
 use Rattle.memory.proofs.Good.{framed}
 use Rattle.memory.proofs.Sweep.{put-again, put-length, swept-freed}
-use Rattle.peers.specs.Steps.{Encoded, endedFor, slotsWithout}
+use Rattle.endings.specs.Endings.{Encoded, endedFor, EndedAll}
+use Rattle.peers.specs.Steps.{slotsWithout}
 use Rattle.slots.proofs.Found.{did-stay, peer-none, found-below, peer-place, peer-some}
 
 -- ---- a slot wiped
@@ -53,12 +54,13 @@ module _ (m : List ℕ) (g : Held m) (i : ℕ) (h : i < 16) (z : List ℕ)
       } in
       rw wiped q
 
-  pub leave-gone : (c : ℕ) (m₂ : List ℕ)
-      → m₂ ≡ endedFor (take (slotStart i) m ++ (z ++ drop (slotStart i + slotLength - (slotStart i)) (drop (slotStart i) m))) c → m₂ ≡ slotsWithout m i c
+  pub leave-gone : (c r : ℕ) (m₂ : List ℕ)
+      → EndedAll (isTo c) (take (slotStart i) m ++ (z ++ drop (slotStart i + slotLength - (slotStart i)) (drop (slotStart i) m))) r m₂
+      → m₂ ≡ slotsWithout m i c
   unfolding endedFor slotsWithout
-  leave-gone c m₂ q =
-      swept-freed (removeCallsTo c) m (take (slotStart i) m ++ (z ++ drop (slotStart i + slotLength - (slotStart i)) (drop (slotStart i) m))) m₂
-      (slotBytes free) i h (g .sized) refl wiped q
+  leave-gone c r m₂ q =
+      swept-freed (removeCalls (isTo c)) m (take (slotStart i) m ++ (z ++ drop (slotStart i + slotLength - (slotStart i)) (drop (slotStart i) m))) m₂
+      (slotBytes free) i h (g .sized) refl wiped (q .left)
 
 pub ruleset leaving = (leave-encoded, leave-gone, needs)
 

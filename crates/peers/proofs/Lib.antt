@@ -1,4 +1,3 @@
 mod Newcomers
-mod Calls
 mod Entering
 mod Leaving

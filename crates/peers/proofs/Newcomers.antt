@@ -8,7 +8,7 @@ use borrow.Author.Needs.{needs}
 use Rattle.wire.specs.Words.{wordBytes}
 use Rattle.wire.proofs.Words.{word-length}
 use Rattle.tables.specs.Tables.{cells}
-use Rattle.tables.proofs.Written.{put-joined}
+use Rattle.wire.proofs.Parts.{put-joined}
 use Rattle.memory.specs.Layout.{slotStart, gidsAt, firstGid, gidWidth, gidRoom, uidAt}
 use Rattle.slots.specs.Slots.{At}
 use Rattle.peers.specs.Writes.{newBytes}

@@ -5,13 +5,12 @@ use Prim.Native.Nat.{ℕ, _≤_, _<_}
 use lib.ListN.{length, take, drop, set}
 use Rattle.stream.specs.Tail.{Tail, tails}
 use Rattle.rules.specs.State.{free, peer, isFree, firstBy}
-use Rattle.rules.specs.Pending.{removeCallsTo}
+use Rattle.rules.specs.Pending.{isTo, removeCalls}
 use Rattle.rules.specs.Calls.{Step, newcomer, connectAt}
 use Rattle.rules.specs.declared.Connected.{Connected}
 use Rattle.memory.specs.Layout.{slotStart, memoryLength, slotLength, gidRoom}
-use Rattle.memory.specs.Encoding.{slotBytes, slotOf, memoryOf, stateOf}
+use Rattle.memory.specs.Encoding.{slotBytes, memoryOf, stateOf}
 use Rattle.memory.specs.Sound.{Held}
-use Rattle.memory.specs.Places.{putAt, changed, mapped}
 
 -- ---- connect
 
@@ -26,7 +25,7 @@ pub record Free (m : List ℕ) (i : ℕ) (gids : List ℕ) : Type 0 where
 -- a peer in slot i, whose number is the last
 unfoldable pub admitted : List ℕ → ℕ → ℕ → ℕ → List ℕ → List ℕ
 admitted m i number uid gids =
-    memoryOf (record { last = number; slots = set (stateOf m .slots) i (peer (newcomer tails number uid gids)) })
+    memoryOf (record { last = number; tick = stateOf m .tick; slots = set (stateOf m .slots) i (peer (newcomer tails number uid gids)) })
 
 -- connect's last two tests, and its change
 unfoldable pub entered : List ℕ → ℕ → List ℕ → Step Tail Connected
@@ -34,25 +33,6 @@ entered m uid gids = connectAt tails (stateOf m) (firstBy isFree (stateOf m .slo
 
 -- ---- disconnect
 
--- the bytes of slot i are those of the slot that is read off them
-pub record PlainSlot (m : List ℕ) (i : ℕ) : Type 0 where
-  pub sized : length m ≡ memoryLength
-  pub below : i < 16
-  pub plain : slotBytes (slotOf (take slotLength (drop (slotStart i) m))) ≡ take slotLength (drop (slotStart i) m)
-
--- memory is the bytes of the state that is read off it
-pub record Encoded (m : List ℕ) : Type 0 where
-  pub sized : length m ≡ memoryLength
-  pub is : memoryOf (stateOf m) ≡ m
-
--- the calls to the callee that the peer of slot i awaits ended
-unfoldable pub endedAt : List ℕ → ℕ → ℕ → List ℕ
-endedAt m i callee = putAt m i (changed (removeCallsTo callee) (take slotLength (drop (slotStart i) m)))
-
--- every call to the callee ended
-unfoldable pub endedFor : List ℕ → ℕ → List ℕ
-endedFor m callee = memoryOf (mapped (removeCallsTo callee) (stateOf m))
-
--- the same after the peer of slot i is gone
+-- every call to the peer of slot i ended, which is gone
 unfoldable pub slotsWithout : List ℕ → ℕ → ℕ → List ℕ
-slotsWithout m i callee = memoryOf (record { last = stateOf m .last; slots = map (removeCallsTo callee) (set (stateOf m .slots) i free) })
+slotsWithout m i callee = memoryOf (record { last = stateOf m .last; tick = stateOf m .tick; slots = map (removeCalls (isTo callee)) (set (stateOf m .slots) i free) })

@@ -1,10 +1,8 @@
 // The calls about peers, on a good image and good memory: connect, disconnect.
+use endings::Ending;
 use image::Section;
-use memory::CALL_WIDTH;
 use memory::FIRST_GID;
 use memory::GIDS_AT;
-use memory::PENDING_AT;
-use memory::PENDING_LENGTH;
 use memory::SLOT_LENGTH;
 use memory::SLOTS_AT;
 use memory::TAKEN_AT;
@@ -16,23 +14,20 @@ use rules::Shown;
 use rules::connected_by;
 use rules::no_connect;
 use rules::no_gone;
-use wire::Order;
 ghost use mathlib.Core.Path.{_≡_};
 ghost use mathlib.Core.List.{_++_};
-ghost use Prim.Native.Nat.{_+_, _-_, _*_, _≤_, _<_};
+ghost use Prim.Native.Nat.{_+_, _*_, _≤_, _<_};
 ghost use lib.ListN.{length, take, drop};
-ghost use Rattle.tables.specs.Tables.{tableBytes, tableOf};
 ghost use Rattle.image.specs.Contracts.{GoodImage};
 ghost use Rattle.stream.specs.Tail.{tails};
-ghost use Rattle.rules.specs.Pending.{endedAll};
 ghost use Rattle.rules.specs.Calls.{connect, disconnect};
-ghost use Rattle.memory.specs.Layout.{slotStart, firstGid, gidWidth, gidRoom, callWidth, callRoom, pendingLength};
-ghost use Rattle.memory.specs.Encoding.{pendingBytes, pendingOf, stateOf};
+ghost use Rattle.memory.specs.Layout.{slotStart, firstGid, gidWidth, gidRoom};
+ghost use Rattle.memory.specs.Encoding.{stateOf};
 ghost use Rattle.memory.specs.Sound.{Held};
 ghost use Rattle.memory.specs.Calls.{stored, Did};
 ghost use Rattle.slots.specs.Slots.{At};
 ghost use Rattle.peers.specs.Writes.{newBytes};
-ghost use Rattle.peers.specs.Steps.{Free, admitted, entered, PlainSlot, Encoded, endedAt, endedFor, slotsWithout};
+ghost use Rattle.peers.specs.Steps.{Free, admitted, entered, slotsWithout};
 
 // ---- connect
 
@@ -100,51 +95,6 @@ pub fn connect(image: &[u8], memory: &mut [u8], uid: u32, gids: &[u32]) -> Conne
 
 // ---- disconnect
 
-// Ends every call to the callee in a table of pending calls.
-fn end_calls(table: &mut [u8], callee: u32)
-    requires { ⌜ (length (now table) ≡ pendingLength)
-        × (now table ≡ tableBytes callWidth callRoom pendingBytes (tableOf callWidth callRoom pendingOf (now table))) ⌝ }
-    ensures { λ r.
-        ⌜ now (table .exit) ≡ tableBytes callWidth callRoom pendingBytes (endedAll callee (tableOf callWidth callRoom pendingOf (now (table .entry)))) ⌝ }
-{
-    let mut n = wire::u32_at(Order::Little, table, 0);
-    let mut j: u32 = 0;
-    while j < n {
-        let at = CALL_WIDTH * (j as usize);
-        if wire::u32_at(Order::Little, table, 4 + at) == callee {
-            tables::remove(table, at, CALL_WIDTH, CALL_WIDTH * (n as usize), n - 1);
-            n -= 1;
-            continue;
-        }
-        j += 1;
-    }
-}
-
-// Ends every call to the callee that the peer of slot i awaits.
-fn end_at(memory: &mut [u8], i: usize, callee: u32)
-    requires { ⌜ PlainSlot (now memory) i ⌝ }
-    ensures { λ r. ⌜ now (memory .exit) ≡ endedAt (now (memory .entry)) i callee ⌝ }
-{
-    if slots::number_at(memory, i) == 0 {
-        return;
-    }
-    let at = SLOTS_AT + SLOT_LENGTH * i + PENDING_AT;
-    let end = at + PENDING_LENGTH;
-    end_calls(&mut memory[at..end], callee);
-}
-
-// Ends every call to the callee.
-fn end_all(memory: &mut [u8], callee: u32)
-    requires { ⌜ Encoded (now memory) ⌝ }
-    ensures { λ r. ⌜ now (memory .exit) ≡ endedFor (now (memory .entry)) callee ⌝ }
-{
-    let mut i = 0;
-    while i < 16 {
-        end_at(memory, i, callee);
-        i += 1;
-    }
-}
-
 // Frees slot i, whose peer has this number, and ends every call to it.
 fn leave(memory: &mut [u8], i: usize, number: u32)
     requires { ⌜ (Held (now memory)) × (i < 16) ⌝ }
@@ -153,7 +103,7 @@ fn leave(memory: &mut [u8], i: usize, number: u32)
     let from = SLOTS_AT + SLOT_LENGTH * i;
     let to = from + SLOT_LENGTH;
     wire::wipe(&mut memory[from..to]);
-    end_all(memory, number);
+    endings::end_all(memory, Ending::To(number));
 }
 
 // Disconnects a peer: 30 (rule 8.7).

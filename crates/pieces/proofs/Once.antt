@@ -53,7 +53,7 @@ module _ (image m bytes : List ℕ) (f : Octets m) (i : ℕ) (s : Seated m i) (n
 
   same-state : stateOf m ≡ putSlot (stateOf m) i (peer (withStream (peerAt m i) fresh))
   same-state =
-      ap (λ (l : List (Slot Tail)). record { last = stateOf m .last; slots = l }) (sym (set-getD (stateOf m .slots) i free))
+      ap (λ (l : List (Slot Tail)). record { last = stateOf m .last; tick = stateOf m .tick; slots = l }) (sym (set-getD (stateOf m .slots) i free))
       ∙ ap (putSlot (stateOf m) i) (peer-is m f i s ∙ ap peer same-peer)
 
   module _ (x : Header) (q : Reading) (a : q ≡ readHeader bytes) (b : q ≡ Whole x) where

@@ -43,7 +43,7 @@ module _ (m : List ℕ) (f : Octets m) (i : ℕ) (s : Seated m i) where
   pub peer-is : getD (stateOf m .slots) i free ≡ peer (peerAt m i)
   peer-is = slot-peer m i (s .below) (s .some)
 
-  pub fine : Fine (stateOf m .last) (peerAt m i)
+  pub fine : Fine (stateOf m .last) (stateOf m .tick) (peerAt m i)
   fine = peer-fine (stateOf m) i (peerAt m i) sound peer-is
 
   -- the bytes of its stream

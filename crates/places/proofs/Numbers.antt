@@ -6,9 +6,10 @@ use native.Mathlib.Omega.{arith}
 use borrow.Author.Needs.{needs}
 use Rattle.wire.specs.Words.{wordBytes}
 use Rattle.tables.specs.Tables.{cells}
-use Rattle.rules.specs.Places.{receiverWords, shownWords, plainWords, connectedWords, ownedWords, takenWords, goneWords}
+use Rattle.rules.specs.Places.{receiverWords, shownWords, plainWords, connectedWords, ownedWords, takenWords, goneWords, tickedWords}
 use Rattle.rules.specs.declared.Connected.{Connected}
 use Rattle.rules.specs.declared.Gone.{Gone}
+use Rattle.rules.specs.declared.Ticked.{Ticked}
 use Rattle.rules.specs.declared.Owned.{Owned}
 use Rattle.rules.specs.declared.Receiver.{Receiver}
 use Rattle.rules.specs.declared.Receiver.the-variants as to
@@ -58,7 +59,10 @@ shows-owned o r e = record { are = ap placeOf e }
 pub shows-gone : (g : Gone) (r : Report) → reportWords r ≡ g .answer ∷ 0 ∷ 0 ∷ g .bytes ∷ 0 ∷ shownWords Nothing → Shows (goneWords g) r
 shows-gone g r e = record { are = ap placeOf e }
 
-pub ruleset saying = (shows-plain, shows-connected, shows-owned, shows-gone, needs)
+pub shows-ticked : (t : Ticked) (r : Report) → reportWords r ≡ t .answer ∷ 0 ∷ 0 ∷ t .ended ∷ 0 ∷ shownWords Nothing → Shows (tickedWords t) r
+shows-ticked t r e = record { are = ap placeOf e }
+
+pub ruleset saying = (shows-plain, shows-connected, shows-owned, shows-gone, shows-ticked, needs)
 
 -- ---- a piece: the numbers of each kind of receiver
 

@@ -6,12 +6,13 @@ use rules::Receiver;
 use rules::RuleNumbers;
 use rules::Shown;
 use rules::Taken;
+use rules::Ticked;
 use rules::rule_numbers;
 ghost use mathlib.Core.Path.{_≡_};
 ghost use mathlib.Core.List.{[], _∷_, _++_};
 ghost use Prim.Native.Nat.{_%_, _≤_};
 ghost use lib.ListN.{length, drop};
-ghost use Rattle.rules.specs.Places.{receiverWords, shownWords, plainWords, connectedWords, ownedWords, takenWords, goneWords};
+ghost use Rattle.rules.specs.Places.{receiverWords, shownWords, plainWords, connectedWords, ownedWords, takenWords, goneWords, tickedWords};
 ghost use Rattle.places.specs.Places.{placeOf, placeLength, reportWords, Shows};
 
 pub const PLACE_LENGTH: usize = 28;
@@ -89,6 +90,12 @@ pub fn gone(g: Gone) -> Report
     ensures { λ r. ⌜ Shows (goneWords g) r ⌝ }
 {
     own_report(g.answer, g.bytes, 0, Shown::Nothing)
+}
+
+pub fn ticked(t: Ticked) -> Report
+    ensures { λ r. ⌜ Shows (tickedWords t) r ⌝ }
+{
+    own_report(t.answer, t.ended, 0, Shown::Nothing)
 }
 
 // The report of a piece to that receiver.

@@ -1,9 +1,9 @@
 // The lines behind the calls: for each peer the count of waiting calls that the guard's memory has, beside what passed.
-use crate::ledger::ADMITTED;
-use crate::ledger::LEDGER_LENGTH;
-use crate::ledger::NUMBER;
-use crate::ledger::OTHERWISE;
-use crate::ledger::REPLIED;
+use crate::rows::ADMITTED;
+use crate::rows::LEDGER_LENGTH;
+use crate::rows::NUMBER;
+use crate::rows::OTHERWISE;
+use crate::rows::REPLIED;
 use memory::PENDING_AT;
 use memory::SLOT_LENGTH;
 use memory::SLOTS_AT;
@@ -30,14 +30,14 @@ fn show_slot(
 ) -> usize
     requires { ⌜ slot < 16 ⌝ }
 {
-    let number = crate::ledger::get(ledger, slot, NUMBER);
+    let number = crate::rows::get(ledger, slot, NUMBER);
     if number == 0 {
         return used;
     }
     let count = stored(memory, slot);
-    let admitted = crate::ledger::get(ledger, slot, ADMITTED);
-    let replied = crate::ledger::get(ledger, slot, REPLIED);
-    let otherwise = crate::ledger::get(ledger, slot, OTHERWISE);
+    let admitted = crate::rows::get(ledger, slot, ADMITTED);
+    let replied = crate::rows::get(ledger, slot, REPLIED);
+    let otherwise = crate::rows::get(ledger, slot, OTHERWISE);
     crate::writer::line(
         out,
         used,

@@ -1,6 +1,6 @@
 // A piece of any length, fed to the guard in the parts in which it is read.
-use crate::ledger::LEDGER_LENGTH;
-use crate::reader::Reader;
+use crate::file::Reader;
+use crate::rows::LEDGER_LENGTH;
 use rules::Receiver;
 use rules::Shown;
 
@@ -64,15 +64,15 @@ fn feed_part(
     peer: u32,
     left: usize,
 ) -> Part {
-    let filled = crate::reader::fill(reader, buffer);
-    let n = crate::reader::ready(filled, left);
+    let filled = crate::file::fill(reader, buffer);
+    let n = crate::file::ready(filled, left);
     let at = filled.at;
     let taken = offer(buffer, at, n, image, memory, ledger, peer);
     let judgement = taken.judgement;
     let receiver = judgement.receiver;
     let rule = judgement.rule;
     Part {
-        reader: crate::reader::advance(filled, n),
+        reader: crate::file::advance(filled, n),
         offered: n,
         taken: taken.taken,
         answer: judgement.answer,
@@ -117,7 +117,7 @@ fn finish(last: Part, buffer: &mut [u8], before: u64, left: usize) -> Feeding {
     let receiver = last.receiver;
     let rule = last.rule;
     Feeding {
-        reader: crate::reader::skip(last.reader, buffer, left - offered),
+        reader: crate::file::skip(last.reader, buffer, left - offered),
         taken: std::num::wrapping_add_u64(before, last.taken as u64),
         answer: last.answer,
         receiver,

@@ -15,10 +15,10 @@ use Rattle.policy.specs.Decisions.{decidesIn, connectDecision, ownDecision, tra
 use Rattle.stream.specs.Stream.{offer}
 use Rattle.rules.specs.State.{firstBy, dropFirst}
 use Rattle.rules.specs.Addresses.{digits, uniqueName, answersTo, resolve}
-use Rattle.rules.specs.Pending.{awaits, ended, endedAll}
+use Rattle.rules.specs.Pending.{awaits, ended, endedWhere, countWhere, countIn}
 use Rattle.rules.specs.Judge.{maskOf, countOf, judged}
-use Rattle.rules.specs.Calls.{connect, own, released, release, piece, disconnect}
-use Rattle.rules.specs.Bench.{CallRow, judgementRows, replies, connectRows, claimRows, pieceRows, offerings}
+use Rattle.rules.specs.Calls.{connect, own, released, release, piece, disconnect, tick}
+use Rattle.rules.specs.Bench.{CallRow, judgementRows, replies, connectRows, claimRows, pieceRows, tickRows, offerings}
 
 abbrev Holds : List CallRow → Type 0
 Holds lines = agrees (λ (given : List ℕ). given) same lines ≡ true
@@ -30,7 +30,7 @@ messages-hold = refl
 
 pub replies-hold : Holds replies
 unfolding same wordAt wordBytes deciding owns subjectFits messageOf partFits interfaceFits partsFit nameFits transactionFits transactionMatches decidesIn
-    transactionDecision firstBy dropFirst digits uniqueName answersTo resolve awaits ended endedAll judged disconnect
+    transactionDecision firstBy dropFirst digits uniqueName answersTo resolve awaits ended endedWhere judged disconnect
 replies-hold = refl
 
 pub connects-hold : Holds connectRows
@@ -42,8 +42,14 @@ unfolding same wordAt wordBytes startsWith wellKnown deciding owns subjectFits o
 claims-hold = refl
 
 pub pieces-hold : Holds pieceRows
-unfolding same offer firstBy endedAll piece disconnect
+unfolding same offer firstBy endedWhere piece disconnect
 pieces-hold = refl
+
+pub ticks-hold : Holds tickRows
+unfolding same wordAt wordBytes startsWith wellKnown deciding owns connectFits subjectFits messageOf partFits interfaceFits partsFit nameFits transactionFits
+    transactionMatches decidesIn connectDecision transactionDecision firstBy dropFirst digits uniqueName answersTo resolve awaits ended endedWhere countWhere countIn
+    judged connect released release disconnect tick
+ticks-hold = refl
 
 pub offerings-hold : Holds offerings
 unfolding same

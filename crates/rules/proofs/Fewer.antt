@@ -2,12 +2,11 @@
 use mathlib.Core.Path.{_≡_, refl}
 use mathlib.Core.Bool.{Bool, cond}
 use mathlib.Core.List.{List, [], _∷_}
-use Prim.Native.Nat.{ℕ, _≤_}
+use Prim.Native.Nat.{_≤_}
 use native.Mathlib.Omega.{arith}
-use lib.Dec.{eqb}
 use lib.ListN.{length}
 use Rattle.rules.specs.State.{Pending, dropFirst}
-use Rattle.rules.specs.Pending.{endedAll}
+use Rattle.rules.specs.Pending.{endedWhere}
 use Rattle.wire.proofs.Tests.{choice}
 
 pub data Fewer {A : Type 0} : List A → List A → Type 0 where
@@ -33,11 +32,11 @@ dropped-fewer t out rest e s k (x ∷ xs) =
     let f = dropped-fewer t out rest e s k xs in
     rw (s x xs) (choice (Fewer (x ∷ xs)) (t x) _ _ (λ p. skip (k xs f)) (λ p. keep f))
 
--- the first that passes a test taken out, and all the waits for a callee
+-- the first that passes a test taken out, and all the calls that pass one
 pub drop-fewer : {A : Type 0} (t : A → Bool) (xs : List A) → Fewer xs (dropFirst t xs)
 unfolding dropFirst
 drop-fewer t xs = dropped-fewer t (dropFirst t) (λ l. l) refl (λ x l. refl) (λ l f. all-kept l) xs
 
-pub ended-all-fewer : (callee : ℕ) (ws : List Pending) → Fewer ws (endedAll callee ws)
-unfolding endedAll
-ended-all-fewer callee ws = dropped-fewer (λ w. eqb (w .callee) callee) (endedAll callee) (endedAll callee) refl (λ w l. refl) (λ l f. f) ws
+pub ended-where-fewer : (t : Pending → Bool) (ws : List Pending) → Fewer ws (endedWhere t ws)
+unfolding endedWhere
+ended-where-fewer t ws = dropped-fewer t (endedWhere t) (endedWhere t) refl (λ w l. refl) (λ l f. f) ws

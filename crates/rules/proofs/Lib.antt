@@ -5,6 +5,7 @@ pub mod Fewer
 pub mod Any
 pub mod Waits
 pub mod Replies
+pub mod Expiry
 pub mod View
 pub mod SeenJudge
 pub mod Seen

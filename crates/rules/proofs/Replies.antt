@@ -19,7 +19,7 @@ use Rattle.policy.specs.Matching.{fieldOf}
 use Rattle.stream.specs.Stream.{Streams}
 use Rattle.rules.specs.State.{Slot, free, peer, Peer, Pending, State, isPeer, firstBy, withPending}
 use Rattle.rules.specs.Addresses.{Address, undirected, bus, slot, unknown, answersTo, found, resolve}
-use Rattle.rules.specs.Pending.{ended, removeCallsTo}
+use Rattle.rules.specs.Pending.{isTo, ended, removeCalls}
 use Rattle.rules.specs.Awaited.{isWaiting, awaited}
 use Rattle.rules.specs.Judge.{Judged, expectsReply, replyTo, reply, isReply, judged}
 use Rattle.rules.specs.Calls.{slotAt, disconnectAt, disconnect}
@@ -27,7 +27,7 @@ use Rattle.rules.specs.declared.Receiver.the-variants as to
 use Rattle.rules.proofs.First.{first-set, taken-below, number-found}
 use Rattle.wire.proofs.Tests.{choice}
 use Rattle.rules.proofs.View.{chosen}
-use Rattle.rules.proofs.Waits.{okPending, ended-ends, ended-all-ends}
+use Rattle.rules.proofs.Waits.{okPending, ended-ends, ended-to-ends}
 
 reply-low : (x : Header) → isReply x ≡ true → ltb 4 (x .kind) ≡ false
 reply-low x r =
@@ -117,16 +117,16 @@ second-reply image s i sender h x r ok w k again e =
 
 -- ---- nobody awaits a peer that is gone (rule 8.7)
 
-gone-slot : {S : Type 0} (n r : ℕ) (y : Slot S) → isWaiting n r (removeCallsTo n y) ≡ false
+gone-slot : {S : Type 0} (n r : ℕ) (y : Slot S) → isWaiting n r (removeCalls (isTo n) y) ≡ false
 gone-slot n r free = refl
-gone-slot n r (peer p) = ended-all-ends n r (p .pending)
+gone-slot n r (peer p) = ended-to-ends n r (p .pending)
 
 gone-at : {S : Type 0} (O : Streams S) (s : State S) (n i : ℕ) (y : Slot S) → ((p : Peer S) → y ≡ peer p → p .number ≡ n)
     → disconnectAt O s i y .result .answer ≡ 0
     → (j r : ℕ) → isWaiting n r (getD (disconnectAt O s i y .state .slots) j free) ≡ false
 gone-at O s n i free f a j r = absurd (omega arith)
 gone-at O s n i (peer p) f a j r =
-    rw (List·getD-map (removeCallsTo (p .number)) (set (s .slots) i free) j free, f p refl) (gone-slot n r (getD (set (s .slots) i free) j free))
+    rw (List·getD-map (removeCalls (isTo (p .number))) (set (s .slots) i free) j free, f p refl) (gone-slot n r (getD (set (s .slots) i free) j free))
 
 pub gone-unawaited : {S : Type 0} (O : Streams S) (s : State S) (n : ℕ) → disconnect O s n .result .answer ≡ 0
     → (j r : ℕ) → isWaiting n r (getD (disconnect O s n .state .slots) j free) ≡ false

@@ -1,23 +1,24 @@
 -- Streams seen as other streams: the calls, which are defined once over any streams, answer alike and leave states that are seen alike.
 use mathlib.Core.Path.{_≡_, refl, _∙_, ap}
-use mathlib.Core.Bool.{cond}
-use mathlib.Core.List.{List, [], _∷_}
+use mathlib.Core.Bool.{Bool, cond}
+use mathlib.Core.List.{List, [], _∷_, map}
 use Prim.Native.Nat.{ℕ, _+_}
 use lib.Dec.{ltb}
-use lib.ListN.{length}
+use lib.ListN.{length, set}
 use Rattle.header.specs.declared.Header.{Header}
 use Rattle.policy.specs.Names.{owns}
 use Rattle.policy.specs.Decisions.{connectDecision, ownDecision}
 use Rattle.stream.specs.Stream.{Verdict, more, broken, whole, Streams, Offer, bump, offer, settled}
 use Rattle.stream.specs.Steps.{follows}
 use Rattle.stream.proofs.Offers.{offer-step}
-use Rattle.rules.specs.State.{Slot, free, peer, Peer, State, isFree, isPeer, firstBy, putSlot, withNames, withStream}
+use Rattle.rules.specs.State.{Pending, Slot, free, peer, Peer, State, isFree, isPeer, firstBy, putSlot, withNames, withStream}
 use Rattle.rules.specs.Addresses.{ownable}
-use Rattle.rules.specs.Pending.{removeCallsTo}
+use Rattle.rules.specs.Pending.{isTo, expired, removeCalls, countSlot, countIn}
 use Rattle.rules.specs.Calls.{Step, stays, newcomer, noConnect, seated, connectBy, connectAt, connect, ownBy, isOwner, ownNew, ownAt, slotAt, own}
-use Rattle.rules.specs.Calls.{releaseAt, release, offered, pieceAt, piece, disconnectAt, disconnect}
+use Rattle.rules.specs.Calls.{releaseAt, release, offered, pieceAt, piece, disconnectAt, disconnect, tick}
 use Rattle.rules.specs.declared.Connected.{Connected}
 use Rattle.rules.specs.declared.Taken.{Taken}
+use Rattle.rules.specs.declared.Ticked.{Ticked}
 use Rattle.rules.specs.View.{seenPeer, seenSlot, seen, seenStep}
 use Rattle.rules.proofs.View.{chosen, map-swap, set-over, same-seen, first-seen, first-peer, long-seen, slot-seen, put-seen}
 use Rattle.rules.proofs.SeenJudge.{judged-seen}
@@ -40,6 +41,12 @@ told O o = record { verdict = o .verdict; taken = o .taken; stream = settled O (
 
 abbrev pub seenOffer : {A B : Type 0} → (A → B) → Offer A → Offer B
 seenOffer f o = record { verdict = o .verdict; taken = o .taken; stream = f (o .stream) }
+
+-- calls that ended by a test
+removed-seen : {A B : Type 0} (f : A → B) (t : Pending → Bool) (l : List (Slot A))
+    → map (removeCalls t) (map (seenSlot f) l) ≡ map (seenSlot f) (map (removeCalls t) l)
+removed-seen f t l =
+    map-swap (seenSlot f) (removeCalls t) (removeCalls t) (same-seen f (λ y. seenSlot f (removeCalls t y)) (removeCalls t) refl (λ q. refl)) l
 
 module _ {A B : Type 0} (OA : Streams A) (OB : Streams B) (f : A → B) (h : Simulates OA OB f) where
   pub offer-seen : (s : A) (p : List ℕ) → told OB (offer OB (f s) p) ≡ seenOffer f (told OA (offer OA s p))
@@ -110,8 +117,7 @@ module _ {A B : Type 0} (OA : Streams A) (OB : Streams B) (f : A → B) (h : Sim
   disconnect-at s i (peer p) =
       rw (
         set-over (seenSlot f) (s .slots) i free,
-        map-swap (seenSlot f) (removeCallsTo (p .number)) (removeCallsTo (p .number))
-            (same-seen f (λ y. seenSlot f (removeCallsTo (p .number) y)) (removeCallsTo (p .number)) refl (λ q. refl)),
+        removed-seen f (isTo (p .number)) (set (s .slots) i free),
         h .count (p .stream),
       )
 
@@ -119,7 +125,7 @@ module _ {A B : Type 0} (OA : Streams A) (OB : Streams B) (f : A → B) (h : Sim
   unfolding disconnect
   disconnect-seen s n = let i = firstBy (isPeer n) (s .slots) in rw (first-peer f s n, slot-seen f s i) (disconnect-at s i (slotAt s i))
 
--- ---- own and release, which know nothing of streams
+-- ---- tick, own and release, which know nothing of streams
 
 module _ {A B : Type 0} (f : A → B) (s : State A) where
   abbrev z : State B
@@ -158,3 +164,13 @@ module _ {A B : Type 0} (f : A → B) (s : State A) where
   pub release-seen : (n : ℕ) (name : List ℕ) → release (seen f s) n name ≡ seenStep f (release s n name)
   unfolding release
   release-seen n name = let i = firstBy (isPeer n) (s .slots) in rw (first-peer f s n, slot-seen f s i) (release-at i (slotAt s i) name)
+
+  count-seen : (t : Pending → Bool) (l : List (Slot A)) → countIn t (map (seenSlot f) l) ≡ countIn t l
+  unfolding countIn
+  count-seen t [] = refl
+  count-seen t (x ∷ l) = rw (same-seen f (countSlot t) (countSlot t) refl (λ p. refl) x, count-seen t l)
+
+  pub tick-seen : (now limit : ℕ) → tick (seen f s) now limit ≡ seenStep f (tick s now limit)
+  unfolding tick
+  tick-seen now limit =
+      rw (removed-seen f (expired now limit) (s .slots), count-seen (expired now limit) (s .slots)) (search (chosen (seenStep f {R = Ticked})))

@@ -67,4 +67,4 @@ module _ {A B : Type 0} (f : A → B) where
     -- ---- what is put
 
     pub put-seen : (i : ℕ) (x : Slot A) → putSlot (seen f s) i (seenSlot f x) ≡ seen f (putSlot s i x)
-    put-seen i x = ap (λ (l : List (Slot B)). record { last = s .last; slots = l }) (set-over (seenSlot f) (s .slots) i x)
+    put-seen i x = ap (λ (l : List (Slot B)). record { last = s .last; tick = s .tick; slots = l }) (set-over (seenSlot f) (s .slots) i x)

@@ -1,23 +1,24 @@
 -- A peer's pending calls, as a list: what is good in it by itself, and what one more and some fewer leave.
 use mathlib.Core.Path.{_≡_, refl, sym}
 use mathlib.Core.Logic.{inl, inr}
-use mathlib.Core.Bool.{Bool, true, false}
+use mathlib.Core.Bool.{Bool, true, false, not, _&&_, and-true, and-false}
 use mathlib.Core.List.{List, [], _∷_, _++_}
-use Prim.Native.Nat.{ℕ, _≤_}
+use Prim.Native.Nat.{ℕ, _+_, _≤_}
+use native.Mathlib.Omega.{arith}
 use lib.Dec.{ltb, leb, eqb}
 use lib.ListN.{length}
 use borrow.Author.Tests.{eq-eqb, eqb-true, le-leb}
-use Rattle.wire.specs.Lists.{distinct}
+use Rattle.wire.specs.Lists.{any, distinct}
 use Rattle.wire.proofs.Texts.{both-first, both-second, either}
 use Rattle.rules.specs.State.{Pending, firstBy, dropFirst}
-use Rattle.rules.specs.Pending.{isCall, sameCall, awaits, ended, endedAll}
-use Rattle.wire.proofs.Tests.{clash, or-grow, choice}
+use Rattle.rules.specs.Pending.{isCall, sameCall, isTo, awaits, ended, endedWhere, countWhere}
+use Rattle.wire.proofs.Tests.{clash, by-test, or-grow, choice}
 use Rattle.rules.proofs.First.{first-any}
 use Rattle.rules.proofs.Fewer.{Fewer}
 use Rattle.rules.proofs.Any.{any-fewer, first-once, rest-distinct, distinct-snoc}
 
-abbrev pub call : ℕ → ℕ → Pending
-call callee serial = record { callee = callee; serial = serial }
+abbrev pub call : ℕ → ℕ → ℕ → Pending
+call callee serial tick = record { callee = callee; serial = serial; tick = tick }
 
 -- ---- one pending call
 
@@ -45,16 +46,16 @@ abbrev pub okPending : List Pending → Bool
 okPending ws = distinct hasSerial sameCall ws
 
 -- a call waits by its own numbers alone
-turned : (w : Pending) (c s : ℕ) → isCall (w .callee) (w .serial) (call c s) ≡ true → isCall c s w ≡ true
-turned w c s h =
+turned : (w : Pending) (c s k : ℕ) → isCall (w .callee) (w .serial) (call c s k) ≡ true → isCall c s w ≡ true
+turned w c s k h =
     rw (
-      eq-eqb (w .callee) c (sym (call-callee (w .callee) (w .serial) (call c s) h)),
-      eq-eqb (w .serial) s (sym (call-serial (w .callee) (w .serial) (call c s) h)),
+      eq-eqb (w .callee) c (sym (call-callee (w .callee) (w .serial) (call c s k) h)),
+      eq-eqb (w .serial) s (sym (call-serial (w .callee) (w .serial) (call c s k) h)),
     )
 
-pub ok-snoc : (ws : List Pending) (c s : ℕ) → okPending ws ≡ true → 1 ≤ s → awaits c s ws ≡ false → okPending (ws ++ (call c s ∷ [])) ≡ true
+pub ok-snoc : (ws : List Pending) (c s k : ℕ) → okPending ws ≡ true → 1 ≤ s → awaits c s ws ≡ false → okPending (ws ++ (call c s k ∷ [])) ≡ true
 unfolding awaits
-ok-snoc ws c s e p n = distinct-snoc hasSerial sameCall (call c s) (le-leb 1 s p) (λ w h. turned w c s h) ws e n
+ok-snoc ws c s k e p n = distinct-snoc hasSerial sameCall (call c s k) (le-leb 1 s p) (λ w h. turned w c s k h) ws e n
 
 pub awaits-fewer : {ws vs : List Pending} → Fewer ws vs → (c s : ℕ) → awaits c s vs ≡ true → awaits c s ws ≡ true
 unfolding awaits
@@ -70,7 +71,7 @@ ended-ends c s (w ∷ ws) e =
     (λ p. rw p (ended-ends c s ws (rest-distinct hasSerial sameCall w ws e)))
 
 -- the other calls still wait
-pub ended-keeps : (c s d r : ℕ) (ws : List Pending) → (isCall c s (call d r) ≡ false) → awaits d r ws ≡ true → awaits d r (ended c s ws) ≡ true
+pub ended-keeps : (c s d r : ℕ) (ws : List Pending) → (isCall c s (call d r 0) ≡ false) → awaits d r ws ≡ true → awaits d r (ended c s ws) ≡ true
 unfolding awaits ended dropFirst
 ended-keeps c s d r [] n h = h
 ended-keeps c s d r (w ∷ ws) n h =
@@ -80,10 +81,28 @@ ended-keeps c s d r (w ∷ ws) n h =
     [ inl q ↦ absurd (clash p (rw (call-callee d r w q, call-serial d r w q) n)) | inr q ↦ q ])
     (λ p. or-grow (isCall d r w) (awaits d r ws) (awaits d r (ended c s ws)) later h)
 
+-- ---- ended by a test, which is the callee's for a disconnect and the age's for a tick
+
+-- a call is pending still exactly where it was, and did not pass the test
+pub ended-where-awaits : (t : Pending → Bool) (c s : ℕ) (ws : List Pending) → awaits c s (endedWhere t ws) ≡ any (λ w. isCall c s w && not (t w)) ws
+unfolding awaits endedWhere
+ended-where-awaits t c s [] = refl
+ended-where-awaits t c s (w ∷ ws) =
+    let ih = ended-where-awaits t c s ws in
+    by-test (t w) (λ p. rw (p, and-false, ih)) (λ p. rw (p, and-true, ih))
+
 -- a callee that is gone is awaited no longer
-pub ended-all-ends : (c s : ℕ) (ws : List Pending) → awaits c s (endedAll c ws) ≡ false
-unfolding awaits endedAll
-ended-all-ends c s [] = refl
-ended-all-ends c s (w ∷ ws) =
-    let ih = ended-all-ends c s ws in
-    choice (λ (l : List Pending). awaits c s l ≡ false) (eqb (w .callee) c) _ _ (λ p. ih) (λ p. rw p ih)
+pub ended-to-ends : (c s : ℕ) (ws : List Pending) → awaits c s (endedWhere (isTo c) ws) ≡ false
+unfolding awaits endedWhere
+ended-to-ends c s [] = refl
+ended-to-ends c s (w ∷ ws) =
+    let ih = ended-to-ends c s ws in
+    choice (λ (l : List Pending). awaits c s l ≡ false) (isTo c w) _ _ (λ p. ih) (λ p. rw p ih)
+
+-- those that ended and those that stay are all
+pub ended-where-count : (t : Pending → Bool) (ws : List Pending) → length (endedWhere t ws) + countWhere t ws ≡ length ws
+unfolding endedWhere countWhere
+ended-where-count t [] = refl
+ended-where-count t (w ∷ ws) =
+    let ih = ended-where-count t ws in
+    by-test (t w) (λ p. rw p (omega (arith, ih))) (λ p. rw p (omega (arith, ih)))

@@ -1,4 +1,4 @@
--- Worked examples of the judgement and of the calls, as a table of six parts. Peers 1 and 2 are in the first two of sixteen slots, and streams are
+-- Worked examples of the judgement and of the calls, as a table of seven parts. Peers 1 and 2 are in the first two of sixteen slots, and streams are
 -- made up: they count their bytes, and the third one breaks the message.
 use mathlib.Core.Bool.{cond}
 use mathlib.Core.List.{List, [], _∷_, _++_}
@@ -15,12 +15,13 @@ use Rattle.policy.specs.Table.{citesNone, citesInterface, connectRuleBytes, own
 use Rattle.stream.specs.Stream.{more, broken, Streams}
 use Rattle.rules.specs.State.{free, peer, Peer, Pending, State}
 use Rattle.rules.specs.Judge.{Judged, refusal, bit, judged}
-use Rattle.rules.specs.Calls.{Step, connect, own, release, piece, disconnect}
+use Rattle.rules.specs.Calls.{Step, empty, connect, own, release, piece, disconnect, tick}
 use Rattle.rules.specs.Places.{receiverWords, shownWords, goesOn}
 use Rattle.rules.specs.declared.Connected.{Connected}
 use Rattle.rules.specs.declared.Owned.{Owned}
 use Rattle.rules.specs.declared.Taken.{Taken}
 use Rattle.rules.specs.declared.Gone.{Gone}
+use Rattle.rules.specs.declared.Ticked.{Ticked}
 
 -- ---- images
 
@@ -73,8 +74,11 @@ nameAx = bytes "org.a.x"
 abbrev pub nameBy : List ℕ
 nameBy = bytes "org.b.y"
 
+abbrev pub toTwoAt : ℕ → ℕ → Pending
+toTwoAt serial at = record { callee = 2; serial = serial; tick = at }
+
 abbrev pub toTwo : ℕ → Pending
-toTwo serial = record { callee = 2; serial = serial }
+toTwo serial = toTwoAt serial 0
 
 -- calls to peer 2 of the serials 1 to n
 abbrev pub callsToTwo : ℕ → List Pending
@@ -90,7 +94,7 @@ abbrev pub two : Peer ℕ
 two = record { number = 2; uid = 8; gids = []; pending = []; names = nameBy ∷ []; stream = 3 }
 
 abbrev pub with : List Pending → List (List ℕ) → State ℕ
-with pending names = record { last = 2; slots = peer (one pending names) ∷ peer two ∷ replicate 14 free }
+with pending names = record { last = 2; tick = 10; slots = peer (one pending names) ∷ peer two ∷ replicate 14 free }
 
 -- peer 1 awaits the reply of peer 2 to serial 9
 abbrev pub waiting : State ℕ
@@ -100,9 +104,13 @@ waiting = with (toTwo 9 ∷ []) (nameAx ∷ [])
 abbrev pub full : State ℕ
 full = with (callsToTwo 16) (nameAx ∷ bytes "n.a" ∷ bytes "n.b" ∷ bytes "n.c" ∷ [])
 
+-- at tick 10 it has calls of the ages 7, 3 and 0
+abbrev pub aged : State ℕ
+aged = with (toTwoAt 1 3 ∷ toTwoAt 2 7 ∷ toTwoAt 3 10 ∷ []) (nameAx ∷ [])
+
 -- every slot is taken; `last` is the last number given
 abbrev pub crowded : ℕ → State ℕ
-crowded last = record { last = last; slots = replicate 16 (peer two) }
+crowded last = record { last = last; tick = 10; slots = replicate 16 (peer two) }
 
 -- ---- messages and judgements: a head is a zero and the destination, none where it is empty
 
@@ -133,7 +141,7 @@ fromFull flags serial = judged both full 0 (one (callsToTwo 16) (nameAx ∷ []))
 abbrev pub fromTwo : State ℕ → ℕ → ℕ → List ℕ → Judged ℕ
 fromTwo s kind serial to = judged imageOfNothing s 1 two (0 ∷ to) (header kind 0 serial to)
 
--- ---- what is reported, as numbers: of every report but those of release and disconnect the last two say who decided
+-- ---- what is reported, as numbers: of every report but those of release, disconnect and tick the last two say who decided
 
 abbrev pub judgement : Judged ℕ → List ℕ
 judgement j = j .judgement .answer ∷ (receiverWords (j .judgement .receiver) ++ shownWords (j .judgement .rule))
@@ -152,6 +160,9 @@ taking s = s .result .judgement .answer ∷ s .result .taken ∷ shownWords (s .
 
 abbrev pub parting : Step ℕ Gone → List ℕ
 parting s = s .result .answer ∷ s .result .bytes ∷ []
+
+abbrev pub ticking : Step ℕ Ticked → List ℕ
+ticking s = s .result .answer ∷ s .result .ended ∷ []
 
 -- ---- the table: what is reported, and what it should be
 
@@ -235,8 +246,8 @@ connectRows =
     (connection (connect counter imageOfNothing waiting 7 (replicate 17 0)), 37 ∷ 0 ∷ 0 ∷ unshown)
     ∷ (connection (connect counter imageOfNothing (crowded 2) 7 []), 36 ∷ 0 ∷ 0 ∷ byNone)
     ∷ (connection (connect counter mayJoin (crowded 4294967295) 7 []), 38 ∷ 0 ∷ 0 ∷ byRule 0)
-    ∷ (connection (connect counter mayJoin (record { last = 4294967295; slots = free ∷ [] }) 7 []), 39 ∷ 0 ∷ 0 ∷ byRule 0)
-    ∷ (connection (connect counter mayJoin (record { last = 4294967294; slots = free ∷ [] }) 7 []), 0 ∷ 4294967295 ∷ 0 ∷ byRule 0)
+    ∷ (connection (connect counter mayJoin (record { last = 4294967295; tick = 0; slots = free ∷ [] }) 7 []), 39 ∷ 0 ∷ 0 ∷ byRule 0)
+    ∷ (connection (connect counter mayJoin (record { last = 4294967294; tick = 0; slots = free ∷ [] }) 7 []), 0 ∷ 4294967295 ∷ 0 ∷ byRule 0)
     ∷ (connection (connect counter mayJoin waiting 7 (replicate 16 0)), 0 ∷ 3 ∷ 2 ∷ byRule 0)
     ∷ (connection (connect counter allButSeven waiting 7 []), 36 ∷ 0 ∷ 0 ∷ byRule 1)
     ∷ []
@@ -271,6 +282,32 @@ pieceRows =
     ∷ (parting (disconnect counter waiting 3), 30 ∷ 0 ∷ [])
     ∷ (parting (disconnect counter waiting 1), 0 ∷ 2 ∷ [])
     ∷ (parting (disconnect counter (disconnect counter waiting 1 .state) 1), 30 ∷ 0 ∷ [])
+    ∷ []
+
+-- tick: 41 below the last one, and not at it; a call ends at the limit and not before it; what is refused changes nothing, what is done sets the tick, no other
+-- call does, and a call that passes keeps it; the ends of u64; a late reply is 24 (rule 8.12)
+abbrev pub tickRows : List CallRow
+tickRows =
+    (ticking (tick aged 9 0), 41 ∷ 0 ∷ [])
+    ∷ (ticking (tick aged 10 0), 0 ∷ 3 ∷ [])
+    ∷ (ticking (tick aged 10 1), 0 ∷ 2 ∷ [])
+    ∷ (ticking (tick aged 10 7), 0 ∷ 1 ∷ [])
+    ∷ (ticking (tick aged 10 8), 0 ∷ 0 ∷ [])
+    ∷ (ticking (tick aged 11 8), 0 ∷ 1 ∷ [])
+    ∷ (ticking (tick (tick aged 10 7 .state) 10 0), 0 ∷ 2 ∷ [])
+    ∷ (ticking (tick (tick aged 8 0 .state) 9 0), 41 ∷ 0 ∷ [])
+    ∷ (ticking (tick (tick aged 9 0 .state) 10 0), 0 ∷ 3 ∷ [])
+    ∷ (ticking (tick (tick aged 12 100 .state) 11 0), 41 ∷ 0 ∷ [])
+    ∷ (ticking (tick empty 0 0), 0 ∷ 0 ∷ [])
+    ∷ (ticking (tick waiting 18446744073709551615 18446744073709551615), 0 ∷ 1 ∷ [])
+    ∷ (ticking (tick waiting 18446744073709551614 18446744073709551615), 0 ∷ 0 ∷ [])
+    ∷ (ticking (tick (disconnect counter aged 2 .state) 9 0), 41 ∷ 0 ∷ [])
+    ∷ (ticking (tick (connect counter mayJoin aged 7 [] .state) 9 0), 41 ∷ 0 ∷ [])
+    ∷ (ticking (tick (release aged 1 nameAx .state) 9 0), 41 ∷ 0 ∷ [])
+    ∷ (ticking (tick (fromOne both waiting call 0 1 nameBy .state) 14 4), 0 ∷ 2 ∷ [])
+    ∷ (ticking (tick (fromOne both waiting call 0 1 nameBy .state) 14 5), 0 ∷ 1 ∷ [])
+    ∷ (judgement (fromTwo (tick waiting 12 12 .state) return 9 nameAx), refusedRow 24 unshown)
+    ∷ (judgement (fromTwo (tick waiting 12 13 .state) return 9 nameAx), toPeerRow 1 unshown)
     ∷ []
 
 -- whether an offering of three bytes goes on after an answer: with bytes left, and not after 1 to 9 or 30 to 51

@@ -12,13 +12,14 @@ use Rattle.policy.specs.declared.Decider.{Decider}
 use Rattle.stream.specs.Stream.{Verdict, more, broken, whole, verdictAnswer, Streams, Offer, offer, settled}
 use Rattle.rules.specs.State.{Slot, free, peer, Peer, State, isFree, isPeer, firstBy, dropFirst, putSlot, withNames, withStream}
 use Rattle.rules.specs.Addresses.{ownable}
-use Rattle.rules.specs.Pending.{removeCallsTo}
+use Rattle.rules.specs.Pending.{isTo, expired, removeCalls, countIn}
 use Rattle.rules.specs.Judge.{refusal, judged}
 use Rattle.rules.specs.declared.Shown.the-variants.{Nothing, By}
 use Rattle.rules.specs.declared.Connected.{Connected}
 use Rattle.rules.specs.declared.Owned.{Owned}
 use Rattle.rules.specs.declared.Taken.{Taken}
 use Rattle.rules.specs.declared.Gone.{Gone}
+use Rattle.rules.specs.declared.Ticked.{Ticked}
 
 -- a call's result, and the state that it leaves
 pub record Step (S R : Type 0) : Type 0 where
@@ -28,9 +29,9 @@ pub record Step (S R : Type 0) : Type 0 where
 abbrev pub stays : {S R : Type 0} → State S → R → Step S R
 stays s r = record { state = s; result = r }
 
--- no number given, and sixteen free slots (rule 1.1)
+-- no number given, tick 0, and sixteen free slots (rule 1.1)
 abbrev pub empty : {S : Type 0} → State S
-empty = record { last = 0; slots = replicate 16 free }
+empty = record { last = 0; tick = 0; slots = replicate 16 free }
 
 -- ---- connect
 
@@ -53,7 +54,7 @@ newcomer O number uid gids = record { number = number; uid = uid; gids = gids; p
 abbrev pub seated : {S : Type 0} → Streams S → State S → ℕ → ℕ → List ℕ → Step S Connected
 seated O s i uid gids =
     record {
-      state = record { last = s .last + 1; slots = set (s .slots) i (peer (newcomer O (s .last + 1) uid gids)) };
+      state = record { last = s .last + 1; tick = s .tick; slots = set (s .slots) i (peer (newcomer O (s .last + 1) uid gids)) };
       result = record { answer = 0; number = s .last + 1; slot = i; rule = Nothing };
     }
 
@@ -170,10 +171,25 @@ abbrev pub disconnectAt : {S : Type 0} → Streams S → State S → ℕ → Slo
 disconnectAt O s i free = stays s (noGone 30)
 disconnectAt O s i (peer p) =
     record {
-      state = record { last = s .last; slots = map (removeCallsTo (p .number)) (set (s .slots) i free) };
+      state = record { last = s .last; tick = s .tick; slots = map (removeCalls (isTo (p .number))) (set (s .slots) i free) };
       result = record { answer = 0; bytes = O .count (p .stream) };
     }
 
 -- the peer with number n goes (rule 8.7)
 unfoldable pub disconnect : {S : Type 0} → Streams S → State S → ℕ → Step S Gone
 disconnect O s n = let i = firstBy (isPeer n) (s .slots) in disconnectAt O s i (slotAt s i)
+
+-- ---- tick
+
+-- a refused tick reports its answer and that no call ended (rule 8.1)
+abbrev pub noTick : ℕ → Ticked
+noTick a = record { answer = a; ended = 0 }
+
+-- 41 for a tick below the last one; else it is the last from now on, and every pending call that is at least `limit` ticks old ends (rule 8.12)
+unfoldable pub tick : {S : Type 0} → State S → ℕ → ℕ → Step S Ticked
+tick s now limit =
+    cond (ltb now (s .tick)) (stays s (noTick 41))
+    (record {
+      state = record { last = s .last; tick = now; slots = map (removeCalls (expired now limit)) (s .slots) };
+      result = record { answer = 0; ended = countIn (expired now limit) (s .slots) };
+    })

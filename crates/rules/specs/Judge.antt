@@ -59,14 +59,14 @@ toBus image s sender m =
 
 -- ---- to one peer
 
--- a call that passes and awaits its reply is the last of its caller's pending calls; 25 is tested before 26 (rule 7.8)
+-- a call that passes and awaits its reply is the last of its caller's pending calls, with the last tick; 25 is tested before 26 (rule 7.8)
 abbrev pub waits : {S : Type 0} → State S → ℕ → Peer S → Peer S → Header → Judged S
 waits s i sender receiver x =
     cond (awaits (receiver .number) (x .serial) (sender .pending)) (refused s 25)
     (cond (leb 16 (length (sender .pending))) (refused s 26)
     (passed
     (putSlot s i
-    (peer (withPending sender (sender .pending ++ (record { callee = receiver .number; serial = x .serial } ∷ [])))))
+    (peer (withPending sender (sender .pending ++ (record { callee = receiver .number; serial = x .serial; tick = s .tick } ∷ [])))))
     (to.Peer (receiver .number))))
 
 -- a call that expects a reply has bit 0 of its flags clear (rule 2.2)

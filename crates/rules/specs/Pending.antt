@@ -1,8 +1,8 @@
 -- Calls that await their replies.
-use mathlib.Core.Bool.{Bool, cond, _&&_}
+use mathlib.Core.Bool.{Bool, true, false, cond, _&&_}
 use mathlib.Core.List.{List, [], _∷_}
-use Prim.Native.Nat.{ℕ}
-use lib.Dec.{eqb}
+use Prim.Native.Nat.{ℕ, _+_, _-_}
+use lib.Dec.{eqb, leb}
 use Rattle.wire.specs.Lists.{any}
 use Rattle.rules.specs.State.{Pending, Slot, free, peer, dropFirst, withPending}
 
@@ -22,12 +22,36 @@ awaits callee serial ws = any (isCall callee serial) ws
 unfoldable pub ended : ℕ → ℕ → List Pending → List Pending
 ended callee serial ws = dropFirst (isCall callee serial) ws
 
--- every call to the callee no longer pending (rule 8.7)
-unfoldable pub endedAll : ℕ → List Pending → List Pending
-endedAll callee [] = []
-endedAll callee (w ∷ ws) = cond (eqb (w .callee) callee) (endedAll callee ws) (w ∷ endedAll callee ws)
+-- ---- calls that end without a reply: by a test, which is the callee's for a disconnect and the age's for a tick
 
--- a slot after the callee has gone (rule 8.7)
-abbrev pub removeCallsTo : {S : Type 0} → ℕ → Slot S → Slot S
-removeCallsTo callee free = free
-removeCallsTo callee (peer p) = peer (withPending p (endedAll callee (p .pending)))
+-- the call is to that callee (rule 8.7)
+abbrev pub isTo : ℕ → Pending → Bool
+isTo callee w = eqb (w .callee) callee
+
+-- the call is at least so many ticks old (rule 8.12)
+abbrev pub expired : ℕ → ℕ → Pending → Bool
+expired now limit w = leb limit (now - w .tick)
+
+-- every call that passes the test no longer pending (rules 8.7 and 8.12)
+unfoldable pub endedWhere : (Pending → Bool) → List Pending → List Pending
+endedWhere t [] = []
+endedWhere t (w ∷ ws) = cond (t w) (endedWhere t ws) (w ∷ endedWhere t ws)
+
+-- how many of them pass it (rule 8.12)
+unfoldable pub countWhere : (Pending → Bool) → List Pending → ℕ
+countWhere t [] = 0
+countWhere t (w ∷ ws) = cond (t w) (1 + countWhere t ws) (countWhere t ws)
+
+-- a slot whose calls that pass the test have ended (rules 8.7 and 8.12)
+abbrev pub removeCalls : {S : Type 0} → (Pending → Bool) → Slot S → Slot S
+removeCalls t free = free
+removeCalls t (peer p) = peer (withPending p (endedWhere t (p .pending)))
+
+-- how many of a slot's calls pass the test, and how many of all slots' (rule 8.12)
+abbrev pub countSlot : {S : Type 0} → (Pending → Bool) → Slot S → ℕ
+countSlot t free = 0
+countSlot t (peer p) = countWhere t (p .pending)
+
+unfoldable pub countIn : {S : Type 0} → (Pending → Bool) → List (Slot S) → ℕ
+countIn t [] = 0
+countIn t (x ∷ l) = countSlot t x + countIn t l

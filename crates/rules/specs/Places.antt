@@ -13,6 +13,7 @@ use Rattle.rules.specs.declared.Connected.{Connected}
 use Rattle.rules.specs.declared.Owned.{Owned}
 use Rattle.rules.specs.declared.Taken.{Taken}
 use Rattle.rules.specs.declared.Gone.{Gone}
+use Rattle.rules.specs.declared.Ticked.{Ticked}
 
 -- a receiver's kind, the peer's number or the mask, and the count of set slots (rule 7.4)
 abbrev pub receiverWords : Receiver → List ℕ
@@ -42,6 +43,9 @@ takenWords r = r .judgement .answer ∷ r .taken ∷ (receiverWords (r .judgemen
 
 abbrev pub goneWords : Gone → List ℕ
 goneWords r = r .answer ∷ 0 ∷ 0 ∷ r .bytes ∷ 0 ∷ 0 ∷ 0 ∷ []
+
+abbrev pub tickedWords : Ticked → List ℕ
+tickedWords r = r .answer ∷ 0 ∷ 0 ∷ r .ended ∷ 0 ∷ 0 ∷ 0 ∷ []
 
 -- ---- the calls of an offering (rule 9.5)
 

@@ -5,10 +5,11 @@ use Prim.Native.Nat.{ℕ, suc}
 use lib.Dec.{eqb}
 use lib.ListN.{set}
 
--- a call that awaits its reply: its caller keeps it, so that its callee and its serial say which it is (rule 1.2)
+-- a call that awaits its reply: its caller keeps it, so that its callee and its serial say which it is; and the tick at which it passed (rule 1.2)
 pub record Pending : Type 0 where
   pub callee : ℕ
   pub serial : ℕ
+  pub tick : ℕ
 
 -- a connected peer (rule 1.1)
 pub record Peer (S : Type 0) : Type 0 where
@@ -24,9 +25,10 @@ pub data Slot (S : Type 0) : Type 0 where
   free : Slot S
   peer : Peer S → Slot S
 
--- the last number that was given to a peer, and the slots (rule 1.1)
+-- the last number that was given to a peer, the last tick, and the slots (rule 1.1)
 pub record State (S : Type 0) : Type 0 where
   pub last : ℕ
+  pub tick : ℕ
   pub slots : List (Slot S)
 
 abbrev pub isFree : {S : Type 0} → Slot S → Bool
@@ -50,7 +52,7 @@ dropFirst t (x ∷ xs) = cond (t x) xs (x ∷ dropFirst t xs)
 
 -- slot i put
 abbrev pub putSlot : {S : Type 0} → State S → ℕ → Slot S → State S
-putSlot s i x = record { last = s .last; slots = set (s .slots) i x }
+putSlot s i x = record { last = s .last; tick = s .tick; slots = set (s .slots) i x }
 
 -- a peer with other names, pending calls or stream
 abbrev pub withNames : {S : Type 0} → Peer S → List (List ℕ) → Peer S

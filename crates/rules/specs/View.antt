@@ -13,7 +13,7 @@ module _ {A B : Type 0} (f : A → B) where
   seenSlot (peer p) = peer (seenPeer p)
 
   abbrev pub seen : State A → State B
-  seen s = record { last = s .last; slots = map seenSlot (s .slots) }
+  seen s = record { last = s .last; tick = s .tick; slots = map seenSlot (s .slots) }
 
   abbrev pub seenJudged : Judged A → Judged B
   seenJudged j = record { judgement = j .judgement; state = seen (j .state) }

@@ -9,7 +9,7 @@ ghost use Rattle.policy.specs.Decisions.{deciderWords};
 ghost use Rattle.rules.specs.Addresses.{ownable};
 ghost use Rattle.rules.specs.Judge.{refusal, judgementBy};
 ghost use Rattle.rules.specs.Places.{shownWords, isStop};
-ghost use Rattle.rules.specs.Calls.{noConnect, connectedBy, noOwn, noPiece, noGone};
+ghost use Rattle.rules.specs.Calls.{noConnect, connectedBy, noOwn, noPiece, noGone, noTick};
 
 // Who receives a message: nobody, the bus itself, the peer of a number, or the slots of a mask, with their count.
 pub enum Receiver {
@@ -68,6 +68,12 @@ pub struct Batch {
 pub struct Gone {
     pub answer: u8,
     pub bytes: u32,
+}
+
+// What a tick reports: how many pending calls ended.
+pub struct Ticked {
+    pub answer: u8,
+    pub ended: u32,
 }
 
 pub fn refused(answer: u8) -> Judgement
@@ -141,6 +147,12 @@ pub fn no_gone(answer: u8) -> Gone
     ensures { λ r. ⌜ r ≡ noGone answer ⌝ }
 {
     Gone { answer, bytes: 0 }
+}
+
+pub fn no_tick(answer: u8) -> Ticked
+    ensures { λ r. ⌜ r ≡ noTick answer ⌝ }
+{
+    Ticked { answer, ended: 0 }
 }
 
 // 1 and the rule's position, or 2 and 0 where no rule matches.

@@ -11,13 +11,13 @@ use lib.Seq.{getD-take, getD-drop, drop-drop, take-take}
 use borrow.Author.Needs.{needs}
 use borrow.Author.Tests.{lt-ltb, le-ltb}
 use Rattle.wire.specs.Bytes.{front, same}
-use Rattle.wire.specs.Words.{wordAt}
+use Rattle.wire.specs.Words.{wordAt, longAt}
 use Rattle.wire.specs.declared.Order.the-variants.{Little}
 use Rattle.wire.proofs.Parts.{drop-take}
 use Rattle.policy.specs.Names.{nameLimit, nameOf, owns, nameWidth}
 use Rattle.rules.specs.State.{firstBy}
 use Rattle.rules.proofs.First.{first-any}
-use Rattle.memory.specs.Layout.{slotStart, pendingAt, firstCallee, firstSerial, callWidth, namesAt, firstName, callRoom, nameRoom}
+use Rattle.memory.specs.Layout.{slotStart, pendingAt, firstCallee, firstSerial, firstTick, callWidth, namesAt, firstName, callRoom, nameRoom}
 use Rattle.memory.proofs.Reading.{name-next, pending-next, names-many, pending-many}
 use Rattle.slots.specs.Slots.{peerAt, nameAt}
 
@@ -40,11 +40,13 @@ pub calls-next : (m : List ℕ) (i j : ℕ) → j < length (peerAt m i .pending)
     ≡ record {
       callee = wordAt Little m (slotStart i + (firstCallee + callWidth * j));
       serial = wordAt Little m (slotStart i + (firstSerial + callWidth * j));
+      tick = longAt m (slotStart i + (firstTick + callWidth * j));
     } ∷ drop (j + 1) (peerAt m i .pending)
 calls-next m i j h =
     let k : slotStart i + firstCallee + callWidth * j ≡ slotStart i + (firstCallee + callWidth * j) = omega arith in
     let o : slotStart i + firstSerial + callWidth * j ≡ slotStart i + (firstSerial + callWidth * j) = omega arith in
-    pending-next m (slotStart i) j h ∙ rw (k, o)
+    let q : slotStart i + firstTick + callWidth * j ≡ slotStart i + (firstTick + callWidth * j) = omega arith in
+    pending-next m (slotStart i) j h ∙ rw (k, o, q)
 
 -- how many they are
 pub names-counted : (m : List ℕ) (i n r : ℕ) → n ≡ wordAt Little m (slotStart i + namesAt) → r ≡ min n nameRoom → r ≡ length (peerAt m i .names)

@@ -8,11 +8,11 @@ use native.Mathlib.Nat.{add-zero}
 use lib.Dec.{eqb}
 use lib.ListN.{length, drop, drop-of-length-le}
 use borrow.Author.Needs.{needs}
-use Rattle.wire.specs.Words.{wordAt}
+use Rattle.wire.specs.Words.{wordAt, longAt}
 use Rattle.wire.specs.declared.Order.the-variants.{Little}
 use Rattle.rules.specs.State.{firstBy}
 use Rattle.rules.specs.Pending.{isCall}
-use Rattle.memory.specs.Layout.{slotStart, firstCallee, firstSerial, callWidth, callRoom}
+use Rattle.memory.specs.Layout.{slotStart, firstCallee, firstSerial, firstTick, callWidth, callRoom}
 use Rattle.slots.specs.Slots.{peerAt, CallAt}
 use Rattle.slots.proofs.Cells.{calls-next}
 
@@ -33,7 +33,8 @@ module _ {m : List ℕ} {i callee serial from count j : ℕ} (s : Seeking m i ca
   module _ (h : j < count) {p q : ℕ} (e : p ≡ wordAt Little m (slotStart i + (firstCallee + callWidth * j)))
       (f : q ≡ wordAt Little m (slotStart i + (firstSerial + callWidth * j))) where
     -- call j, and those after it
-    here : drop j (peerAt m i .pending) ≡ record { callee = p; serial = q } ∷ drop (j + 1) (peerAt m i .pending)
+    here : drop j (peerAt m i .pending)
+        ≡ record { callee = p; serial = q; tick = longAt m (slotStart i + (firstTick + callWidth * j)) } ∷ drop (j + 1) (peerAt m i .pending)
     here = calls-next m i j (omega (arith, s .long)) ∙ rw (← e, ← f)
 
     pub seeking-hit : eqb p callee && eqb q serial ≡ true → CallAt m i callee serial from j

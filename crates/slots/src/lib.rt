@@ -14,11 +14,12 @@ use memory::NAMES_AT;
 use memory::PENDING_AT;
 use memory::SLOT_LENGTH;
 use memory::SLOTS_AT;
+use memory::TICK_AT;
 use wire::Order;
 ghost use mathlib.Core.Path.{_≡_};
 ghost use Prim.Native.Nat.{_+_, _*_, _≤_, _<_};
 ghost use lib.ListN.{length, drop, getD};
-ghost use Rattle.wire.specs.Words.{wordAt};
+ghost use Rattle.wire.specs.Words.{wordAt, longAt};
 ghost use Rattle.wire.specs.declared.Order.the-variants.{Little};
 ghost use Rattle.rules.specs.State.{isFree, isPeer};
 ghost use Rattle.rules.specs.Calls.{slotAt, isOwner};
@@ -42,6 +43,14 @@ pub fn word_at(memory: &[u8], i: usize, place: usize) -> u32
     wire::u32_at(Order::Little, memory, SLOTS_AT + SLOT_LENGTH * i + place)
 }
 
+// The number of eight bytes at a place of slot i.
+pub fn long_at(memory: &[u8], i: usize, place: usize) -> u64
+    requires { ⌜ (length (now memory) ≡ memoryLength) × (i < 16) × (place + 8 ≤ slotLength) ⌝ }
+    ensures { λ r. ⌜ (r ≡ longAt (now (memory .entry)) (slotStart i + place)) × (r < 18446744073709551616) ⌝ }
+{
+    wire::u64_at(memory, SLOTS_AT + SLOT_LENGTH * i + place)
+}
+
 // The number in slot i, 0 where it is free.
 pub fn number_at(memory: &[u8], i: usize) -> u32
     requires { ⌜ (length (now memory) ≡ memoryLength) × (i < 16) ⌝ }
@@ -56,6 +65,14 @@ pub fn last_of(memory: &[u8]) -> u32
     ensures { λ r. ⌜ (r ≡ stateOf (now (memory .entry)) .last) × (r < 4294967296) ⌝ }
 {
     wire::u32_at(Order::Little, memory, 0)
+}
+
+// The last tick.
+pub fn tick_of(memory: &[u8]) -> u64
+    requires { ⌜ length (now memory) ≡ memoryLength ⌝ }
+    ensures { λ r. ⌜ (r ≡ stateOf (now (memory .entry)) .tick) × (r < 18446744073709551616) ⌝ }
+{
+    wire::u64_at(memory, TICK_AT)
 }
 
 // The first slot from `from` on whose peer has this number, or 16.

@@ -1,4 +1,4 @@
--- What a call answers on good memory, over any streams whose faults are 1 to 9: at most 40; and from 30 on it leaves the state as it was and reports its
+-- What a call answers on good memory, over any streams whose faults are 1 to 9: at most 41; and from 30 on it leaves the state as it was and reports its
 -- answer and who decided alone (rules 8.1 and 8.10).
 use mathlib.Core.Path.{_≡_, refl, ap}
 use mathlib.Core.Bool.{cond}
@@ -16,18 +16,19 @@ use Rattle.rules.specs.State.{Slot, free, peer, Peer, State, isFree, isPeer, fi
 use Rattle.rules.specs.Addresses.{ownable}
 use Rattle.rules.specs.Judge.{judged}
 use Rattle.rules.specs.Calls.{Step, stays, noConnect, connectBy, connectAt, connect, ownBy, ownNew, own, ownAt, slotAt, release, releaseAt}
-use Rattle.rules.specs.Calls.{noPiece, offered, pieceAt, piece, noGone, disconnect, disconnectAt}
+use Rattle.rules.specs.Calls.{noPiece, offered, pieceAt, piece, noGone, disconnect, disconnectAt, noTick, tick}
 use Rattle.rules.specs.declared.Connected.{Connected}
 use Rattle.rules.specs.declared.Owned.{Owned}
 use Rattle.rules.specs.declared.Taken.{Taken}
 use Rattle.rules.specs.declared.Gone.{Gone}
+use Rattle.rules.specs.declared.Ticked.{Ticked}
 use Rattle.wire.proofs.Tests.{choice}
 use Rattle.sound.proofs.Octets.{offer-judged}
 use Rattle.sound.proofs.Numbers.{judged-few, judged-proper}
 
 -- `say` is the answer of a report, `bare` what is left of it where nothing but its answer and who decided may stand in it
 pub record Modest {S R : Type 0} (say : R → ℕ) (bare : R → R) (s : State S) (z : Step S R) : Type 0 where
-  pub most : say (z .result) ≤ 40
+  pub most : say (z .result) ≤ 41
   pub still : 30 ≤ say (z .result) → z ≡ stays s (bare (z .result))
 
 low : {S R : Type 0} {say : R → ℕ} {bare : R → R} {s : State S} (z : Step S R) → say (z .result) < 30 → Modest say bare s z
@@ -65,6 +66,15 @@ module _ {S : Type 0} (O : Streams S) (s : State S) where
   pub disconnect-modest : (n : ℕ) → Modest (λ (r : Gone). r .answer) bareGone s (disconnect O s n)
   unfolding disconnect
   disconnect-modest n = let i = firstBy (isPeer n) (s .slots) in disconnect-at i (slotAt s i)
+
+-- ---- tick
+
+abbrev pub bareTicked : Ticked → Ticked
+bareTicked r = noTick (r .answer)
+
+pub tick-modest : {S : Type 0} (s : State S) (now limit : ℕ) → Modest (λ (r : Ticked). r .answer) bareTicked s (tick s now limit)
+unfolding tick
+tick-modest s now limit = search (choice (Modest (λ (r : Ticked). r .answer) bareTicked s), low, leb-true)
 
 -- ---- own and release
 

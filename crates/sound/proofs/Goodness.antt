@@ -1,4 +1,4 @@
--- Good memory stays good, whatever call comes, with any image and any argument (rule 10.6): uids and gids are of 32 bits, and bytes of 8.
+-- Good memory stays good, whatever call comes, with any image and any argument (rule 10.6): uids and gids are of 32 bits, ticks of 64, and bytes of 8.
 use mathlib.Core.Path.{_≡_, ap, _∙_}
 use mathlib.Core.Bool.{true}
 use mathlib.Core.List.{List}
@@ -9,21 +9,22 @@ use borrow.Author.Tests.{eq-eqb}
 use Rattle.wire.specs.Bytes.{Below}
 use Rattle.image.specs.Good.{imageAnswer}
 use Rattle.stream.specs.Tail.{Tail, tails}
-use Rattle.rules.specs.Calls.{Step, empty, noConnect, noOwn, noPiece, noGone, connect, own, release, piece, disconnect}
+use Rattle.rules.specs.Calls.{Step, empty, noConnect, noOwn, noPiece, noGone, noTick, connect, own, release, piece, disconnect, tick}
 use Rattle.rules.specs.declared.Connected.{Connected}
 use Rattle.rules.specs.declared.Owned.{Owned}
 use Rattle.rules.specs.declared.Taken.{Taken}
 use Rattle.rules.specs.declared.Gone.{Gone}
+use Rattle.rules.specs.declared.Ticked.{Ticked}
 use Rattle.wire.proofs.Tests.{choice}
 use Rattle.memory.specs.Layout.{memoryLength}
 use Rattle.memory.specs.Encoding.{stateOf}
 use Rattle.memory.specs.Good.{good}
 use Rattle.memory.specs.Sound.{Sound}
-use Rattle.memory.specs.Calls.{MemoryStep, Did, onMemory, onImage, startOn, connectOn, ownOn, releaseOn, pieceOn, disconnectOn}
+use Rattle.memory.specs.Calls.{MemoryStep, Did, onMemory, onImage, startOn, connectOn, ownOn, releaseOn, pieceOn, disconnectOn, tickOn}
 use Rattle.memory.proofs.Good.{good-sound}
 use Rattle.memory.proofs.Octets.{every-below}
 use Rattle.memory.proofs.Sound.{good-memory}
-use Rattle.sound.proofs.Keep.{empty-sound, connect-sound, own-sound, release-sound, piece-sound, disconnect-sound}
+use Rattle.sound.proofs.Keep.{empty-sound, connect-sound, own-sound, release-sound, piece-sound, disconnect-sound, tick-sound}
 
 -- ---- any call
 
@@ -68,3 +69,8 @@ module _ (m : List ℕ) (octets : Below 256 m) (g : good m ≡ true) where
   unfolding disconnectOn
   good-stays-disconnect n =
       memory-good noGone m g (disconnect tails (stateOf m) n) (disconnect-sound (stateOf m) (good-sound m octets g) n)
+
+  pub good-stays-tick : (now limit : ℕ) → now < 18446744073709551616 → {r : Ticked} {e : List ℕ} → Did (tickOn m now limit) r e → good e ≡ true
+  unfolding tickOn
+  good-stays-tick now limit h =
+      memory-good noTick m g (tick (stateOf m) now limit) (tick-sound (stateOf m) (good-sound m octets g) now limit h)

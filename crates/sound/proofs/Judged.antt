@@ -35,7 +35,7 @@ module _ {S : Type 0} (image : List ℕ) (s : State S) (i : ℕ) (sender : Peer 
     (aside : (j : ℕ) (q : Peer S) → getD (s .slots) j free ≡ peer q → isReply x ≡ false → expectsReply x ≡ false → P (passed s (to.Peer (q .number))))
     (begins : (j : ℕ) (q : Peer S) → getD (s .slots) j free ≡ peer q → expectsReply x ≡ true → awaits (q .number) (x .serial) (sender .pending) ≡ false
     → length (sender .pending) < 16
-    → P (passed (putSlot s i (peer (withPending sender (sender .pending ++ (call (q .number) (x .serial) ∷ []))))) (to.Peer (q .number))))
+    → P (passed (putSlot s i (peer (withPending sender (sender .pending ++ (call (q .number) (x .serial) (s .tick) ∷ []))))) (to.Peer (q .number))))
     (ends : (j : ℕ) (q : Peer S) → getD (s .slots) j free ≡ peer q → isReply x ≡ true → awaits (sender .number) (x .«reply_serial») (q .pending) ≡ true
     → P (passed (putSlot s j (peer (withPending q (ended (sender .number) (x .«reply_serial») (q .pending))))) (to.Peer (q .number)))) where
   reply-to : (j : ℕ) (y : Slot S) → getD (s .slots) j free ≡ y → isReply x ≡ true → P (replyTo s j sender y x)

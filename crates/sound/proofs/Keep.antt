@@ -16,11 +16,12 @@ use Rattle.stream.proofs.Good.{fresh-good}
 use Rattle.stream.specs.Tail.{Tail, closed, tails}
 use Rattle.rules.specs.State.{Peer, Slot, free, peer, State, isFree, isPeer, firstBy}
 use Rattle.rules.specs.Addresses.{ownable}
-use Rattle.rules.specs.Pending.{awaits, removeCallsTo}
+use Rattle.rules.specs.Pending.{isTo, expired, awaits, removeCalls}
 use Rattle.rules.specs.Calls.{Step, stays, empty, noConnect, newcomer, seated, connectAt, connect, ownNew, ownAt, slotAt, own}
-use Rattle.rules.specs.Calls.{releaseAt, release, offered, pieceAt, piece, disconnectAt, disconnect}
+use Rattle.rules.specs.Calls.{releaseAt, release, offered, pieceAt, piece, disconnectAt, disconnect, tick}
 use Rattle.rules.specs.declared.Connected.{Connected}
 use Rattle.rules.specs.declared.Owned.{Owned}
+use Rattle.rules.specs.declared.Ticked.{Ticked}
 use Rattle.memory.specs.Good.{goodSlots}
 use Rattle.memory.proofs.Octets.{below-every}
 use Rattle.memory.specs.Sound.{word32, narrow, octet, headOctets, Sound}
@@ -29,7 +30,7 @@ use Rattle.sound.proofs.Serial.{header-serial, offer-keeps}
 use Rattle.sound.proofs.Slots.{first-none}
 use Rattle.rules.proofs.First.{first-passes, taken-below}
 use Rattle.sound.proofs.Kept.{sound-kept, kept-sound}
-use Rattle.sound.proofs.Put.{peer-fine, put-there, New, new-kept, gone-kept}
+use Rattle.sound.proofs.Put.{peer-fine, put-there, New, new-kept, gone-kept, expired-kept}
 use Rattle.sound.proofs.Renew.{stream-sound, granted-sound, released-sound}
 use Rattle.sound.proofs.Octets.{taken-octets, offer-octets, offer-read}
 use Rattle.sound.proofs.Judged.{judged-sound}
@@ -42,13 +43,13 @@ Leaves j = Sound (j .state)
 
 pub empty-sound : Sound empty
 unfolding goodSlots narrow headOctets
-empty-sound = record { sixteen = refl; fits = omega arith; slots = refl; narrows = refl; octets = refl }
+empty-sound = record { sixteen = refl; fits = omega arith; ticks = omega arith; slots = refl; narrows = refl; octets = refl }
 
 -- ---- connect
 
 module _ (s : State Tail) (uid : ℕ) (gids : List ℕ) (g : Sound s)
     (user : uid < 4294967296) (groups : every word32 gids ≡ true) where
-  newcomer-new : length gids ≤ 16 → New (s .last) (newcomer tails (s .last + 1) uid gids)
+  newcomer-new : length gids ≤ 16 → New (s .last) (s .tick) (newcomer tails (s .last + 1) uid gids)
   unfolding distinct owns awaits
   newcomer-new l =
       let low : 1 ≤ s .last + 1 = omega arith in
@@ -58,8 +59,8 @@ module _ (s : State Tail) (uid : ℕ) (gids : List ℕ) (g : Sound s)
   seated-sound : length gids ≤ 16 → (i : ℕ) → i < length (s .slots) → isFree (getD (s .slots) i free) ≡ true → s .last < 4294967295
       → Leaves (seated tails s i uid gids)
   seated-sound l i h f n =
-      kept-sound (seated tails s i uid gids .state) (length-set (s .slots) i (peer (newcomer tails (s .last + 1) uid gids)) ∙ g .sixteen) (omega arith)
-      (new-kept (s .last) (s .slots) i (newcomer tails (s .last + 1) uid gids) h f (sound-kept g) (newcomer-new l))
+      kept-sound (seated tails s i uid gids .state) (length-set (s .slots) i (peer (newcomer tails (s .last + 1) uid gids)) ∙ g .sixteen) (omega arith) (g .ticks)
+      (new-kept (s .last) (s .tick) (s .slots) i (newcomer tails (s .last + 1) uid gids) h f (sound-kept g) (newcomer-new l))
 
   connect-at : length gids ≤ 16 → Leaves (connectAt tails s (firstBy isFree (s .slots)) uid gids)
   connect-at l = search (choice (Leaves {R = Connected}), seated-sound, ltb-true, first-passes isFree (s .slots) free)
@@ -102,12 +103,21 @@ disconnect-at : (s : State Tail) → Sound s → (i : ℕ) (x : Slot Tail) → g
 disconnect-at s g i free e = g
 disconnect-at s g i (peer p) e =
     kept-sound (disconnectAt tails s i (peer p) .state)
-    (length-map (set (s .slots) i free) (removeCallsTo (p .number)) ∙ length-set (s .slots) i free ∙ g .sixteen) (g .fits)
-    (gone-kept (s .last) (s .slots) i (p .number) (taken-below (s .slots) i p e) (sound-kept g) (rw e (eq-eqb (p .number) (p .number) refl)))
+    (length-map (set (s .slots) i free) (removeCalls (isTo (p .number))) ∙ length-set (s .slots) i free ∙ g .sixteen) (g .fits) (g .ticks)
+    (gone-kept (s .last) (s .tick) (s .slots) i (p .number) (taken-below (s .slots) i p e) (sound-kept g) (rw e (eq-eqb (p .number) (p .number) refl)))
 
 pub disconnect-sound : (s : State Tail) → Sound s → (n : ℕ) → Sound (disconnect tails s n .state)
 unfolding disconnect
 disconnect-sound s g n = let i = firstBy (isPeer n) (s .slots) in disconnect-at s g i (slotAt s i) refl
+
+-- ---- tick
+
+pub tick-sound : (s : State Tail) → Sound s → (now limit : ℕ) → now < 18446744073709551616 → Sound (tick s now limit .state)
+unfolding tick
+tick-sound s g now limit h =
+    choice (Leaves {R = Ticked}) (ltb now (s .tick)) _ _ (λ e. g)
+    (λ e. kept-sound _ (length-map (s .slots) (removeCalls (expired now limit)) ∙ g .sixteen) (g .fits) h
+    (expired-kept (expired now limit) (ltb-false now (s .tick) e) (s .slots) (sound-kept g)))
 
 -- ---- piece
 

@@ -17,11 +17,11 @@ use Rattle.sound.proofs.Slots.{nobody-at, nobody-of, somebody-at, someb
 use Rattle.sound.proofs.Names.{okNames, names-ok, names-apart, names-good}
 use Rattle.rules.specs.Awaited.{isWaiting}
 use Rattle.rules.proofs.Waits.{okPending}
-use Rattle.sound.proofs.Pending.{narrowPending, pending-ok, pending-known, pending-good}
+use Rattle.sound.proofs.Pending.{narrowPending, dated, pending-ok, pending-dated, pending-known, pending-good}
 
 -- ---- a peer by itself
 
-pub record Fine (last : ℕ) (p : Peer Tail) : Type 0 where
+pub record Fine (last tick : ℕ) (p : Peer Tail) : Type 0 where
   pub low : 1 ≤ p .number
   pub high : p .number ≤ last
   pub few-gids : length (p .gids) ≤ 16
@@ -33,63 +33,65 @@ pub record Fine (last : ℕ) (p : Peer Tail) : Type 0 where
   pub user : word32 (p .uid) ≡ true
   pub groups : every word32 (p .gids) ≡ true
   pub serials : narrowPending (p .pending) ≡ true
+  pub dates : dated tick (p .pending) ≡ true
   pub bytes : every octet (p .stream .head) ≡ true
 
-abbrev pub Alone : ℕ → Slot Tail → Type 0
-Alone last free = Unit
-Alone last (peer p) = Fine last p
+abbrev pub Alone : ℕ → ℕ → Slot Tail → Type 0
+Alone last tick free = Unit
+Alone last tick (peer p) = Fine last tick p
 
 -- ---- slots, whose callees are in `all`
 
-pub record Among (all : List (Slot Tail)) (last : ℕ) (l : List (Slot Tail)) : Type 0 where
-  pub each : (i : ℕ) → Alone last (getD l i free)
+pub record Among (all : List (Slot Tail)) (last tick : ℕ) (l : List (Slot Tail)) : Type 0 where
+  pub each : (i : ℕ) → Alone last tick (getD l i free)
   pub numbers : (n : ℕ) → Single (isPeer n) l
   pub names : (y : List ℕ) → Single (isOwner y) l
   pub callees : (i c s : ℕ) → isWaiting c s (getD l i free) ≡ true → (j : ℕ) × (isPeer c (getD all j free) ≡ true)
 
-abbrev pub Kept : ℕ → List (Slot Tail) → Type 0
-Kept last l = Among l last l
+abbrev pub Kept : ℕ → ℕ → List (Slot Tail) → Type 0
+Kept last tick l = Among l last tick l
 
 -- ---- the first slot beside those after it
 
-record Beside (all : List (Slot Tail)) (last : ℕ) (x : Slot Tail) (later : List (Slot Tail)) : Type 0 where
-  alone : Alone last x
+record Beside (all : List (Slot Tail)) (last tick : ℕ) (x : Slot Tail) (later : List (Slot Tail)) : Type 0 where
+  alone : Alone last tick x
   number : (n : ℕ) → isPeer n x ≡ true → (j : ℕ) → isPeer n (getD later j free) ≡ false
   name : (y : List ℕ) → isOwner y x ≡ true → (j : ℕ) → isOwner y (getD later j free) ≡ false
   callee : (c s : ℕ) → isWaiting c s x ≡ true → (j : ℕ) × (isPeer c (getD all j free) ≡ true)
 
-slot-beside : (all : List (Slot Tail)) (last : ℕ) (x : Slot Tail) (later : List (Slot Tail)) → goodSlot all last x later ≡ true → narrow x ≡ true
+slot-beside : (all : List (Slot Tail)) (last tick : ℕ) (x : Slot Tail) (later : List (Slot Tail)) → goodSlot all last tick x later ≡ true → narrow x ≡ true
     → headOctets x ≡ true
-    → Beside all last x later
+    → Beside all last tick x later
 unfolding narrow headOctets
-slot-beside all last free later e w o =
+slot-beside all last tick free later e w o =
     record { alone = tt; number = λ n q. absurd (false≢true q); name = λ y q. absurd (false≢true q); callee = λ c s q. absurd (false≢true q) }
-slot-beside all last (peer p) later e w o =
-    let g = peer-good all last p later e in
+slot-beside all last tick (peer p) later e w o =
+    let g = peer-good all last tick p later e in
     record {
-      alone = search (pending-ok all, names-ok later, both-first, both-second);
+      alone = search (pending-ok all tick, pending-dated all tick, names-ok later, both-first, both-second);
       number = λ n q. nobody-at (isPeer n) refl later (subst (λ (k : ℕ). nobody (isPeer k) later ≡ true) (eqb-true (p .number) n q) (g .alone));
       name = λ y q. nobody-at (isOwner y) refl later (names-apart later (p .names) (g .names) y q);
-      callee = λ c s q. somebody-at (isPeer c) all (pending-known all (p .pending) (g .pending) c s q);
+      callee = λ c s q. somebody-at (isPeer c) all (pending-known all tick (p .pending) (g .pending) c s q);
     }
 
-slot-good : (all : List (Slot Tail)) (last : ℕ) (x : Slot Tail) (later : List (Slot Tail)) → Beside all last x later → goodSlot all last x later ≡ true
-slot-good all last free later b = refl
-slot-good all last (peer p) later b =
+slot-good : (all : List (Slot Tail)) (last tick : ℕ) (x : Slot Tail) (later : List (Slot Tail)) → Beside all last tick x later → goodSlot all last tick x later ≡ true
+slot-good all last tick free later b = refl
+slot-good all last tick (peer p) later b =
     let number = nobody-of (isPeer (p .number)) later (b .number (p .number) (eq-eqb (p .number) (p .number) refl)) in
-    let pending = pending-good all (p .pending) (b .alone .waits) (λ c s q. let r = b .callee c s q in somebody-of (isPeer c) refl all (r .0) (r .1)) in
+    let pending = pending-good all tick (p .pending) (b .alone .waits) (b .alone .dates)
+    (λ c s q. let r = b .callee c s q in somebody-of (isPeer c) refl all (r .0) (r .1)) in
     let names = names-good later (p .names) (b .alone .owned) (λ y q. nobody-of (isOwner y) later (b .name y q)) in
-    good-peer all last p later (search)
+    good-peer all last tick p later (search)
 
-slot-small : (last : ℕ) (x : Slot Tail) → Alone last x → (narrow x ≡ true) × (headOctets x ≡ true)
+slot-small : (last tick : ℕ) (x : Slot Tail) → Alone last tick x → (narrow x ≡ true) × (headOctets x ≡ true)
 unfolding narrow headOctets
-slot-small last free a = (refl, refl)
-slot-small last (peer p) a = (rw (a .user, a .groups) (a .serials), a .bytes)
+slot-small last tick free a = (refl, refl)
+slot-small last tick (peer p) a = (rw (a .user, a .groups) (a .serials), a .bytes)
 
 -- ---- all of them
 
-among-cons : (all : List (Slot Tail)) (last : ℕ) (x : Slot Tail) (l : List (Slot Tail)) → Beside all last x l → Among all last l → Among all last (x ∷ l)
-among-cons all last x l b a =
+among-cons : (all : List (Slot Tail)) (last tick : ℕ) (x : Slot Tail) (l : List (Slot Tail)) → Beside all last tick x l → Among all last tick l → Among all last tick (x ∷ l)
+among-cons all last tick x l b a =
     record {
       each = elim [ zero ↦ b .alone | suc i ↦ a .each i ];
       numbers = λ n. single-head (isPeer n) x l (b .number n) (a .numbers n);
@@ -97,20 +99,20 @@ among-cons all last x l b a =
       callees = elim [ zero ↦ b .callee | suc i ↦ a .callees i ];
     }
 
-among-of : (all : List (Slot Tail)) (last : ℕ) (l : List (Slot Tail)) → goodSlots all last l ≡ true → every narrow l ≡ true → every headOctets l ≡ true
-    → Among all last l
+among-of : (all : List (Slot Tail)) (last tick : ℕ) (l : List (Slot Tail)) → goodSlots all last tick l ≡ true → every narrow l ≡ true → every headOctets l ≡ true
+    → Among all last tick l
 unfolding goodSlots
-among-of all last [] e w o =
+among-of all last tick [] e w o =
     record { each = λ i. tt; numbers = λ n i j q. absurd (false≢true q); names = λ y i j q. absurd (false≢true q); callees = λ i c s q. absurd (false≢true q) }
-among-of all last (x ∷ l) e w o =
-    among-cons all last x l
-    (slot-beside all last x l (both-first (goodSlot all last x l) (goodSlots all last l) e) (both-first (narrow x) (every narrow l) w)
+among-of all last tick (x ∷ l) e w o =
+    among-cons all last tick x l
+    (slot-beside all last tick x l (both-first (goodSlot all last tick x l) (goodSlots all last tick l) e) (both-first (narrow x) (every narrow l) w)
     (both-first (headOctets x) (every headOctets l) o))
-    (among-of all last l (both-second (goodSlot all last x l) (goodSlots all last l) e) (both-second (narrow x) (every narrow l) w)
+    (among-of all last tick l (both-second (goodSlot all last tick x l) (goodSlots all last tick l) e) (both-second (narrow x) (every narrow l) w)
     (both-second (headOctets x) (every headOctets l) o))
 
-among-rest : (all : List (Slot Tail)) (last : ℕ) (x : Slot Tail) (l : List (Slot Tail)) → Among all last (x ∷ l) → Among all last l
-among-rest all last x l a =
+among-rest : (all : List (Slot Tail)) (last tick : ℕ) (x : Slot Tail) (l : List (Slot Tail)) → Among all last tick (x ∷ l) → Among all last tick l
+among-rest all last tick x l a =
     record {
       each = λ i. a .each (suc i);
       numbers = λ n. single-rest (isPeer n) x l (a .numbers n);
@@ -118,8 +120,8 @@ among-rest all last x l a =
       callees = λ i. a .callees (suc i);
     }
 
-among-beside : (all : List (Slot Tail)) (last : ℕ) (x : Slot Tail) (l : List (Slot Tail)) → Among all last (x ∷ l) → Beside all last x l
-among-beside all last x l a =
+among-beside : (all : List (Slot Tail)) (last tick : ℕ) (x : Slot Tail) (l : List (Slot Tail)) → Among all last tick (x ∷ l) → Beside all last tick x l
+among-beside all last tick x l a =
     record {
       alone = a .each 0;
       number = λ n. single-apart (isPeer n) x l (a .numbers n);
@@ -127,24 +129,25 @@ among-beside all last x l a =
       callee = a .callees 0;
     }
 
-among-good : (all : List (Slot Tail)) (last : ℕ) (l : List (Slot Tail)) → Among all last l → goodSlots all last l ≡ true
+among-good : (all : List (Slot Tail)) (last tick : ℕ) (l : List (Slot Tail)) → Among all last tick l → goodSlots all last tick l ≡ true
 unfolding goodSlots
-among-good all last [] a = refl
-among-good all last (x ∷ l) a =
-    both-true (goodSlot all last x l) (goodSlots all last l) (slot-good all last x l (among-beside all last x l a))
-    (among-good all last l (among-rest all last x l a))
+among-good all last tick [] a = refl
+among-good all last tick (x ∷ l) a =
+    both-true (goodSlot all last tick x l) (goodSlots all last tick l) (slot-good all last tick x l (among-beside all last tick x l a))
+    (among-good all last tick l (among-rest all last tick x l a))
 
 -- ---- a sound state is one whose slots are kept
 
-pub sound-kept : {s : State Tail} → Sound s → Kept (s .last) (s .slots)
-sound-kept {s} g = among-of (s .slots) (s .last) (s .slots) (g .slots) (g .narrows) (g .octets)
+pub sound-kept : {s : State Tail} → Sound s → Kept (s .last) (s .tick) (s .slots)
+sound-kept {s} g = among-of (s .slots) (s .last) (s .tick) (s .slots) (g .slots) (g .narrows) (g .octets)
 
-pub kept-sound : (s : State Tail) → length (s .slots) ≡ 16 → s .last < 4294967296 → Kept (s .last) (s .slots) → Sound s
-kept-sound s l h k =
+pub kept-sound : (s : State Tail) → length (s .slots) ≡ 16 → s .last < 4294967296 → s .tick < 18446744073709551616 → Kept (s .last) (s .tick) (s .slots) → Sound s
+kept-sound s l h c k =
     record {
       sixteen = l;
       fits = h;
-      slots = among-good (s .slots) (s .last) (s .slots) k;
-      narrows = every-of narrow (s .slots) (λ j. slot-small (s .last) (getD (s .slots) j free) (k .each j) .0);
-      octets = every-of headOctets (s .slots) (λ j. slot-small (s .last) (getD (s .slots) j free) (k .each j) .1);
+      ticks = c;
+      slots = among-good (s .slots) (s .last) (s .tick) (s .slots) k;
+      narrows = every-of narrow (s .slots) (λ j. slot-small (s .last) (s .tick) (getD (s .slots) j free) (k .each j) .0);
+      octets = every-of headOctets (s .slots) (λ j. slot-small (s .last) (s .tick) (getD (s .slots) j free) (k .each j) .1);
     }

@@ -13,19 +13,21 @@ use Rattle.wire.specs.Bytes.{Below}
 use Rattle.image.specs.Good.{imageAnswer}
 use Rattle.stream.specs.Stream.{broken}
 use Rattle.stream.specs.Tail.{Tail, tails}
-use Rattle.rules.specs.Calls.{Step, noConnect, noOwn, noPiece, noGone}
+use Rattle.rules.specs.Calls.{Step, noConnect, noOwn, noPiece, noGone, noTick}
 use Rattle.rules.specs.declared.Connected.{Connected}
 use Rattle.rules.specs.declared.Owned.{Owned}
 use Rattle.rules.specs.declared.Taken.{Taken}
 use Rattle.rules.specs.declared.Gone.{Gone}
+use Rattle.rules.specs.declared.Ticked.{Ticked}
 use Rattle.wire.proofs.Tests.{clash, choice, by-test}
 use Rattle.memory.specs.Layout.{memoryLength}
 use Rattle.memory.specs.Encoding.{memoryOf, stateOf}
 use Rattle.memory.specs.Good.{good}
-use Rattle.memory.specs.Calls.{MemoryStep, Did, stored, unchanged, onMemory, onImage, startOn, connectOn, ownOn, releaseOn, pieceOn, disconnectOn}
+use Rattle.memory.specs.Calls.{MemoryStep, Did, stored, unchanged, onMemory, onImage, startOn, connectOn, ownOn, releaseOn, pieceOn, disconnectOn, tickOn}
 use Rattle.memory.proofs.Good.{good-is}
 use Rattle.sound.proofs.Numbers.{broken-number}
-use Rattle.sound.proofs.Answers.{Modest, bareConnected, bareTaken, bareGone, connect-modest, own-modest, release-modest, piece-modest, disconnect-modest}
+use Rattle.sound.proofs.Answers.{Modest, bareConnected, bareTaken, bareGone, bareTicked, connect-modest, own-modest, release-modest}
+use Rattle.sound.proofs.Answers.{piece-modest, disconnect-modest, tick-modest}
 
 -- ---- any call
 
@@ -97,6 +99,10 @@ module _ (m : List ℕ) (octets : Below 256 m) where
   unfolding disconnectOn
   refusal-keeps-disconnect n = memory-keeps noGone (λ a. refl) (λ a. refl) m (disconnect-modest tails (stateOf m) n) octets
 
+  pub refusal-keeps-tick : (now limit : ℕ) {r : Ticked} {e : List ℕ} → Did (tickOn m now limit) r e → 30 ≤ r .answer → Did (unchanged m (bareTicked r)) r e
+  unfolding tickOn
+  refusal-keeps-tick now limit = memory-keeps noTick (λ a. refl) (λ a. refl) m (tick-modest (stateOf m) now limit) octets
+
 -- ---- 51 exactly where memory is not good, once the image has passed
 
 module _ (m : List ℕ) where
@@ -122,3 +128,7 @@ module _ (m : List ℕ) where
   pub not-good-disconnect : (n : ℕ) {r : Gone} {e : List ℕ} → Did (disconnectOn m n) r e → (r .answer ≡ 51) ↔ (good m ≡ false)
   unfolding disconnectOn
   not-good-disconnect n = memory-51 noGone (λ a. refl) (λ a. refl) m (disconnect-modest tails (stateOf m) n)
+
+  pub not-good-tick : (now limit : ℕ) {r : Ticked} {e : List ℕ} → Did (tickOn m now limit) r e → (r .answer ≡ 51) ↔ (good m ≡ false)
+  unfolding tickOn
+  not-good-tick now limit = memory-51 noTick (λ a. refl) (λ a. refl) m (tick-modest (stateOf m) now limit)

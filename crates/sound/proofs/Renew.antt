@@ -21,24 +21,24 @@ use Rattle.rules.proofs.Fewer.{fewer-length, drop-fewer}
 use Rattle.rules.proofs.Any.{any-snoc, distinct-fewer}
 use Rattle.sound.proofs.Names as names
 use Rattle.rules.proofs.Waits as waits
-use Rattle.sound.proofs.Pending.{fewer-every, narrowPending, narrow-snoc}
+use Rattle.sound.proofs.Pending.{fewer-every, narrowCall, narrowPending, narrow-snoc, datedCall, dated, dated-snoc}
 use Rattle.rules.proofs.Waits.{call}
 use Rattle.sound.proofs.Kept.{Fine}
 use Rattle.sound.proofs.Put.{peer-fine, sound-renewed}
 
 -- the slot i of a sound state has the peer p
 module _ (s : State Tail) (i : ℕ) (p : Peer Tail) (g : Sound s) (e : getD (s .slots) i free ≡ peer p) where
-  abbrev fine : Fine (s .last) p
+  abbrev fine : Fine (s .last) (s .tick) p
   fine = peer-fine s i p g e
 
   names-renewed : (ns : List (List ℕ)) → length ns ≤ 4 → names.okNames ns ≡ true
       → ((y : List ℕ) → owns ns y ≡ true → (owns (p .names) y ≡ true) ⊎ (nobody (isOwner y) (s .slots) ≡ true)) → Sound (putSlot s i (peer (withNames p ns)))
   names-renewed ns l o h = let f = fine in sound-renewed s i p (withNames p ns) g e (search inl)
 
-  pending-renewed : (ws : List Pending) → length ws ≤ 16 → waits.okPending ws ≡ true → narrowPending ws ≡ true
+  pending-renewed : (ws : List Pending) → length ws ≤ 16 → waits.okPending ws ≡ true → narrowPending ws ≡ true → dated (s .tick) ws ≡ true
       → ((c r : ℕ) → awaits c r ws ≡ true → (awaits c r (p .pending) ≡ true) ⊎ (any (isPeer c) (s .slots) ≡ true))
       → Sound (putSlot s i (peer (withPending p ws)))
-  pending-renewed ws l o n h = let f = fine in sound-renewed s i p (withPending p ws) g e (search inl)
+  pending-renewed ws l o n d h = let f = fine in sound-renewed s i p (withPending p ws) g e (search inl)
 
   pub stream-sound : (t : Tail) → goodTail t ≡ true → every octet (t .head) ≡ true → Sound (putSlot s i (peer (withStream p t)))
   stream-sound t h b = let f = fine in sound-renewed s i p (withStream p t) g e (search inl)
@@ -58,18 +58,19 @@ module _ (s : State Tail) (i : ℕ) (p : Peer Tail) (g : Sound s) (e : getD (s .
       (λ y q. inl (names.owns-fewer f y q))
 
   pub waits-sound : (c r : ℕ) → any (isPeer c) (s .slots) ≡ true → awaits c r (p .pending) ≡ false → length (p .pending) < 16 → 1 ≤ r → r < 4294967296
-      → Sound (putSlot s i (peer (withPending p (p .pending ++ (call c r ∷ [])))))
+      → Sound (putSlot s i (peer (withPending p (p .pending ++ (call c r (s .tick) ∷ [])))))
   unfolding awaits
   waits-sound c r k n l a b =
-      pending-renewed (p .pending ++ (call c r ∷ [])) (omega (arith, length-append (p .pending) (call c r ∷ [])))
-      (waits.ok-snoc (p .pending) c r (fine .waits) a n) (narrow-snoc (p .pending) c r (fine .serials) b)
-      (λ d q h. elim (any-snoc (isCall d q) (p .pending) (call c r) h)
-      [ inl a ↦ inl a | inr a ↦ inr (rw (← waits.call-callee d q (call c r) a) k) ])
+      pending-renewed (p .pending ++ (call c r (s .tick) ∷ [])) (omega (arith, length-append (p .pending) (call c r (s .tick) ∷ [])))
+      (waits.ok-snoc (p .pending) c r (s .tick) (fine .waits) a n) (narrow-snoc (p .pending) c r (s .tick) (fine .serials) b (g .ticks))
+      (dated-snoc (s .tick) (p .pending) c r (fine .dates))
+      (λ d q h. elim (any-snoc (isCall d q) (p .pending) (call c r (s .tick)) h)
+      [ inl a ↦ inl a | inr a ↦ inr (rw (← waits.call-callee d q (call c r (s .tick)) a) k) ])
 
   pub ended-sound : (c r : ℕ) → Sound (putSlot s i (peer (withPending p (ended c r (p .pending)))))
   unfolding ended
   ended-sound c r =
       let f = drop-fewer (isCall c r) (p .pending) in
       pending-renewed (ended c r (p .pending)) (omega (arith, fewer-length f, fine .few-pending)) (distinct-fewer waits.hasSerial sameCall f (fine .waits))
-      (fewer-every _ f (fine .serials))
+      (fewer-every narrowCall f (fine .serials)) (fewer-every (datedCall (s .tick)) f (fine .dates))
       (λ d q h. inl (waits.awaits-fewer f d q h))

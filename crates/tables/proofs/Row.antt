@@ -11,7 +11,8 @@ use Rattle.wire.specs.Words.{wordBytes}
 use Rattle.wire.proofs.Words.{word-length}
 use Rattle.tables.specs.Tables.{cells}
 use Rattle.tables.proofs.Cells.{cells-length, cells-snoc}
-use Rattle.tables.proofs.Written.{put-joined, put-sized}
+use Rattle.wire.proofs.Parts.{put-joined}
+use Rattle.tables.proofs.Written.{put-sized}
 
 -- k of the words are written
 pub record Putting (s₀ ws s : List ℕ) (at k : ℕ) : Type 0 where

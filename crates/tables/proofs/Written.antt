@@ -85,14 +85,3 @@ part-cell w k i n m a h b l =
     record { inside = omega arith; room = omega arith }
 
 -- ---- two writes side by side
-
-pub put-joined : (m x y : List ℕ) (t p q : ℕ) → t + p ≤ length m → length x ≡ p
-    → take (t + p) (take t m ++ (x ++ drop (t + p) m)) ++ (y ++ drop (t + p + q) (take t m ++ (x ++ drop (t + p) m)))
-    ≡ take t m ++ ((x ++ y) ++ drop (t + (p + q)) m)
-put-joined m x y t p q h e =
-    let l : length (take t m) ≡ t = length-take-le t m (omega arith) in
-    let d = drop (t + p) m in
-    let f : t + p + q ≡ t + (p + q) = omega arith in
-    let g : drop (t + (p + q)) m ≡ drop q d = rw (← f) (sym (drop-drop q (t + p) m)) in
-    part-past (take t m) (x ++ d) y t p q l
-    ∙ rw (take-at x d p e, drop-past x d p q e, g) (ap (λ (z : List ℕ). take t m ++ z) (sym (append-assoc x y (drop q d))))

@@ -27,11 +27,11 @@ pub record RepliesTo (m : List ℕ) (i j : ℕ) (x : Header) (r : Judgement) (m�
 
 -- ---- pending calls written
 
--- one call more
+-- one call more, with the last tick
 pub record Began (m : List ℕ) (i callee serial : ℕ) (m′ : List ℕ) : Type 0 where
   pub is : m′
       ≡ memoryOf
-      (putSlot (stateOf m) i (peer (withPending (peerAt m i) (peerAt m i .pending ++ (record { callee = callee; serial = serial } ∷ [])))))
+      (putSlot (stateOf m) i (peer (withPending (peerAt m i) (peerAt m i .pending ++ (record { callee = callee; serial = serial; tick = stateOf m .tick } ∷ [])))))
 
 -- call k taken out
 pub record CallRemoved (m : List ℕ) (i k : ℕ) (m′ : List ℕ) : Type 0 where

@@ -7,25 +7,40 @@ use memory::PENDING_LENGTH;
 use memory::SERIAL_OFFSET;
 use memory::SLOT_LENGTH;
 use memory::SLOTS_AT;
+use memory::TICK_OFFSET;
 use rules::Judgement;
 use rules::Receiver;
 use rules::Shown;
 use rules::refused;
 ghost use mathlib.Core.Path.{_≡_};
-ghost use Prim.Native.Nat.{_≤_, _<_};
-ghost use lib.ListN.{length};
-ghost use Rattle.memory.specs.Layout.{callRoom};
+ghost use mathlib.Core.List.{_++_};
+ghost use Prim.Native.Nat.{_+_, _≤_, _<_};
+ghost use lib.ListN.{length, take, drop};
+ghost use Rattle.memory.specs.Layout.{callWidth, callRoom};
+ghost use Rattle.memory.specs.Encoding.{pendingBytes};
 ghost use Rattle.slots.specs.Slots.{peerAt, Seated};
 ghost use Rattle.waits.specs.Waits.{Waits, RepliesTo, Began, CallRemoved};
 
-// The peer of slot i, which has n pending calls, awaits a reply of the callee to the serial.
+// Writes a pending call at a place.
+fn put_call(memory: &mut [u8], at: usize, callee: u32, serial: u32, tick: u64)
+    requires { ⌜ at + callWidth ≤ length (now memory) ⌝ }
+    ensures { λ r.
+        ⌜ now (memory .exit) ≡ take at (now (memory .entry))
+        ++ (pendingBytes (record { callee = callee; serial = serial; tick = tick }) ++ drop (at + callWidth) (now (memory .entry))) ⌝ }
+{
+    wire::put_u32(memory, at, callee);
+    wire::put_u32(memory, at + SERIAL_OFFSET, serial);
+    wire::put_u64(memory, at + TICK_OFFSET, tick);
+}
+
+// The peer of slot i, which has n pending calls, awaits a reply of the callee to the serial from the last tick on.
 fn begin_call(memory: &mut [u8], i: usize, n: usize, callee: u32, serial: u32)
     requires { ⌜ (Seated (now memory) i) × (n ≡ length (peerAt (now memory) i .pending)) × (n < callRoom) ⌝ }
     ensures { λ r. ⌜ Began (now (memory .entry)) i callee serial (now (memory .exit)) ⌝ }
 {
+    let tick = slots::tick_of(memory);
     let at = SLOTS_AT + SLOT_LENGTH * i + FIRST_CALLEE + CALL_WIDTH * n;
-    wire::put_u32(memory, at, callee);
-    wire::put_u32(memory, at + SERIAL_OFFSET, serial);
+    put_call(memory, at, callee, serial, tick);
     wire::put_u32(
         memory,
         SLOTS_AT + SLOT_LENGTH * i + PENDING_AT,

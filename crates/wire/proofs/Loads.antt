@@ -6,13 +6,13 @@ use Prim.Native.Nat.{ℕ, _+_, _*_, _/_, _≤_, _<_}
 use native.Mathlib.Omega.{arith}
 use lib.Dec.{eqb}
 use lib.ListN.{length, take, drop, getD, length-take, length-drop}
-use lib.Seq.{take-add, drop-drop}
 use borrow.Author.Needs.{needs}
 use borrow.Author.Tests.{eq-eqb, eqb-true}
 use Rattle.wire.specs.Bytes.{allZero, same}
 use Rattle.wire.specs.Words.{joined, wordAt, wordBytes, longAt}
 use Rattle.wire.specs.declared.Order.the-variants.{Little}
 use Rattle.wire.proofs.Texts.{agree, both-first, both-second, zero-append, zero-zeros, same-append, same-eq, eq-same}
+use Rattle.wire.proofs.Longs.{eight-at}
 use Rattle.wire.proofs.Words.{Octets, octets-below, four-at, word-four, word-bytes, word-below}
 
 -- ---- eight bytes are four and four
@@ -37,9 +37,6 @@ same-two v w m n h k = agree (eqb (v + 4294967296 * w) (m + 4294967296 * n)) (eq
         let q : w ≡ n = eqb-true w n (both-second (eqb v m) (eqb w n) e) in
         eq-eqb (v + 4294967296 * w) (m + 4294967296 * n) (omega arith)
 
-eight-at : (s : List ℕ) (at : ℕ) → take 8 (drop at s) ≡ take 4 (drop at s) ++ take 4 (drop (at + 4) s)
-eight-at s at = take-add 4 4 (drop at s) ∙ rw (drop-drop 4 at s)
-
 -- ---- zero
 
 zero-four : (a b c d : ℕ) → eqb (joined a b c d) 0 ≡ allZero (a ∷ b ∷ c ∷ d ∷ [])
@@ -63,6 +60,7 @@ unfolding wordAt
 zero-word s at h = rw (four-at s at h) (zero-four (getD s at 0) (getD s (at + 1) 0) (getD s (at + 2) 0) (getD s (at + 3) 0))
 
 pub zero-long : (s : List ℕ) (at : ℕ) → Octets s → at + 8 ≤ length s → eqb (longAt s at) 0 ≡ allZero (take 8 (drop at s))
+unfolding longAt
 zero-long s at b h =
     same-two (wordAt Little s at) (wordAt Little s (at + 4)) 0 0 (small s at b) (omega arith)
     ∙ ap₂ _&&_ (zero-word s at (omega arith)) (zero-word s (at + 4) (omega arith))
@@ -83,6 +81,7 @@ module _ (x y : List ℕ) (at : ℕ) (b : Octets x) (c : Octets y) where
 
 module _ (x y : List ℕ) (at : ℕ) (b : Octets x) (c : Octets y) where
   pub same-long : at + 8 ≤ length x → at + 8 ≤ length y → eqb (longAt x at) (longAt y at) ≡ same (take 8 (drop at x)) (take 8 (drop at y))
+  unfolding longAt
   same-long h k =
       same-two (wordAt Little x at) (wordAt Little x (at + 4)) (wordAt Little y at) (wordAt Little y (at + 4)) (small x at b) (small y at c)
       ∙ ap₂ _&&_ (same-word x y at b c (omega arith) (omega arith)) (same-word x y (at + 4) b c (omega arith) (omega arith))

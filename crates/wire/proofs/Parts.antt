@@ -5,7 +5,7 @@ use Prim.Native.Nat.{ℕ, zero, suc, _+_, _-_, _≤_}
 use native.Mathlib.Omega.{arith}
 use native.Mathlib.Nat.{sub-zero, zero-sub, add-sub-cancel-left}
 use lib.ListN.{length, take, drop, replicate, take-append-drop}
-use lib.Seq.{take-at, drop-at, take-append-add, drop-append-add, take-take, drop-drop, take-add, take-nil}
+use lib.Seq.{take-at, drop-at, length-take-le, take-append-add, drop-append-add, take-take, drop-drop, take-add, take-nil}
 use Rattle.wire.specs.Bytes.{pad}
 
 pub take-past : (p q : List ℕ) (k n : ℕ) → length p ≡ k → take (k + n) (p ++ q) ≡ p ++ take n q
@@ -109,3 +109,15 @@ unfolding pad
 pad-past p q k n e =
     rw (append-assoc p q (replicate (k + n) 0), take-past p (q ++ replicate (k + n) 0) k n e)
     (ap (λ (z : List ℕ). p ++ z) (take-longer n (k + n) q (omega arith)))
+
+-- two parts put one behind the other
+pub put-joined : (m x y : List ℕ) (t p q : ℕ) → t + p ≤ length m → length x ≡ p
+    → take (t + p) (take t m ++ (x ++ drop (t + p) m)) ++ (y ++ drop (t + p + q) (take t m ++ (x ++ drop (t + p) m)))
+    ≡ take t m ++ ((x ++ y) ++ drop (t + (p + q)) m)
+put-joined m x y t p q h e =
+    let l : length (take t m) ≡ t = length-take-le t m (omega arith) in
+    let d = drop (t + p) m in
+    let f : t + p + q ≡ t + (p + q) = omega arith in
+    let g : drop (t + (p + q)) m ≡ drop q d = rw (← f) (sym (drop-drop q (t + p) m)) in
+    part-past (take t m) (x ++ d) y t p q l
+    ∙ rw (take-at x d p e, drop-past x d p q e, g) (ap (λ (z : List ℕ). take t m ++ z) (sym (append-assoc x y (drop q d))))

@@ -4,7 +4,7 @@ ghost use mathlib.Core.List.{_++_};
 ghost use Prim.Native.Nat.{_+_, _-_, _*_, _≤_, _<_, min};
 ghost use lib.ListN.{length, take, drop, replicate};
 ghost use Rattle.wire.specs.Bytes.{front, allZero, same};
-ghost use Rattle.wire.specs.Words.{joined, wordAt, longAt, wordBytes, roundUp8};
+ghost use Rattle.wire.specs.Words.{joined, wordAt, longAt, wordBytes, longBytes, roundUp8};
 
 // The byte order of a message: its first byte says which.
 pub enum Order {
@@ -78,11 +78,20 @@ fn wide_32(x: u32) -> u64
 }
 
 // The number in the eight bytes at `at`, the lowest first: the compiler makes one load of it.
-fn u64_at(s: &[u8], at: usize) -> u64
+pub fn u64_at(s: &[u8], at: usize) -> u64
     requires { ⌜ at + 8 ≤ length (now s) ⌝ }
-    ensures { λ r. ⌜ r ≡ longAt (now (s .entry)) at ⌝ }
+    ensures { λ r. ⌜ (r ≡ longAt (now (s .entry)) at) × (r < 18446744073709551616) ⌝ }
 {
     wide_32(u32_at(Order::Little, s, at)) + 4294967296 * wide_32(u32_at(Order::Little, s, at + 4))
+}
+
+// Writes x in little-endian order at `at`; every other byte stays.
+pub fn put_u64(s: &mut [u8], at: usize, x: u64)
+    requires { ⌜ at + 8 ≤ length (now s) ⌝ }
+    ensures { λ r. ⌜ now (s .exit) ≡ take at (now (s .entry)) ++ (longBytes x ++ drop (at + 8) (now (s .entry))) ⌝ }
+{
+    put_u32(s, at, (x % 4294967296) as u32);
+    put_u32(s, at + 4, (x / 4294967296) as u32);
 }
 
 fn zero_4(s: &[u8], at: usize) -> bool
@@ -171,7 +180,10 @@ pub fn is_zero(s: &[u8], from: usize, to: usize) -> bool
     if to - from < 256 {
         return zero_blocks(s, from, to, 32);
     }
-    zero_blocks(s, from, to, 256)
+    if to - from < 512 {
+        return zero_blocks(s, from, to, 256);
+    }
+    zero_blocks(s, from, to, 512)
 }
 
 fn same_4(a: &[u8], b: &[u8], at: usize) -> bool

@@ -33,17 +33,19 @@ pub enum Answer {
     SlotsFull = 38,
     NumbersUsedUp = 39,
     StreamClosed = 40,
+    TickTooLow = 41,
     BadImage = 50,
 }
 
 /// The answers that each call can give.
-pub const ANSWERS_OF_CALLS: [(&str, &[u32]); 6] = [
+pub const ANSWERS_OF_CALLS: [(&str, &[u32]); 7] = [
     ("start", &[0]),
     ("connect", &[0, 36, 37, 38, 39, 50]),
     ("own", &[0, 30, 31, 32, 33, 34, 50]),
     ("release", &[0, 30, 31, 35]),
     ("piece", &[0, 1, 2, 3, 4, 5, 6, 7, 8, 9, 10, 20, 21, 22, 23, 24, 25, 26, 30, 40, 50]),
     ("disconnect", &[0, 30]),
+    ("tick", &[0, 41]),
 ];
 
 impl Answer {

@@ -11,6 +11,7 @@ pub enum Call {
     Release { peer: u32, name: Vec<u8> },
     Piece { peer: u32, bytes: Vec<u8> },
     Disconnect { peer: u32 },
+    Tick { tick: u64, limit: u64 },
 }
 
 #[derive(Clone, Debug, Default, PartialEq, Eq)]
@@ -31,6 +32,11 @@ fn take_u32(bytes: &mut &[u8]) -> Option<u32> {
     let number = bytes.get(..4).map(|four| ByteOrder::Little.read_u32(four, 0))?;
     *bytes = &bytes[4..];
     Some(number)
+}
+
+fn take_u64(bytes: &mut &[u8]) -> Option<u64> {
+    let (low, high) = (take_u32(bytes)?, take_u32(bytes)?);
+    Some(u64::from(high) << 32 | u64::from(low))
 }
 
 fn take_bytes<'a>(bytes: &mut &'a [u8], length: u32) -> Option<&'a [u8]> {
@@ -63,6 +69,10 @@ fn read_call(rest: &mut &[u8]) -> Option<Call> {
     let mut bytes = take_bytes(rest, length)?;
     if kind == 0 {
         return bytes.is_empty().then_some(Call::Start);
+    }
+    if kind == 6 {
+        let (tick, limit) = (take_u64(&mut bytes)?, take_u64(&mut bytes)?);
+        return bytes.is_empty().then_some(Call::Tick { tick, limit });
     }
     let first = take_u32(&mut bytes)?;
     match kind {
@@ -108,5 +118,6 @@ fn call_bytes(call: &Call) -> (u32, Vec<u8>) {
         Call::Release { peer, name } => (3, join(peer, name)),
         Call::Piece { peer, bytes } => (4, join(peer, bytes)),
         Call::Disconnect { peer } => (5, join(peer, &[])),
+        Call::Tick { tick, limit } => (6, [tick.to_le_bytes(), limit.to_le_bytes()].concat()),
     }
 }

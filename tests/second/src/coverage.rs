@@ -1,7 +1,7 @@
 //! Counting what a set of captures reaches: answers by call, the cases of 7, 8, 9 and 50, what
 //! names were refused for, what unknown header fields held, what rules that name an interface
-//! did, what became of waiting calls, what was shown of the rules that decided, and what batches
-//! came to.
+//! did, what became of waiting calls, what ticks did to them, what was shown of the rules that
+//! decided, and what batches came to.
 
 use crate::answer::{Answer, Receiver, ANSWERS_OF_CALLS};
 use crate::batch_cases;
@@ -15,6 +15,7 @@ use crate::name_cases;
 use crate::name_forms::Form;
 use crate::replay::{run, Outcome};
 use crate::stream::Step;
+use crate::tick_cases::{self, Before, TickCases};
 use crate::unknown_cases;
 use crate::wait_cases::{self, WaitCases};
 use std::collections::BTreeMap;
@@ -59,13 +60,14 @@ fn wanted_cases() -> Vec<String> {
     wanted.extend(Breach::ALL.iter().map(|breach| format!("50 {breach:?}")));
     let receivers = ["the bus", "one peer", "an empty mask", "all 16 slots", "a mask"];
     wanted.extend(receivers.iter().map(|who| format!("0 to {who}")));
-    let waits = ["begins", "ends by a reply", "ends by a disconnect"];
+    let waits = ["begins", "ends by a reply", "ends by a disconnect", "ends by a tick"];
     wanted.extend(waits.iter().map(|what| format!("wait {what}")));
     wanted.push("bad capture".to_string());
     wanted.extend(name_cases::cases());
     wanted.extend(unknown_cases::cases());
     wanted.extend(interface_cases::CASES.iter().map(|case| case.to_string()));
     wanted.extend(wait_cases::CASES.iter().map(|case| case.to_string()));
+    wanted.extend(tick_cases::CASES.iter().map(|case| case.to_string()));
     wanted.extend(decider_cases::cases());
     wanted.extend(batch_cases::cases());
     wanted
@@ -130,18 +132,20 @@ impl Coverage {
             self.count_case("bad capture".to_string());
         }
         let mut guard = Guard::default();
-        let mut wait_cases = WaitCases::default();
+        let (mut wait_cases, mut tick_cases) = (WaitCases::default(), TickCases::default());
         for call in &reading.capture.calls {
-            let waits = guard.waits().len();
+            let (waits, before) = (guard.waits().len(), Before::of(&guard));
             let message = ended_by(&guard, call);
             let is_held = decider_cases::is_held(&guard, call);
             let outcome = run(&mut guard, policy.as_ref().ok(), call);
             self.count(outcome);
             self.count_waits(outcome, waits, guard.waits().len());
             self.count_cases(wait_cases.see(call, &outcome));
+            self.count_cases(tick_cases.see(&before, &guard, call, &outcome, message.as_ref()));
             self.count_cases(case_of_name(&guard, call, outcome));
             self.count_cases(case_of_unknown(&guard, call, outcome));
             let lent = policy.as_ref().ok();
+            self.count_cases(TickCases::under_bad_image(&outcome).filter(|_| lent.is_none()));
             self.count_cases(decider_cases::of_call(lent, &guard, call, &outcome, message.as_ref()));
             self.count_cases(decider_cases::of_held(&outcome).filter(|_| is_held));
             if let Some((sender, header)) = message {
@@ -152,6 +156,7 @@ impl Coverage {
         // Only a whole capture's end is shown and compared.
         if reading.is_whole {
             self.count_cases(wait_cases.at_end());
+            self.count_cases(tick_cases.at_end(&guard));
         }
         self.captures += 1;
     }
@@ -179,6 +184,7 @@ impl Coverage {
             Outcome::Piece(_) if after > before => "wait begins",
             Outcome::Piece(_) if after < before => "wait ends by a reply",
             Outcome::Disconnect(_) if after < before => "wait ends by a disconnect",
+            Outcome::Tick(_) if after < before => "wait ends by a tick",
             _ => return,
         };
         self.count_case(case.to_string());

@@ -170,7 +170,7 @@ pub fn of_call(
 
 /// What was shown, by call and answer; calls that no policy is lent to have no such cases.
 fn of_answer(outcome: &Outcome) -> Vec<String> {
-    if let Outcome::Start(_) | Outcome::Release(_) | Outcome::Disconnect(_) = outcome {
+    if let Outcome::Start(_) | Outcome::Release(_) | Outcome::Disconnect(_) | Outcome::Tick(_) = outcome {
         return Vec::new();
     }
     let shown = match outcome.decider() {

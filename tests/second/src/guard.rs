@@ -5,6 +5,7 @@ use crate::header::{HeadFault, Header, ERROR, METHOD_CALL, METHOD_RETURN, SIGNAL
 use crate::names::{is_well_known, unique_name_of, BUS_NAME};
 use crate::policy::{Credentials, Decision, Gid, Policy, Uid};
 use crate::stream::{Step, Stream};
+use crate::wait::Wait;
 use crate::wire::FixedPart;
 
 pub const SLOTS: usize = 16;
@@ -25,14 +26,6 @@ impl Peer {
     pub fn credentials(&self) -> Credentials<'_> {
         Credentials { uid: self.uid, gids: &self.gids }
     }
-}
-
-/// A call that passed and awaits its reply.
-#[derive(Clone, Copy, Debug, PartialEq, Eq)]
-pub struct Wait {
-    pub caller: u32,
-    pub callee: u32,
-    pub serial: u32,
 }
 
 /// In this and the other reports `decider` is what the policy's search came to, where the
@@ -57,8 +50,15 @@ pub struct Disconnected {
     pub bytes: u64,
 }
 
-/// What a piece call says. For people and tests: why 1 to 9 came, and how the message began
-/// that the piece ended.
+/// `ended` is how many calls wait no longer.
+#[derive(Clone, Copy, Debug, PartialEq, Eq)]
+pub struct Ticked {
+    pub answer: Answer,
+    pub ended: usize,
+}
+
+/// What a piece call says. For people, tests and the tally: why 1 to 9 came, how the message
+/// began that the piece ended, and which serial it replied to.
 #[derive(Clone, Copy, Debug, PartialEq, Eq)]
 pub struct Judged {
     pub answer: Answer,
@@ -67,11 +67,13 @@ pub struct Judged {
     pub decider: Option<Decision>,
     pub fault: Option<HeadFault>,
     pub message: Option<FixedPart>,
+    pub reply_serial: Option<u32>,
 }
 
 impl Judged {
     fn refused(answer: Answer, taken: usize) -> Judged {
-        Judged { answer, taken, receiver: Receiver::Nobody, decider: None, fault: None, message: None }
+        let (receiver, decider, fault) = (Receiver::Nobody, None, None);
+        Judged { answer, taken, receiver, decider, fault, message: None, reply_serial: None }
     }
 }
 
@@ -109,12 +111,13 @@ type Verdict = Result<(Receiver, Option<Decision>), Refusal>;
 #[derive(Clone, Debug, Default)]
 pub struct Guard {
     last_number: u32,
+    last_tick: u64,
     slots: [Option<Peer>; SLOTS],
     waits: Vec<Wait>,
 }
 
 impl Guard {
-    /// Start empties everything, the last number too.
+    /// Start empties everything, the last number and the last tick too.
     pub fn start(&mut self) -> Answer {
         *self = Guard::default();
         Answer::Done
@@ -128,12 +131,20 @@ impl Guard {
         self.peers().find(|peer| peer.number == number)
     }
 
+    pub fn peer_in(&self, slot: usize) -> Option<&Peer> {
+        self.slots[slot].as_ref()
+    }
+
     pub fn waits(&self) -> &[Wait] {
         &self.waits
     }
 
     pub fn last_number(&self) -> u32 {
         self.last_number
+    }
+
+    pub fn last_tick(&self) -> u64 {
+        self.last_tick
     }
 
     /// For tests of the last number only: no run could connect so many peers.
@@ -218,6 +229,17 @@ impl Guard {
         Disconnected { answer: Answer::Done, bytes }
     }
 
+    /// Sets the tick, then ends what has waited for at least `limit` ticks. No policy is asked.
+    pub fn tick(&mut self, tick: u64, limit: u64) -> Ticked {
+        if tick < self.last_tick {
+            return Ticked { answer: Answer::TickTooLow, ended: 0 };
+        }
+        self.last_tick = tick;
+        let before = self.waits.len();
+        self.waits.retain(|wait| wait.age(tick) < limit);
+        Ticked { answer: Answer::Done, ended: before - self.waits.len() }
+    }
+
     /// Takes bytes up to the first that breaks a head or ends a message, or all.
     pub fn piece(&mut self, policy: LentPolicy, number: u32, bytes: &[u8]) -> Judged {
         let Some(policy) = policy else {
@@ -247,7 +269,8 @@ impl Guard {
             Ok((receiver, decider)) => (Answer::Done, receiver, decider),
             Err(Refusal { answer, decider }) => (answer, Receiver::Nobody, decider),
         };
-        Judged { answer, taken, receiver, decider, fault: None, message: Some(message.fixed) }
+        let reply_serial = message.reply_serial;
+        Judged { answer, taken, receiver, decider, fault: None, message: Some(message.fixed), reply_serial }
     }
 
     /// Judges a whole message by the peers, names and waits of this moment.
@@ -307,8 +330,8 @@ impl Guard {
     fn judge_call(&mut self, policy: &Policy, caller: u32, to: &str, message: &Header) -> Verdict {
         let (callee, receive) = self.judge_directed(policy, caller, to, message)?;
         if message.fixed.expects_reply() {
-            let wait = Wait { caller, callee, serial: message.fixed.serial };
-            if self.waits.contains(&wait) {
+            let wait = Wait { caller, callee, serial: message.fixed.serial, tick: self.last_tick };
+            if self.waits.iter().any(|other| other.triple() == wait.triple()) {
                 return Err(showing(Answer::AlreadyWaits, receive));
             }
             if self.waits.iter().filter(|other| other.caller == caller).count() == MAX_WAITS {
@@ -324,9 +347,8 @@ impl Guard {
     fn judge_reply(&mut self, callee: u32, to: &str, message: &Header) -> Verdict {
         let caller = self.resolve(to).ok_or(Answer::ReplyNotAwaited)?.number;
         let serial = message.reply_serial.ok_or(Answer::ReplyNotAwaited)?;
-        let wait = Wait { caller, callee, serial };
-        let place = self.waits.iter().position(|other| *other == wait).ok_or(Answer::ReplyNotAwaited)?;
-        self.waits.remove(place);
+        let place = self.waits.iter().position(|wait| wait.triple() == (caller, callee, serial));
+        self.waits.remove(place.ok_or(Answer::ReplyNotAwaited)?);
         Ok((Receiver::Peer(caller), None))
     }
 

@@ -3,7 +3,7 @@
 //! The guard's state is kept in ordinary structs, so nothing here knows how the
 //! guard proper lays out its memory. The modules follow the paper: what stands on
 //! the wire, the name rules, the message head, the policy image, the rules of
-//! precedence, the guard's six calls, and batches of them.
+//! precedence, the guard's seven calls, and batches of them.
 
 pub mod answer;
 pub mod batch;
@@ -26,10 +26,12 @@ pub mod replay;
 pub mod signature;
 pub mod stream;
 pub mod tally;
+pub mod tick_cases;
 pub mod typed;
 pub mod unknown_cases;
 pub mod utf8;
 pub mod value;
+pub mod wait;
 pub mod wait_cases;
 pub mod wire;
 pub mod wrap;

@@ -3,7 +3,7 @@
 use crate::answer::{Answer, Receiver};
 use crate::batch::{self, Offered};
 use crate::capture::{self, Call};
-use crate::guard::{Connected, Disconnected, Guard, Judged, LentPolicy, Owned};
+use crate::guard::{Connected, Disconnected, Guard, Judged, LentPolicy, Owned, Ticked};
 use crate::image;
 use crate::policy::{Decision, Policy};
 use crate::tally::{Counts, Tally};
@@ -17,6 +17,7 @@ pub enum Outcome {
     Release(Answer),
     Piece(Judged),
     Disconnect(Disconnected),
+    Tick(Ticked),
 }
 
 pub const BAD_CAPTURE: &str = "bad capture";
@@ -29,6 +30,7 @@ pub fn run(guard: &mut Guard, policy: LentPolicy, call: &Call) -> Outcome {
         Call::Release { peer, name } => Outcome::Release(guard.release(*peer, name)),
         Call::Piece { peer, bytes } => Outcome::Piece(guard.piece(policy, *peer, bytes)),
         Call::Disconnect { peer } => Outcome::Disconnect(guard.disconnect(*peer)),
+        Call::Tick { tick, limit } => Outcome::Tick(guard.tick(*tick, *limit)),
     }
 }
 
@@ -40,6 +42,7 @@ impl Outcome {
             Outcome::Connect(connected) => connected.answer,
             Outcome::Piece(judged) => judged.answer,
             Outcome::Disconnect(disconnected) => disconnected.answer,
+            Outcome::Tick(ticked) => ticked.answer,
         }
     }
 
@@ -51,13 +54,14 @@ impl Outcome {
             Outcome::Release(_) => "release",
             Outcome::Piece(_) => "piece",
             Outcome::Disconnect(_) => "disconnect",
+            Outcome::Tick(_) => "tick",
         }
     }
 
     /// What the answer shows of the rules; some calls are never decided by one.
     pub fn decider(&self) -> Option<Decision> {
         match self {
-            Outcome::Start(_) | Outcome::Release(_) | Outcome::Disconnect(_) => None,
+            Outcome::Start(_) | Outcome::Release(_) | Outcome::Disconnect(_) | Outcome::Tick(_) => None,
             Outcome::Connect(connected) => connected.decider,
             Outcome::Own(owned) => owned.decider,
             Outcome::Piece(judged) => judged.decider,
@@ -75,6 +79,7 @@ impl Outcome {
             Outcome::Own(_) => format!("{start} {shown} {position}"),
             Outcome::Piece(judged) => piece_line(&piece_numbers(judged)),
             Outcome::Disconnect(disconnected) => format!("{start} {}", disconnected.bytes),
+            Outcome::Tick(ticked) => format!("{start} {}", ticked.ended),
         }
     }
 }

@@ -17,7 +17,7 @@ pub struct Counts {
     pub admitted: u64,
     /// Replies that were passed to the peer.
     pub replied: u64,
-    /// Waits that ended because the callee left.
+    /// Waits that ended because the callee left or because a tick found them too old.
     pub otherwise: u64,
 }
 
@@ -38,8 +38,11 @@ pub struct Sheet {
 #[derive(Clone, Debug, Default)]
 pub struct Tally {
     sheets: [Sheet; SLOTS],
-    /// Calls admitted less replies for (caller, callee): what the callee would end by leaving.
-    open: BTreeMap<(u32, u32), u64>,
+    /// The last tick that was set.
+    tick: u64,
+    /// Calls that were admitted and have not ended, by caller, callee and serial, each with the
+    /// tick of its admission.
+    open: BTreeMap<(u32, u32, u32), u64>,
 }
 
 impl Tally {
@@ -56,7 +59,7 @@ impl Tally {
 
     /// How many calls of one peer to another must still be waiting.
     pub fn open_between(&self, caller: u32, callee: u32) -> u64 {
-        self.open.get(&(caller, callee)).copied().unwrap_or(0)
+        self.open.keys().filter(|triple| (triple.0, triple.1) == (caller, callee)).count() as u64
     }
 
     /// Sees a call on the guard with what came back.
@@ -70,6 +73,9 @@ impl Tally {
                 self.leave(*peer);
             }
             (Call::Piece { peer, .. }, Outcome::Piece(judged)) => self.see_message(*peer, judged),
+            (Call::Tick { tick, limit }, Outcome::Tick(ticked)) if ticked.answer == Answer::Done => {
+                self.expire(*tick, *limit);
+            }
             _ => {}
         }
     }
@@ -78,33 +84,44 @@ impl Tally {
     fn see_message(&mut self, sender: u32, judged: &Judged) {
         let (Some(message), Some(receiver)) = (judged.message, peer_reached(judged)) else { return };
         match message.message_type {
-            METHOD_CALL if message.expects_reply() => self.admit(sender, receiver),
-            METHOD_RETURN | ERROR => self.reply(receiver, sender),
+            METHOD_CALL if message.expects_reply() => self.admit((sender, receiver, message.serial)),
+            METHOD_RETURN | ERROR => self.reply(receiver, sender, judged.reply_serial),
             _ => {}
         }
     }
 
-    fn admit(&mut self, caller: u32, callee: u32) {
-        self.count(caller, |counts| counts.admitted += 1);
-        *self.open.entry((caller, callee)).or_default() += 1;
+    fn admit(&mut self, triple: (u32, u32, u32)) {
+        self.count(triple.0, |counts| counts.admitted += 1);
+        self.open.insert(triple, self.tick);
     }
 
-    fn reply(&mut self, caller: u32, callee: u32) {
+    fn reply(&mut self, caller: u32, callee: u32, serial: Option<u32>) {
         self.count(caller, |counts| counts.replied += 1);
-        let open = self.open.entry((caller, callee)).or_default();
-        *open = open.saturating_sub(1);
+        self.open.retain(|triple, _| Some(triple.2) != serial || (triple.0, triple.1) != (caller, callee));
     }
 
     /// The others' open calls to a peer that leaves end; its own counts go with it.
     fn leave(&mut self, number: u32) {
-        for sheet in &mut self.sheets {
-            if sheet.number == number {
-                *sheet = Sheet::default();
-            } else if let Some(ended) = self.open.get(&(sheet.number, number)) {
-                sheet.counts.otherwise += ended;
-            }
+        self.end_otherwise(|triple, _| triple.1 == number);
+        self.open.retain(|triple, _| triple.0 != number);
+        for sheet in self.sheets.iter_mut().filter(|sheet| sheet.number == number) {
+            *sheet = Sheet::default();
         }
-        self.open.retain(|(caller, callee), _| *caller != number && *callee != number);
+    }
+
+    /// Open calls of at least `limit` ticks end, whoever made them.
+    fn expire(&mut self, tick: u64, limit: u64) {
+        self.tick = tick;
+        self.end_otherwise(|_, since| tick - since >= limit);
+    }
+
+    fn end_otherwise(&mut self, ends: impl Fn(&(u32, u32, u32), u64) -> bool) {
+        let ended = self.open.iter().filter(|(triple, since)| ends(triple, **since));
+        let callers: Vec<u32> = ended.map(|(triple, _)| triple.0).collect();
+        self.open.retain(|triple, since| !ends(triple, *since));
+        for caller in callers {
+            self.count(caller, |counts| counts.otherwise += 1);
+        }
     }
 
     fn count(&mut self, number: u32, add: impl Fn(&mut Counts)) {

@@ -6,6 +6,7 @@ use common::{five, image_of, OPEN};
 use second::capture::{self, Call, Capture};
 use second::generate::{generate, Mode};
 use second::guard::Guard;
+use second::message::Message;
 use second::policy::Uid;
 use second::replay::{lent_policy, replay, replay_in_batches, run, Outcome};
 use std::process::Command;
@@ -93,6 +94,44 @@ fn lines() {
     let mut broken = small_capture();
     broken.push(0);
     assert_eq!(replay_in_batches(&broken, 2), BY_TWO.to_string() + "bad capture\n");
+}
+
+/// A tick stands between batches: calls of one batch have one tick, and a batch that goes on behind it
+/// ends a message at the later one.
+#[test]
+fn ticks_between_batches() {
+    let call = |serial| Message::call(serial, "/", "M").to(":1.1").bytes();
+    let reply = |serial| Message::method_return(9, serial).to(":1.1").bytes();
+    let (third, tick) = (call(3), |tick, limit| Call::Tick { tick, limit });
+    let piece = |parts: &[&[u8]]| Call::Piece { peer: 1, bytes: parts.concat() };
+    let calls = vec![
+        Call::Connect { uid: Uid(0), gids: Vec::new() },
+        tick(1, 0),
+        piece(&[&call(1), &call(2), &third[..40]]),
+        tick(2, 2),
+        piece(&[&third[40..], &reply(2)]),
+        tick(1, 0),
+        tick(3, 2),
+        piece(&[&reply(1), &reply(3)]),
+    ];
+    let file = capture::write(&Capture { image: image_of(OPEN), calls });
+    let lines = "connect 0 1 0 1 0
+tick 0 0
+batch 3 168
+piece 0 64 2 1 0 1 1
+piece 0 64 2 1 0 1 1
+piece 10 40 0 0 0 0 0
+tick 0 0
+batch 2 64
+piece 0 24 2 1 0 1 1
+piece 0 40 2 1 0 0 0
+tick 41 0
+tick 0 1
+batch 2 80
+piece 24 40 0 0 0 0 0
+piece 0 40 2 1 0 0 0
+";
+    assert_eq!(replay_in_batches(&file, 7), lines);
 }
 
 fn second(words: &[&str]) -> (Option<i32>, String) {

@@ -23,6 +23,9 @@ fn sample() -> Capture {
         piece(1, &Message::signal(1, "/", "a.b", "S").bytes()),
         piece(1, &[0; 7]),
         piece(2, &[]),
+        Call::Tick { tick: 0x0102_0304_0506_0708, limit: u64::MAX },
+        Call::Tick { tick: 0x0102_0304_0506_0707, limit: 0 },
+        Call::Tick { tick: u64::MAX, limit: 0 },
         Call::Disconnect { peer: 1 },
         Call::Disconnect { peer: 1 },
     ];
@@ -40,6 +43,9 @@ piece 0 64 2 1 0 1 1
 piece 0 64 3 1 1 0 0
 piece 10 7 0 0 0 0 0
 piece 30 0 0 0 0 0 0
+tick 0 0
+tick 41 0
+tick 0 1
 disconnect 0 7
 disconnect 30 0
 ";
@@ -97,13 +103,29 @@ fn broken_layout() {
         }
     }
     assert_eq!(one_call(5, &[0; 5]), broken);
-    for kind in [6, 7, u32::MAX] {
-        for length in [0, 4] {
+    for length in [0, 4, 8, 12, 15, 17, 20, 24, 32] {
+        assert_eq!(one_call(6, &vec![0; length]), broken);
+    }
+    for kind in [7, u32::MAX] {
+        for length in [0, 4, 16] {
             assert_eq!(one_call(kind, &vec![0; length]), broken);
         }
     }
     assert_eq!(one_call(0, &[]), "start 0\nstart 0\n");
+    assert_eq!(one_call(6, &[0; 16]), "start 0\ntick 0 0\n");
     assert_eq!(one_call(4, &[0; 4]), "start 0\npiece 30 0 0 0 0 0 0\n");
+}
+
+/// The tick comes before the limit, and of each the lowest byte first.
+#[test]
+fn the_bytes_of_a_tick() {
+    let tick = Call::Tick { tick: 0x0807_0605_0403_0201, limit: 0x1817_1615_1413_1211 };
+    let file = capture::write(&Capture { image: Vec::new(), calls: vec![tick.clone()] });
+    let mut expected = vec![0, 0, 0, 0, 6, 0, 0, 0, 16, 0, 0, 0];
+    expected.extend(0x01..=0x08);
+    expected.extend(0x11..=0x18);
+    assert_eq!(file, expected);
+    assert_eq!(capture::read(&file).capture.calls, [tick]);
 }
 
 #[test]
@@ -114,6 +136,7 @@ fn a_bad_image_is_no_layout_breach() {
         + &"own 50 0 0\n".repeat(2)
         + "release 30\n"
         + &"piece 50 0 0 0 0 0 0\n".repeat(5)
+        + "tick 0 0\ntick 41 0\ntick 0 0\n"
         + &"disconnect 30 0\n".repeat(2);
     assert_eq!(replay(&capture::write(&bad)), expected);
     let empty = Capture { image: Vec::new(), ..bad };

@@ -198,6 +198,46 @@ fn a_start_begins_anew() {
     assert_eq!(waits(2, calls, &[0, 0, 0, 0, 0, 0, 0, 24, 0, 0, 0, 0]), ["1 0 2 1 1"]);
 }
 
+fn tick(tick: u64, limit: u64) -> Call {
+    Call::Tick { tick, limit }
+}
+
+#[test]
+fn a_tick_ends_otherwise() {
+    let (far, late) = (u64::MAX, 24);
+    let calls = vec![call(1, 2, 7), tick(5, far), call(1, 2, 8), call(3, 1, 7), tick(9, 5), reply(2, 1, 7)];
+    let (lines, answers) = (["1 1 2 0 1", "2 0 0 0 0", "3 1 1 0 0"], [0, 0, 0, 0, 0, late]);
+    assert_eq!(waits(3, calls.clone(), &answers), lines);
+    // A refused tick ends nothing; neither does one with nothing old enough.
+    let more = [calls.clone(), vec![tick(8, 0), tick(9, 5), tick(9, 5)]].concat();
+    assert_eq!(waits(3, more, &[0, 0, 0, 0, 0, late, 41, 0, 0]), lines);
+    // Each caller has its own; what ended does not end again with its callee.
+    let both = [calls, vec![tick(10, 5), leave(2)]].concat();
+    assert_eq!(waits(3, both, &[0, 0, 0, 0, 0, late, 0, 0]), ["1 0 2 0 2", "3 0 1 0 1"]);
+}
+
+#[test]
+fn replied_ended_and_open() {
+    let calls = vec![call(1, 2, 1), call(1, 2, 2), tick(3, u64::MAX), call(1, 2, 3), call(1, 1, 3)];
+    let start = [calls, vec![reply(2, 1, 1), tick(4, 4)]].concat();
+    assert_eq!(waits(2, start.clone(), &[0; 7]), ["1 2 4 1 1", "2 0 0 0 0"]);
+    // The reply was to the older of two: only what is left counts at a tick and when the callee goes.
+    let calls = vec![call(1, 2, 1), tick(3, u64::MAX), call(1, 2, 2), reply(2, 1, 2), tick(3, 3)];
+    assert_eq!(waits(2, calls, &[0; 5]), ["1 0 2 1 1", "2 0 0 0 0"]);
+    let again = [start, vec![call(1, 2, 2), tick(4, 1), leave(2)]].concat();
+    assert_eq!(waits(2, again, &[0; 10]), ["1 0 5 1 4"]);
+}
+
+#[test]
+fn ticks_over_a_start_and_for_a_newcomer() {
+    let calls = vec![tick(9, 0), call(1, 2, 1), Call::Start, connect(), connect(), call(1, 2, 1), tick(4, 5)];
+    assert_eq!(waits(2, calls.clone(), &[0; 7]), ["1 1 1 0 0", "2 0 0 0 0"]);
+    assert_eq!(waits(2, [calls, vec![tick(5, 5)]].concat(), &[0; 8]), ["1 0 1 0 1", "2 0 0 0 0"]);
+    // Who comes into a slot has none of its last peer's ends.
+    let calls = vec![call(1, 2, 1), tick(1, 1), leave(1), connect(), call(3, 2, 1), tick(1, 1)];
+    assert_eq!(waits(2, calls, &[0; 6]), ["3 1 1 0 0", "2 0 0 0 0"]);
+}
+
 #[test]
 fn other_messages_count_nothing() {
     let calls = vec![

@@ -1,7 +1,7 @@
 //! Capture files: a policy image and the calls made on the guard.
 //!
-//! All numbers are little-endian and have 32 bits: the image's length, the image, then the calls, each with its kind, its
-//! length and that many bytes.
+//! All numbers are little-endian and have 32 bits, ticks and limits 64: the image's length, the image, then the calls, each
+//! with its kind, its length and that many bytes.
 
 use crate::policy::{Gid, Uid};
 
@@ -13,13 +13,14 @@ pub enum Call {
     Release { peer: u32, name: Vec<u8> },
     Piece { peer: u32, bytes: Vec<u8> },
     Disconnect { peer: u32 },
+    Tick { tick: u64, limit: u64 },
 }
 
 impl Call {
     /// The peer that the call is about, where it names one.
     pub fn peer(&self) -> Option<u32> {
         match self {
-            Call::Start | Call::Connect { .. } => None,
+            Call::Start | Call::Connect { .. } | Call::Tick { .. } => None,
             Call::Own { peer, .. }
             | Call::Release { peer, .. }
             | Call::Piece { peer, .. }
@@ -80,6 +81,10 @@ fn word(bytes: &[u8], at: usize) -> u32 {
     u32::from_le_bytes([bytes[at], bytes[at + 1], bytes[at + 2], bytes[at + 3]])
 }
 
+fn long(bytes: &[u8], at: usize) -> u64 {
+    u64::from(word(bytes, at)) | u64::from(word(bytes, at + 4)) << 32
+}
+
 /// Reads a capture up to the first fault of its layout.
 pub fn read(file: &[u8]) -> Reading {
     let mut reading = Reading::default();
@@ -112,6 +117,7 @@ fn read_call(rest: &mut Rest, index: usize) -> Result<Call, CaptureFault> {
         3 => ("release", length >= 4),
         4 => ("piece", length >= 4),
         5 => ("disconnect", length == 4),
+        6 => ("tick", length == 16),
         _ => return Err(breach(from, format!("there is no kind {kind}"))),
     };
     if !fits {
@@ -129,7 +135,8 @@ fn read_call(rest: &mut Rest, index: usize) -> Result<Call, CaptureFault> {
         2 => Call::Own { peer, name: behind() },
         3 => Call::Release { peer, name: behind() },
         4 => Call::Piece { peer, bytes: behind() },
-        _ => Call::Disconnect { peer },
+        5 => Call::Disconnect { peer },
+        _ => Call::Tick { tick: long(bytes, 0), limit: long(bytes, 8) },
     })
 }
 
@@ -157,5 +164,6 @@ fn call_bytes(call: &Call) -> (u32, Vec<u8>) {
         Call::Release { peer, name } => (3, join(peer, name)),
         Call::Piece { peer, bytes } => (4, join(peer, bytes)),
         Call::Disconnect { peer } => (5, join(peer, &[])),
+        Call::Tick { tick, limit } => (6, [tick.to_le_bytes(), limit.to_le_bytes()].concat()),
     }
 }

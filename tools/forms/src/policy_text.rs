@@ -38,8 +38,9 @@ impl<'a> Words<'a> {
 }
 
 /// A number of digits alone: the sign that the standard library takes is none.
-pub fn number_of(digits: &str, radix: u32) -> Option<u32> {
-    u32::from_str_radix(digits, radix).ok().filter(|_| !digits.starts_with('+'))
+pub fn number_of<Number: TryFrom<u64>>(digits: &str, radix: u32) -> Option<Number> {
+    let number = u64::from_str_radix(digits, radix).ok().filter(|_| !digits.starts_with('+'))?;
+    Number::try_from(number).ok()
 }
 
 /// Everything behind a # is a comment.

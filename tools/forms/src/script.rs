@@ -5,6 +5,7 @@ use crate::message::{ByteOrder, FieldValue, Message, FIELDS, TYPES};
 use crate::policy::{Gid, Policy, Uid};
 use crate::policy_text::{self, named, number_of, without_comment, TextFault};
 use crate::{hex, image};
+use std::fmt::Display;
 use std::path::Path;
 
 /// The most zeros that `body-length` may ask for: what a message has at the most.
@@ -121,6 +122,7 @@ fn parse_call(words: &[&str], files: FileReader) -> Result<Vec<Call>, String> {
         }
         ["piece", peer, rest @ ..] => parse_pieces(parse_number(peer)?, rest, files),
         ["disconnect", peer] => Ok(vec![Call::Disconnect { peer: parse_number(peer)? }]),
+        ["tick", tick, limit] => Ok(vec![Call::Tick { tick: parse_long(tick)?, limit: parse_long(limit)? }]),
         _ => Err(format!("not a call: {}", named(&words.join(" ")))),
     }
 }
@@ -136,11 +138,20 @@ fn parse_name(words: &[&str]) -> Result<Vec<u8>, String> {
 }
 
 fn parse_number(word: &str) -> Result<u32, String> {
+    parse_up_to(word, u32::MAX)
+}
+
+/// A tick or a limit.
+fn parse_long(word: &str) -> Result<u64, String> {
+    parse_up_to(word, u64::MAX)
+}
+
+fn parse_up_to<Number: TryFrom<u64> + Display>(word: &str, most: Number) -> Result<Number, String> {
     let parsed = match word.strip_prefix("0x") {
         Some(digits) => number_of(digits, 16),
         None => number_of(word, 10),
     };
-    parsed.ok_or_else(|| format!("{} is no number up to 4294967295", named(word)))
+    parsed.ok_or_else(|| format!("{} is no number up to {most}", named(word)))
 }
 
 /// The bytes that the words describe, as one piece or cut into several.

@@ -13,7 +13,9 @@ fn sample() -> Capture {
         Call::Release { peer: 1, name: b"org.b".to_vec() },
         Call::Piece { peer: 1, bytes: vec![1, 2, 3] },
         Call::Piece { peer: 2, bytes: Vec::new() },
+        Call::Tick { tick: 1 << 40, limit: u64::MAX },
         Call::Disconnect { peer: 1 },
+        Call::Tick { tick: u64::MAX, limit: 0 },
     ];
     Capture { image: b"any bytes".to_vec(), calls }
 }
@@ -35,6 +37,9 @@ fn bytes_of_each_call() {
     assert_eq!(one(Call::Release { peer: 4, name: vec![5] }), [3, 0, 0, 0, 5, 0, 0, 0, 4, 0, 0, 0, 5]);
     assert_eq!(one(Call::Piece { peer: 4, bytes: vec![5] }), [4, 0, 0, 0, 5, 0, 0, 0, 4, 0, 0, 0, 5]);
     assert_eq!(one(Call::Disconnect { peer: 4 }), [5, 0, 0, 0, 4, 0, 0, 0, 4, 0, 0, 0]);
+    let tick = Call::Tick { tick: 0x0807_0605_0403_0201, limit: 0x100f_0e0d_0c0b_0a09 };
+    let bytes = [6, 0, 0, 0, 16, 0, 0, 0, 1, 2, 3, 4, 5, 6, 7, 8, 9, 10, 11, 12, 13, 14, 15, 16];
+    assert_eq!(one(tick), bytes);
 }
 
 #[test]
@@ -42,8 +47,8 @@ fn both_ways() {
     assert_eq!(read(&write(&sample())), Reading { capture: sample(), fault: None });
     assert_eq!(read(&[0; 4]), Reading::default());
     let peers: Vec<Option<u32>> = sample().calls.iter().map(Call::peer).collect();
-    let named = [1, 1, 1, 1, 2, 1].map(Some);
-    assert_eq!(peers, [&[None; 3], named.as_slice()].concat());
+    let named = [1, 1, 1, 1, 2].map(Some);
+    assert_eq!(peers, [&[None; 3], named.as_slice(), &[None, Some(1), None]].concat());
 }
 
 /// Cut anywhere, a capture has the calls before the cut, and a fault unless a call ends there.
@@ -91,7 +96,7 @@ fn behind_a_start(kind: u32, length: u32, bytes: &[u8]) -> (usize, String) {
 
 #[test]
 fn there_is_no_such_kind() {
-    for kind in [6, 7, u32::MAX] {
+    for kind in [7, 8, u32::MAX] {
         let wanted = (0, format!("call 2: there is no kind {kind}"));
         assert_eq!(behind_a_start(kind, 0, &[]), wanted);
         assert_eq!(behind_a_start(kind, u32::MAX, &[]), wanted);
@@ -101,7 +106,7 @@ fn there_is_no_such_kind() {
 #[test]
 fn lengths_that_a_kind_cannot_have() {
     let cannot = |name, length: u32| (4, format!("call 2: {name} cannot have {length} bytes"));
-    let tried = |kind, length: u32| behind_a_start(kind, length, &[0; 16]);
+    let tried = |kind, length: u32| behind_a_start(kind, length, &[0; 32]);
     for length in [1, 4, u32::MAX] {
         assert_eq!(tried(0, length), cannot("start", length));
     }
@@ -116,6 +121,9 @@ fn lengths_that_a_kind_cannot_have() {
     for length in [0, 3, 5, 8] {
         assert_eq!(tried(5, length), cannot("disconnect", length));
     }
+    for length in [0, 4, 8, 15, 17, 20, 24, 32, u32::MAX] {
+        assert_eq!(tried(6, length), cannot("tick", length));
+    }
 }
 
 #[test]
@@ -124,6 +132,7 @@ fn calls_cut_short() {
         |what, length, left| format!("{what} has {length} bytes, and only {left} are left of the file");
     assert_eq!(behind_a_start(4, 5, &[0; 4]), (8, left("call 2, piece,", 5, 4)));
     assert_eq!(behind_a_start(1, 8, &[0; 7]), (8, left("call 2, connect,", 8, 7)));
+    assert_eq!(behind_a_start(6, 16, &[0; 15]), (8, left("call 2, tick,", 16, 15)));
     let most = left("call 2, release,", u32::MAX, 100);
     assert_eq!(behind_a_start(3, u32::MAX, &[0; 100]), (8, most));
     let start = write(&Capture { image: Vec::new(), calls: vec![Call::Start] });

@@ -46,7 +46,9 @@ fn calls() {
         piece 1 hex 6c 01 ff
         piece 1 file bytes
         piece 1 file bytes cut=2
-        disconnect 2";
+        disconnect 2
+        tick 0 18446744073709551615
+        tick 0x100000000 7";
     let mut calls = vec![
         Call::Start,
         Call::Connect { uid: Uid(1000), gids: Vec::new() },
@@ -58,6 +60,8 @@ fn calls() {
     ];
     calls.extend(pieces(1, [vec![], vec![0x6c, 1, 0xff], vec![1, 2, 3], vec![1, 2], vec![3]]));
     calls.push(Call::Disconnect { peer: 2 });
+    calls.push(Call::Tick { tick: 0, limit: u64::MAX });
+    calls.push(Call::Tick { tick: 1 << 32, limit: 7 });
     assert_eq!(compile(text), Ok(Capture { image: open_image(), calls }));
 }
 
@@ -187,6 +191,14 @@ fn faults_of_calls() {
         ("release 1 hex 6", "hex bytes have two digits each"),
         ("disconnect", "not a call: disconnect"),
         ("disconnect 1 2", "not a call: disconnect 1 2"),
+        ("tick", "not a call: tick"),
+        ("tick 1", "not a call: tick 1"),
+        ("tick 1 2 3", "not a call: tick 1 2 3"),
+        ("tick x 2", "x is no number up to 18446744073709551615"),
+        ("tick 1 +2", "+2 is no number up to 18446744073709551615"),
+        ("tick -1 2", "-1 is no number up to 18446744073709551615"),
+        ("tick 18446744073709551616 2", "18446744073709551616 is no number up to 18446744073709551615"),
+        ("tick 1 0x10000000000000000", "0x10000000000000000 is no number up to 18446744073709551615"),
     ];
     for (call, said) in wanted {
         assert_eq!(call_fault(call), said, "{call}");

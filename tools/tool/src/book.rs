@@ -1,5 +1,5 @@
 //! What a host knows of its peers from the calls that it made and the answers that it got: who is connected, who owns which
-//! name, and which calls await a reply. It is for words alone; the guard keeps its own.
+//! name, which calls await a reply, and since which tick. It is for words alone; the guard keeps its own.
 
 use crate::head::Head;
 use forms::message::{METHOD_CALL, METHOD_RETURN, SIGNAL};
@@ -56,18 +56,44 @@ pub struct Wait {
     pub serial: u32,
 }
 
+/// A wait that has not ended: the call in which it began, and the last tick then.
+#[derive(Clone, Copy, Debug, PartialEq, Eq)]
+pub struct Pending {
+    pub wait: Wait,
+    pub call: usize,
+    pub tick: u64,
+}
+
+impl Pending {
+    /// How many ticks old it is at a tick, which is no earlier one.
+    pub fn age(&self, now: u64) -> u64 {
+        now.saturating_sub(self.tick)
+    }
+}
+
 /// How a wait ended, and in which call.
 #[derive(Clone, Copy, Debug, PartialEq, Eq)]
 pub enum Ending {
     Replied(usize),
     CalleeLeft(usize),
     CallerLeft(usize),
+    Expired(Expiry),
+}
+
+/// A wait's end by its age: in which call and at which tick, the call in which it had begun, and how old it was.
+#[derive(Clone, Copy, Debug, PartialEq, Eq)]
+pub struct Expiry {
+    pub call: usize,
+    pub tick: u64,
+    pub began: usize,
+    pub age: u64,
 }
 
 impl Ending {
     fn call(self) -> usize {
         match self {
             Ending::Replied(call) | Ending::CalleeLeft(call) | Ending::CallerLeft(call) => call,
+            Ending::Expired(expiry) => expiry.call,
         }
     }
 }
@@ -83,8 +109,10 @@ pub enum Destination {
 #[derive(Clone, Debug, Default)]
 pub struct Book {
     pub peers: Vec<Peer>,
-    /// Each wait with the call in which it began.
-    pub waits: Vec<(Wait, usize)>,
+    pub waits: Vec<Pending>,
+    /// The last tick, and the call that set it first; none where it is still the 0 of an empty guard.
+    pub tick: u64,
+    pub tick_since: Option<usize>,
     /// How the last wait of these three numbers ended.
     ended: HashMap<Wait, Ending>,
     /// Who had a name last, and until which call.
@@ -140,12 +168,17 @@ impl Book {
         last.map(|(other, ending)| (other.callee, *ending))
     }
 
-    pub fn began_in(&self, wait: &Wait) -> Option<usize> {
-        self.waits.iter().find(|(pending, _)| pending == wait).map(|(_, call)| *call)
+    pub fn pending(&self, wait: &Wait) -> Option<&Pending> {
+        self.waits.iter().find(|pending| pending.wait == *wait)
     }
 
-    pub fn waits_of(&self, caller: u32) -> impl Iterator<Item = &(Wait, usize)> {
-        self.waits.iter().filter(move |(wait, _)| wait.caller == caller)
+    pub fn waits_of(&self, caller: u32) -> impl Iterator<Item = &Pending> {
+        self.waits.iter().filter(move |pending| pending.wait.caller == caller)
+    }
+
+    /// The waits that a tick ends which is not refused.
+    pub fn expiring(&self, tick: u64, limit: u64) -> Vec<Pending> {
+        self.waits.iter().filter(|pending| pending.age(tick) >= limit).copied().collect()
     }
 
     pub fn connect(&mut self, number: u32, slot: u32, uid: Uid, gids: &[Gid]) {
@@ -177,23 +210,39 @@ impl Book {
         }
         self.peers.retain(|peer| peer.number != number);
         self.gone.insert(number, call);
-        let (over, left): (Vec<_>, Vec<_>) =
-            self.waits.drain(..).partition(|(wait, _)| wait.caller == number || wait.callee == number);
+        let (over, left): (Vec<Pending>, Vec<Pending>) = self
+            .waits
+            .drain(..)
+            .partition(|pending| pending.wait.caller == number || pending.wait.callee == number);
         self.waits = left;
-        for (wait, _) in over {
+        for Pending { wait, .. } in over {
             let ending =
                 if wait.caller == number { Ending::CallerLeft(call) } else { Ending::CalleeLeft(call) };
             self.ended.insert(wait, ending);
         }
     }
 
+    /// The host's clock has gone on, and waits that are old enough have ended.
+    pub fn tick(&mut self, tick: u64, limit: u64, call: usize) {
+        if tick != self.tick {
+            self.tick_since = Some(call);
+        }
+        self.tick = tick;
+        for over in self.expiring(tick, limit) {
+            let expiry = Expiry { call, tick, began: over.call, age: over.age(tick) };
+            self.ended.insert(over.wait, Ending::Expired(expiry));
+        }
+        self.waits.retain(|pending| pending.age(tick) < limit);
+    }
+
     /// A message has passed to one peer: a call may begin a wait, a reply ends one.
     pub fn passed(&mut self, sender: u32, receiver: u32, head: &Head, call: usize) {
         if head.message_type == METHOD_CALL && head.flags & NO_REPLY_EXPECTED == 0 {
-            self.waits.push((Wait { caller: sender, callee: receiver, serial: head.serial }, call));
+            let wait = Wait { caller: sender, callee: receiver, serial: head.serial };
+            self.waits.push(Pending { wait, call, tick: self.tick });
         } else if let (true, Some(serial)) = (is_reply(head), head.reply_serial) {
             let wait = Wait { caller: receiver, callee: sender, serial };
-            self.waits.retain(|(pending, _)| *pending != wait);
+            self.waits.retain(|pending| pending.wait != wait);
             self.ended.insert(wait, Ending::Replied(call));
         }
     }

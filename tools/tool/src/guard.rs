@@ -57,6 +57,14 @@ extern "C" {
         place: *mut u8,
         place_len: usize,
     ) -> usize;
+    fn aygeshunt_tick(
+        memory: *mut u8,
+        memory_len: usize,
+        tick: u64,
+        limit: u64,
+        place: *mut u8,
+        place_len: usize,
+    ) -> usize;
 }
 
 /// Bytes of a place.
@@ -74,7 +82,7 @@ pub const TO_PEER: u32 = 2;
 pub const TO_SLOTS: u32 = 3;
 
 /// What a call reports: the seven numbers of a place. Connect has its number in `value` and its slot in `count`,
-/// disconnect its bytes in `value`.
+/// disconnect has its bytes and tick the count of ended waits in `value`.
 #[derive(Clone, Copy, Debug, Default, PartialEq, Eq)]
 pub struct Place {
     pub answer: u32,
@@ -196,6 +204,13 @@ impl Guard {
         })
     }
 
+    pub fn tick(&mut self, tick: u64, limit: u64) -> Place {
+        // SAFETY: as for start.
+        self.report(|memory, length, place| unsafe {
+            aygeshunt_tick(memory, length, tick, limit, place, PLACE_LENGTH)
+        })
+    }
+
     /// Makes a call of a capture under an image.
     pub fn make(&mut self, image: &[u8], call: &Call) -> Place {
         match call {
@@ -205,6 +220,7 @@ impl Guard {
             Call::Release { peer, name } => self.release(*peer, name),
             Call::Piece { peer, bytes } => self.piece(image, *peer, bytes),
             Call::Disconnect { peer } => self.disconnect(*peer),
+            Call::Tick { tick, limit } => self.tick(*tick, *limit),
         }
     }
 }

@@ -17,6 +17,7 @@ pub fn line(call: &Call, place: &Place) -> String {
         Call::Release { .. } => format!("release {answer}"),
         Call::Piece { .. } => format!("piece {answer} {taken} {kind} {value} {count} {decider} {position}"),
         Call::Disconnect { .. } => format!("disconnect {answer} {value}"),
+        Call::Tick { .. } => format!("tick {answer} {value}"),
     }
 }
 
@@ -58,6 +59,7 @@ fn call_words(call: &Call) -> String {
         Call::Release { peer, name } => format!("release {peer}{}", name_words(name)),
         Call::Piece { peer, bytes } => format!("piece {peer} {}", piece_words(bytes)),
         Call::Disconnect { peer } => format!("disconnect {peer}"),
+        Call::Tick { tick, limit } => format!("tick {tick} {limit}"),
     }
 }
 

@@ -3,7 +3,7 @@
 
 use forms::capture::Capture;
 use forms::script;
-use tool::book::Wait;
+use tool::book::{Pending, Wait};
 use tool::cli::Style;
 use tool::explain::words::{self, Boxes};
 use tool::explain::{json, Teller};
@@ -83,14 +83,35 @@ fn peers_and_names() {
 
 #[test]
 fn waits() {
-    let wait = Wait { caller: 1, callee: 2, serial: 7 };
+    let wait = |serial| Pending { wait: Wait { caller: 1, callee: 2, serial }, call: 1, tick: 0 };
     found(&[CALL, REPLY], |teller| teller.book.waits.clear());
-    found(&[CALL, REPLY, REPLY], |teller| teller.book.waits.push((wait, 1)));
+    found(&[CALL, REPLY, REPLY], |teller| teller.book.waits.push(wait(7)));
     found(&[CALL, CALL], |teller| teller.book.waits.clear());
-    found(&[CALL], |teller| teller.book.waits.push((wait, 1)));
-    found(&[CALL], |teller| {
-        teller.book.waits.extend((100..116).map(|serial| (Wait { serial, ..wait }, 1)));
+    found(&[CALL], |teller| teller.book.waits.push(wait(7)));
+    found(&[CALL], |teller| teller.book.waits.extend((100..116).map(wait)));
+}
+
+#[test]
+fn ticks() {
+    let at = |tick, limit| format!("tick {tick} {limit}\n");
+    // The last tick: too high, too low, and too low where a refusal is told.
+    found(&[&at(5, 1)], |teller| teller.book.tick = 6);
+    found(&[&at(6, 1), &at(5, 1)], |teller| teller.book.tick = 5);
+    // The waits: one too few, one too many, one that is too young or too old.
+    found(&[CALL, &at(5, 5)], |teller| teller.book.waits.clear());
+    found(&[&at(5, 5)], |teller| {
+        let wait = Wait { caller: 1, callee: 2, serial: 7 };
+        teller.book.waits.push(Pending { wait, call: 1, tick: 0 });
     });
+    found(&[CALL, &at(5, 5)], |teller| teller.book.waits[0].tick = 1);
+    found(&[&at(1, 9), CALL, &at(5, 5)], |teller| teller.book.waits[0].tick = 0);
+    // What has ended is not waited for, and may be asked again.
+    found(&[CALL, &at(5, 5), REPLY], |teller| {
+        let wait = Wait { caller: 1, callee: 2, serial: 7 };
+        teller.book.waits.push(Pending { wait, call: 1, tick: 0 });
+    });
+    assert_eq!(last(&[CALL, &at(5, 5), CALL], |_| {}), None);
+    assert_eq!(last(&[CALL, &at(5, 6), CALL], |_| {}), None);
 }
 
 #[test]

@@ -109,6 +109,46 @@ fn a_reply_to_a_dropped_call_is_told_as_what_comes_of_it() {
     assert_eq!(lines(&told[1]), wanted);
 }
 
+/// Under the new policy the first call waits since tick 0 and the second is 25; under the old one only the second waits.
+#[test]
+fn a_wait_may_expire_under_one_policy_alone() {
+    let own = with("transaction default deny receive call path=/early");
+    let call = |path: &str| {
+        format!("piece 1 message call path={path} interface=a.b member=M serial=7 destination=:1.2\n")
+    };
+    let reply = "piece 2 message return serial=1 reply=7 destination=:1.1\n";
+    let calls = format!(
+        "connect 1\nconnect 2\n{}tick 10 99\n{}tick 15 10\n{reply}tick 15 0\n",
+        call("/early"),
+        call("/late")
+    );
+    let (told, differing) = compared(ALL, &calls, &own, ALL);
+    assert_eq!((told.len(), differing), (4, 4));
+    let tick = [
+        "#7   tick 15: waits of 10 ticks and more are to end",
+        "old: 0, no wait ended",
+        "new: 0, 1 wait ended",
+        "the wait of peer 1 for peer 2, serial 7, from #4",
+    ];
+    assert_eq!(lines(&told[2]), tick);
+    let late = [
+        "#8   peer 2 (:1.2, uid 2) return to serial 7, serial 1 -> :1.1",
+        "old: 0, passed to peer 1",
+        "new: 24, reply not waited for, because the wait from #4 expired in #7, at tick 15, 15 ticks old",
+    ];
+    assert_eq!(lines(&told[3]), late);
+    // Waits that a reply or a leaving has ended under the new policy do not expire there.
+    for end in [reply, "disconnect 2\n", "disconnect 1\n", "start\n"] {
+        let ended = format!("connect 1\nconnect 2\n{}{end}tick 5 0\n", call("/early"));
+        let (told, _) = compared(ALL, &ended, &own, ALL);
+        assert!(told.iter().all(|told| !told.contains("tick")), "{told:?}");
+    }
+    // A call that was dropped behind the expiry is what its reply is told of.
+    let again = format!("connect 1\nconnect 2\n{}tick 5 5\n{}{reply}", call("/late"), call("/early"));
+    let (told, _) = compared(ALL, &again, &own, ALL);
+    assert_eq!(lines(&told[1])[1], "old: 24, reply not waited for, because the call #6 was not passed");
+}
+
 #[test]
 fn a_refused_peer_uses_up_its_number() {
     let calls = format!(

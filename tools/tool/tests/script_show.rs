@@ -181,6 +181,8 @@ fn names_and_gids() {
         Call::Release { peer: 2, name: b"\xff".to_vec() },
         Call::Release { peer: 2, name: b":1.7".to_vec() },
         Call::Disconnect { peer: 0 },
+        Call::Tick { tick: 5, limit: u64::MAX },
+        Call::Tick { tick: 4, limit: 0 },
     ];
     let capture = Capture { image: b"bad".to_vec(), calls };
     let text = shown_capture(&capture);
@@ -198,6 +200,8 @@ own 1 hex 610a # own 50 0 0
 release 2 hex ff # release 30
 release 2 :1.7 # release 30
 disconnect 0 # disconnect 30 0
+tick 5 18446744073709551615 # tick 0 0
+tick 4 0 # tick 41 0
 "
     );
     assert_eq!(compiled(&text, Path::new("")), capture);
@@ -233,6 +237,7 @@ fn lines_of_calls() {
     assert_eq!(said(Call::Release { peer: 9, name: Vec::new() }), "release 1");
     assert_eq!(said(Call::Piece { peer: 9, bytes: Vec::new() }), "piece 1 2 3 4 5 6 7");
     assert_eq!(said(Call::Disconnect { peer: 9 }), "disconnect 1 4");
+    assert_eq!(said(Call::Tick { tick: 9, limit: 9 }), "tick 1 4");
 }
 
 /// The command with these words, in a folder of its own.

@@ -6,5 +6,6 @@ use Rattle.audit.proofs.is_call_good.Tie as tie
 
 pub is-call-good-spec : {M : Type 1} → statement M
 is-call-good-spec =
-    tie.close (all7 tie.spec (search call-tests) (λ c. search call-tests) (λ c. search call-tests) (λ c κs. search call-tests) (λ c. search call-tests)
+    tie.close (all7 tie.spec (search call-tests) (λ c. search call-tests) (λ c. search call-tests) (λ c. search call-tests) (λ c. search call-tests)
+    (λ c κs. search call-tests) (λ c. search call-tests) (λ c. search call-tests) (λ c κs. search call-tests) (λ c. search call-tests)
     (λ c κs. search call-tests) (λ c. search call-tests))

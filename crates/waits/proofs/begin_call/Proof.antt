@@ -7,12 +7,11 @@ pub begin-call-spec : {M : Type 1} → statement M
 begin-call-spec =
     tie.close
     (tie.spec
-    (λ c. search beginning)
-    (λ c. search beginning)
-    (λ c. search beginning)
-    (λ c. search beginning)
-    (λ c. search beginning)
     (λ c κs. search beginning)
+    (λ c. search beginning)
+    (λ c. search beginning)
+    (λ c. search beginning)
+    (λ c. search beginning)
     (λ c. search beginning)
     (λ c κs. search beginning)
     (λ c. search beginning)

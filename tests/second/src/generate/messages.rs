@@ -2,7 +2,7 @@
 
 use super::random::Random;
 use super::{spelling, unknown, vocabulary};
-use crate::guard::{Guard, Wait};
+use crate::guard::Guard;
 use crate::header::{
     DESTINATION, ERROR, ERROR_NAME, INTERFACE, MEMBER, METHOD_CALL, METHOD_RETURN, PATH, REPLY_SERIAL, SIGNAL,
 };
@@ -10,6 +10,7 @@ use crate::message::Message;
 use crate::name_forms::Form;
 use crate::names::{unique_name_of, BUS_NAME};
 use crate::typed::Typed;
+use crate::wait::Wait;
 use crate::wire::{ByteOrder, MAX_ARRAY_LENGTH, NO_REPLY_EXPECTED};
 
 /// Well-formed destinations that are nobody's, some of them close to a peer's name.

@@ -12,6 +12,7 @@ pub mod random;
 pub mod spelling;
 mod split;
 mod talks;
+mod ticks;
 mod unknown;
 pub mod value_faults;
 pub mod values;
@@ -19,6 +20,7 @@ mod vocabulary;
 mod world;
 
 use crate::capture::{self, Capture};
+use crate::policy::Policy;
 use crate::replay::lent_policy;
 use random::Random;
 use world::World;
@@ -51,30 +53,33 @@ impl Mode {
     }
 }
 
+/// The policy that calls of a capture are lent, none where its image is bad, and the image.
+fn policy_and_image(random: &mut Random, mode: Mode) -> (Option<Policy>, Vec<u8>) {
+    let good = |(policy, image)| (Some(policy), image);
+    match mode {
+        Mode::BadImage => {
+            let image = images::broken(random);
+            (lent_policy(&image), image)
+        }
+        Mode::Full => good(policies::open_image(random)),
+        Mode::Mixed | Mode::BadLayout => good(policies::policy_and_image(random)),
+        Mode::Batches => batches::policy_and_image(random),
+    }
+}
+
 /// The bytes of the capture file that `seed` stands for.
 pub fn generate(seed: u64, calls: usize, mode: Mode) -> Vec<u8> {
     let mut random = Random::new(seed);
-    let (policy, image) = match mode {
-        Mode::BadImage => {
-            let image = images::broken(&mut random);
-            (lent_policy(&image), image)
-        }
-        Mode::Full => {
-            let (policy, image) = policies::open_image(&mut random);
-            (Some(policy), image)
-        }
-        Mode::Mixed | Mode::BadLayout => {
-            let (policy, image) = policies::policy_and_image(&mut random);
-            (Some(policy), image)
-        }
-        Mode::Batches => batches::policy_and_image(&mut random),
-    };
+    let (policy, image) = policy_and_image(&mut random, mode);
     let mut world = World::new(random, policy);
+    if world.random.chance(20) {
+        ticks::tick(&mut world);
+    }
     let mut next_fill = 0;
-    while world.calls.len() < calls {
-        if mode == Mode::Full && world.calls.len() >= next_fill {
+    while world.length() < calls {
+        if mode == Mode::Full && world.length() >= next_fill {
             full::fill(&mut world);
-            next_fill = world.calls.len() + 300;
+            next_fill = world.length() + 300;
             continue;
         }
         if mode == Mode::Batches {
@@ -133,7 +138,13 @@ fn break_layout(random: &mut Random, mut file: Vec<u8>) -> Vec<u8> {
                 (4, 3),
                 (5, 0),
                 (5, 5),
+                (6, 0),
                 (6, 4),
+                (6, 8),
+                (6, 15),
+                (6, 17),
+                (6, 20),
+                (7, 16),
                 (u32::MAX, 0),
                 (4, u32::MAX),
             ]);

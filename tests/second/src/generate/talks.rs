@@ -2,26 +2,32 @@
 //!
 //! Peers that act at random seldom keep calls open with somebody who goes.
 
-use super::messages;
 use super::random::Random;
 use super::world::World;
+use super::{messages, ticks};
 use crate::capture::Call;
-use crate::guard::{Wait, MAX_WAITS};
+use crate::guard::MAX_WAITS;
 use crate::message::Message;
 use crate::names::unique_name_of;
 use crate::policy::{Gid, Uid};
-use crate::stream::Stream;
+use crate::wait::Wait;
 use crate::wire::NO_REPLY_EXPECTED;
 
-/// One talk in the middle of a capture. At its end the callee leaves, or all do, or nobody.
+/// One talk in the middle of a capture. At its end the callee leaves, or all do, or nobody, or
+/// time comes to its end.
 pub fn talk(world: &mut World) {
     gather(world, 3);
     let Some(callee) = exchange(world) else { return };
     match world.random.below(10) {
-        0..=2 => start_again(world),
+        0 => {
+            ticks::end_all(world);
+            start_again(world);
+        }
+        1..=2 => start_again(world),
         3 => talk_between_starts(world),
-        4..=7 => replace(world, callee),
-        _ => return,
+        4 => world.beside(talk_at_the_largest_tick),
+        5..=8 => replace(world, callee),
+        _ => return ticks::end_all(world),
     }
     if world.random.chance(60) {
         gather(world, 3);
@@ -33,22 +39,27 @@ pub fn talk(world: &mut World) {
 
 /// Talks with which a capture ends, so that those who stay have calls of every fate.
 pub fn last_talk(world: &mut World) {
-    if world.random.chance(30) {
-        talk_between_starts(world);
+    match world.random.below(10) {
+        0..=2 => talk_between_starts(world),
+        3..=5 => talk_at_the_largest_tick(world),
+        _ => {}
     }
     gather(world, 8);
     for _ in 0..2 {
         if let Some(callee) = exchange(world) {
+            ticks::tick(world);
             world.disconnect(callee);
         }
     }
     exchange(world);
+    if world.random.chance(50) {
+        ticks::tick(world);
+    }
 }
 
 /// Peers that can begin a message.
-fn ready(world: &World) -> Vec<u32> {
-    let is_ready = |stream: &Stream| stream.count() == 0 && !stream.is_closed();
-    world.guard.peers().filter(|peer| is_ready(&peer.stream)).map(|peer| peer.number).collect()
+pub fn ready(world: &World) -> Vec<u32> {
+    world.guard.peers().map(|peer| peer.number).filter(|number| world.is_ready(*number)).collect()
 }
 
 /// The ids of those who are there; what was granted to them is granted again.
@@ -86,6 +97,22 @@ fn talk_between_starts(world: &mut World) {
     start_again(world);
 }
 
+/// Calls of the first tick and of later ones meet the largest; only a start comes behind it. Where
+/// a policy lets peers talk, they do so several times.
+fn talk_at_the_largest_tick(world: &mut World) {
+    start_again(world);
+    for _ in 0..6 {
+        gather(world, 3);
+        exchange(world);
+        let is_first = world.guard.waits().iter().any(|wait| wait.tick == 0);
+        ticks::to_the_largest(world);
+        start_again(world);
+        if !is_first {
+            return;
+        }
+    }
+}
+
 /// Somebody leaves, and his like takes the lowest free slot.
 fn replace(world: &mut World, peer: u32) {
     let left = world.guard.peer(peer).map(|peer| (peer.uid, peer.gids.clone()));
@@ -109,6 +136,9 @@ fn exchange(world: &mut World) -> Option<u32> {
         }
         for _ in 0..world.random.pick(&[0, 1, 1, 2]) {
             send_reply(world, callee, caller);
+        }
+        if world.random.chance(25) {
+            ticks::pass(world);
         }
     }
     Some(callee)

@@ -1,7 +1,7 @@
 //! The peers of a generated capture: what they do next, and what they still have to send.
 
 use super::random::Random;
-use super::{deciders, faults, interfaces, messages, talks, vocabulary};
+use super::{deciders, faults, interfaces, messages, talks, ticks, vocabulary};
 use crate::answer::ends_an_offer;
 use crate::batch;
 use crate::capture::Call;
@@ -39,17 +39,33 @@ pub struct World {
     unsent: BTreeMap<u32, Vec<u8>>,
     phase: Phase,
     pub calls: Vec<Call>,
+    beside: usize,
 }
 
 impl World {
     pub fn new(mut random: Random, policy: Option<Policy>) -> World {
         let phase = new_phase(&mut random);
-        World { random, guard: Guard::default(), policy, unsent: BTreeMap::new(), phase, calls: Vec::new() }
+        let (guard, unsent) = (Guard::default(), BTreeMap::new());
+        World { random, guard, policy, unsent, phase, calls: Vec::new(), beside: 0 }
+    }
+
+    /// How many calls there are, without those beside.
+    pub fn length(&self) -> usize {
+        self.calls.len() - self.beside
+    }
+
+    /// Calls about time come beside the number that a capture is to have, as all ticks do, so
+    /// that they take nothing from the others.
+    pub fn beside(&mut self, make: impl FnOnce(&mut World)) {
+        let (length, beside) = (self.calls.len(), self.beside);
+        make(self);
+        self.beside = beside + self.calls.len() - length;
     }
 
     /// Makes a call on the generator's own guard, so that the next steps can aim well.
     pub fn call(&mut self, call: Call) -> Outcome {
         let outcome = run(&mut self.guard, self.policy.as_ref(), &call);
+        self.beside += usize::from(matches!(call, Call::Tick { .. }));
         self.calls.push(call);
         outcome
     }
@@ -69,6 +85,8 @@ impl World {
             76..=77 => self.own_too_much(),
             78..=81 => talks::talk(self),
             82..=93 => self.own_what_rules_name(),
+            94..=113 => self.beside(ticks::step),
+            _ if peers == 0 && self.random.chance(10) => ticks::tick(self),
             _ if peers == 0 && self.random.chance(30) => self.call_for_a_stranger(),
             _ if peers == 0 || self.random.chance(connect) => self.connect(),
             _ if self.random.chance(disconnect) => self.disconnect_someone(),
@@ -80,6 +98,14 @@ impl World {
     pub fn start(&mut self) {
         self.unsent.clear();
         self.call(Call::Start);
+        if self.random.chance(25) {
+            ticks::tick(self);
+        }
+    }
+
+    /// True for a peer that can begin a message.
+    pub fn is_ready(&self, peer: u32) -> bool {
+        self.guard.peer(peer).is_some_and(|peer| peer.stream.count() == 0 && !peer.stream.is_closed())
     }
 
     pub fn connect(&mut self) {

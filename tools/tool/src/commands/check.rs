@@ -9,7 +9,7 @@ use forms::capture;
 pub const HELP: &str = "usage: aygeshunt check CAPTURE ..
 
 Makes the calls of captures on the proved guard and holds this tool's own reading to its answers: of each message the head, where it breaks
-and how many bytes were taken; of each call whom it is about, who owns which name, which replies are awaited. What differs is told as by
+and how many bytes were taken; of each call whom it is about, who owns which name, which replies are awaited, and how many a tick ends. What differs is told as by
 `explain`, and the status is then 3. The guard's answer is the one that counts; a difference is a fault of this tool. The calls of a capture
 whose layout is broken are checked up to the fault.
 

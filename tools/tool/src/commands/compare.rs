@@ -13,8 +13,9 @@ the rule that decided with its line, and for what passed to a peer the rule that
 
 The peers' numbers are those that the capture's own policy gave. Where OLD or NEW turns a peer away that the capture has, its calls are 30
 there; where one lets a peer in that the capture does not have, nothing more is known of it. A refusal that comes of an earlier one says
-so: 30 of a peer that was not let connect, 21 of a name that was not given, 24 of a reply whose call was not passed. A signal to everybody
-differs where it reaches other peers, and of those the rules are told. Rules that decide alike are no difference. CAPTURE may be -.
+so: 30 of a peer that was not let connect, 21 of a name that was not given, 24 of a reply whose call was not passed or whose wait expired. A
+signal to everybody differs where it reaches other peers, and of those the rules are told; a tick where it ends other waits. Rules that
+decide alike are no difference. CAPTURE may be -.
 
   aygeshunt compare examples/theatre/theatre.capture examples/theatre/theatre.policy new.policy
   aygeshunt busconfig new.conf > new.policy && aygeshunt compare evening.capture theatre.policy new.policy

@@ -16,7 +16,7 @@ counted from 1, as the lines of `replay`. A broken head is drawn box by box, wit
 one byte more or less would make it good, that row is drawn under it.
 
   --call N       only call N, its head drawn whatever the answer
-  --peer P       only calls of peer P, and messages to it
+  --peer P       only calls of peer P, messages to it, and ticks that ended a wait of it or for it
   --dropped      only what was dropped or refused: every answer but 0 and 10
   --boxes        every head drawn, not only broken ones
   --json         a line of JSON for each call

@@ -27,6 +27,7 @@ show     writes a script that compiles to the same capture, so that a long one c
            release ANSWER
            piece ANSWER TAKEN KIND VALUE COUNT SHOWN POSITION
            disconnect ANSWER BYTES
+           tick ANSWER COUNT
 
          Of a capture whose layout is broken the calls before the fault are shown, then where it is, with status 1.
 

@@ -4,8 +4,8 @@ use super::world::{Made, World};
 use crate::answers;
 use crate::cli::Style;
 use crate::explain::story::{Receiver, Story};
-use crate::explain::why::peer_words;
-use crate::explain::words::headline;
+use crate::explain::why::{peer_words, pending_words};
+use crate::explain::words::{ended_words, headline};
 use crate::head;
 use forms::capture::Call;
 use forms::message::SIGNAL;
@@ -58,6 +58,7 @@ fn done_words(call: &Call, made: &Made) -> String {
     }
     match (call, &made.receiver) {
         (Call::Connect { .. } | Call::Own { .. }, _) => "granted".to_string(),
+        (Call::Tick { .. }, _) => ended_words(made.place.value),
         (_, Receiver::Bus) => "passed to the bus".to_string(),
         (_, Receiver::Peer(peer)) => format!("passed to peer {peer}"),
         (_, Receiver::Peers(peers)) if peers.is_empty() => "passed, and reaches nobody".to_string(),
@@ -69,7 +70,8 @@ fn done_words(call: &Call, made: &Made) -> String {
     }
 }
 
-/// The send rule of what passed; of a signal to everybody each peer that one side reaches and another does not.
+/// The send rule of what passed; of a signal to everybody each peer that one side reaches and another does not; of a tick the
+/// waits that ended.
 fn more_lines(story: &Story, world: &World, made: &Made, sides: &[(&str, &World, &Made)]) -> Vec<String> {
     let reached: Vec<&Vec<u32>> = sides.iter().filter_map(|(_, _, made)| peers(made)).collect();
     let is_everywhere = |peer: &u32| reached.iter().all(|peers| peers.contains(peer));
@@ -79,7 +81,8 @@ fn more_lines(story: &Story, world: &World, made: &Made, sides: &[(&str, &World,
     differing.dedup();
     let each = differing.into_iter().filter(|_| peers(made).is_some());
     let sent = world.send_rule(story, made).map(|rule| format!("sent by {rule}"));
-    sent.into_iter().chain(each.filter_map(|peer| world.gets(story, peer))).collect()
+    let ended = made.expired.iter().map(pending_words);
+    sent.into_iter().chain(each.filter_map(|peer| world.gets(story, peer))).chain(ended).collect()
 }
 
 fn peers(made: &Made) -> Option<&Vec<u32>> {

@@ -1,9 +1,10 @@
 //! A capture's calls under another policy, with the peers' numbers that the capture has.
 
 use crate::answers;
-use crate::book::{Destination, Wait};
+use crate::book::{Book, Destination, Ending, Pending, Wait};
 use crate::explain::ask::Asked;
 use crate::explain::story::{Receiver, Story};
+use crate::explain::why::expiry_words;
 use crate::guard::{Guard, Place, BY_RULE, NO_RULE, TO_BUS, TO_PEER, TO_SLOTS};
 use crate::rules::{Named, Rules};
 use forms::capture::Call;
@@ -15,12 +16,17 @@ use std::collections::{BTreeMap, HashMap};
 pub struct Made {
     pub place: Place,
     pub receiver: Receiver,
+    /// The waits that a tick ended.
+    pub expired: Vec<Pending>,
 }
 
 impl Made {
     /// Whether two policies judge alike. Which rule decided is not asked, nor which slot a peer has.
     pub fn is_like(&self, other: &Made) -> bool {
-        self.place.answer == other.place.answer && self.receiver == other.receiver
+        let waits = |made: &Made| made.expired.iter().map(|pending| pending.wait).collect::<Vec<Wait>>();
+        self.place.answer == other.place.answer
+            && self.receiver == other.receiver
+            && waits(self) == waits(other)
     }
 }
 
@@ -37,6 +43,8 @@ pub struct World<'a> {
     strangers: HashMap<u32, usize>,
     unowned: HashMap<Vec<u8>, (u32, usize)>,
     dropped: HashMap<Wait, usize>,
+    /// What is awaited here.
+    book: Book,
 }
 
 impl<'a> World<'a> {
@@ -52,6 +60,7 @@ impl<'a> World<'a> {
             strangers: HashMap::new(),
             unowned: HashMap::new(),
             dropped: HashMap::new(),
+            book: Book::default(),
         }
     }
 
@@ -61,7 +70,11 @@ impl<'a> World<'a> {
             Call::Connect { uid, gids } => self.connect(*uid, gids, story),
             call => self.guard.make(self.image, call),
         };
-        let made = Made { place, receiver: self.receiver(story.call, &place) };
+        let expired = match (story.call, place.answer) {
+            (Call::Tick { tick, limit }, 0) => self.book.expiring(*tick, *limit),
+            _ => Vec::new(),
+        };
+        let made = Made { place, receiver: self.receiver(story.call, &place), expired };
         self.follow(story, &place);
         made
     }
@@ -109,6 +122,13 @@ impl<'a> World<'a> {
                 self.unowned.insert(name.clone(), (*peer, story.number));
             }
             Call::Piece { peer, .. } if !matches!(place.answer, 0 | 10) => self.follow_drop(story, *peer),
+            Call::Piece { peer, .. } if place.kind == TO_PEER => {
+                if let Some(head) = story.head() {
+                    self.book.passed(*peer, place.value, head, story.number);
+                }
+            }
+            Call::Disconnect { peer } if place.answer == 0 => self.book.disconnect(*peer, story.number),
+            Call::Tick { tick, limit } if place.answer == 0 => self.book.tick(*tick, *limit, story.number),
             _ => {}
         }
     }
@@ -139,10 +159,19 @@ impl<'a> World<'a> {
             }
             (24, _) => {
                 let serial = story.head()?.reply_serial?;
-                let call = self.dropped.get(&Wait { caller: to?, callee: story.sender(), serial });
-                call.map(|call| format!("because the call #{call} was not passed"))
+                self.unawaited(&Wait { caller: to?, callee: story.sender(), serial })
             }
             _ => None,
+        }
+    }
+
+    /// Why a reply is not awaited here: its call was not passed, or its wait expired, whichever was later.
+    fn unawaited(&self, wait: &Wait) -> Option<String> {
+        match (self.dropped.get(wait), self.book.ending(wait)) {
+            (dropped, Some(Ending::Expired(expiry))) if dropped.is_none_or(|call| *call < expiry.call) => {
+                Some(format!("because the wait {}", expiry_words(&expiry)))
+            }
+            (dropped, _) => dropped.map(|call| format!("because the call #{call} was not passed")),
         }
     }
 

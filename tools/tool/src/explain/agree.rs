@@ -29,6 +29,7 @@ pub fn difference(teller: &Teller, story: &Story) -> Option<String> {
             name_difference(teller, story, *peer, name)
         }
         Call::Piece { bytes, .. } if answer != 30 => piece_difference(teller, story, bytes.len()),
+        Call::Tick { tick, limit } => tick_difference(teller, story, *tick, *limit),
         _ => None,
     }
 }
@@ -70,6 +71,17 @@ fn name_difference(teller: &Teller, story: &Story, peer: u32, name: &[u8]) -> Op
         _ => 0,
     };
     (answer != expected).then(|| format!("the guard says {answer}, this tool {expected}"))
+}
+
+/// Whether the clock went back, and how many waits were old enough.
+fn tick_difference(teller: &Teller, story: &Story, tick: u64, limit: u64) -> Option<String> {
+    let expected = match tick < teller.book.tick {
+        true => (41, 0),
+        false => (0, teller.book.expiring(tick, limit).len()),
+    };
+    let said = (story.place.answer, story.place.value as usize);
+    let words = |(answer, ended): (u32, usize)| format!("{answer} with {ended} waits ended");
+    (said != expected).then(|| format!("the guard says {}, this tool {}", words(said), words(expected)))
 }
 
 /// A piece's answer and the bytes taken, by the stream and the head as the tool reads them.
@@ -158,12 +170,12 @@ fn is_awaited(
 ) -> bool {
     let Some((_, Destination::Peer(caller))) = destination else { return false };
     let wait = Wait { caller: *caller, callee: story.sender(), serial: head.reply_serial.unwrap_or(0) };
-    teller.book.began_in(&wait).is_some()
+    teller.book.pending(&wait).is_some()
 }
 
 fn wait_answer(teller: &Teller, story: &Story, head: &Head, callee: u32) -> u32 {
     let wait = Wait { caller: story.sender(), callee, serial: head.serial };
-    match (teller.book.began_in(&wait), teller.book.waits_of(story.sender()).count()) {
+    match (teller.book.pending(&wait), teller.book.waits_of(story.sender()).count()) {
         (Some(_), _) => 25,
         (None, 16..) => 26,
         (None, _) => 0,

@@ -2,7 +2,7 @@
 
 use super::story::{Decided, Message, Receiver, Story};
 use crate::answers;
-use crate::book::Peer;
+use crate::book::{Peer, Pending};
 use crate::head::{Head, Outcome, Reading};
 use crate::json::Json;
 use crate::rules::Named;
@@ -40,6 +40,7 @@ pub fn line(story: &Story) -> String {
             members.push(("receiver", receiver(&story.receiver)));
         }
         Call::Disconnect { .. } => members.push(("bytes", Json::Number(place.value.into()))),
+        Call::Tick { tick, limit } => members.extend(tick_members(story, *tick, *limit)),
         Call::Start => {}
     }
     members.extend(decided(&story.decided));
@@ -57,7 +58,26 @@ pub fn kind(call: &Call) -> &'static str {
         Call::Release { .. } => "release",
         Call::Piece { .. } => "piece",
         Call::Disconnect { .. } => "disconnect",
+        Call::Tick { .. } => "tick",
     }
+}
+
+fn tick_members(story: &Story, tick: u64, limit: u64) -> Members {
+    let wait = |pending: &Pending| {
+        Json::Object(vec![
+            ("caller", Json::Number(pending.wait.caller.into())),
+            ("callee", Json::Number(pending.wait.callee.into())),
+            ("serial", Json::Number(pending.wait.serial.into())),
+            ("call", Json::Number(pending.call as u64)),
+            ("age", Json::Number(pending.age(tick))),
+        ])
+    };
+    vec![
+        ("tick", Json::Number(tick)),
+        ("limit", Json::Number(limit)),
+        ("ended", Json::Number(story.place.value.into())),
+        ("waits", Json::List(story.expired.iter().map(wait).collect())),
+    ]
 }
 
 fn who(peer: &Peer) -> Json {

@@ -93,6 +93,7 @@ impl<'a> Teller<'a> {
                 self.book.release(*peer, &String::from_utf8_lossy(name), number);
             }
             Call::Disconnect { peer } if place.answer == 0 => self.book.disconnect(*peer, number),
+            Call::Tick { tick, limit } if place.answer == 0 => self.book.tick(*tick, *limit, number),
             Call::Piece { peer, bytes } => self.follow_piece(*peer, bytes, place, message),
             _ => {}
         }

@@ -1,7 +1,7 @@
 //! One call with all that is told of it.
 
 use super::{agree, why, Teller};
-use crate::book::{Destination, Peer};
+use crate::book::{Destination, Peer, Pending};
 use crate::guard::{Place, BY_RULE, NO_RULE, TO_BUS, TO_PEER, TO_SLOTS};
 use crate::head::{Head, Outcome, Reading};
 use crate::rules::Named;
@@ -63,6 +63,8 @@ pub struct Story<'a> {
     pub destination: Option<(String, Destination)>,
     pub receiver: Receiver,
     pub decided: Decided,
+    /// The waits that a tick ended, as the host knows them.
+    pub expired: Vec<Pending>,
     /// Sentences that say why, each a line.
     pub why: Vec<String>,
     /// What the tool read otherwise than the guard.
@@ -89,6 +91,7 @@ impl<'a> Story<'a> {
             destination,
             receiver: receiver(teller, &place, call),
             decided: decided(teller, section, &place),
+            expired: expired(teller, &place, call),
             message,
             why: Vec::new(),
             disagreement: None,
@@ -112,7 +115,7 @@ impl<'a> Story<'a> {
         !matches!(self.place.answer, 0 | 10)
     }
 
-    /// Whether the call is one of a peer or reaches it.
+    /// Whether the call is one of a peer, reaches it, or ends a wait that it is part of.
     pub fn is_about(&self, number: u32) -> bool {
         let is_new =
             matches!(self.call, Call::Connect { .. }) && self.place.answer == 0 && self.place.value == number;
@@ -122,7 +125,16 @@ impl<'a> Story<'a> {
             Receiver::Peers(peers) => peers.contains(&number),
             Receiver::Nobody | Receiver::Bus => false,
         };
-        self.call.peer() == Some(number) || is_new || is_meant || is_reached
+        let is_part = |pending: &Pending| pending.wait.caller == number || pending.wait.callee == number;
+        let has_ended = self.expired.iter().any(is_part);
+        self.call.peer() == Some(number) || is_new || is_meant || is_reached || has_ended
+    }
+}
+
+fn expired(teller: &Teller, place: &Place, call: &Call) -> Vec<Pending> {
+    match (call, place.answer) {
+        (Call::Tick { tick, limit }, 0) => teller.book.expiring(*tick, *limit),
+        _ => Vec::new(),
     }
 }
 

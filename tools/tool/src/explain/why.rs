@@ -3,7 +3,7 @@
 use super::ask;
 use super::story::{Decided, Message, Receiver, Story};
 use super::Teller;
-use crate::book::{awaits, is_reply, Book, Destination, Ending, Peer, Wait, BUS_NAME};
+use crate::book::{awaits, is_reply, Book, Destination, Ending, Expiry, Peer, Pending, Wait, BUS_NAME};
 use crate::guard::TO_SLOTS;
 use crate::head::Head;
 use crate::rules::Named;
@@ -34,6 +34,8 @@ pub fn sentences(teller: &Teller, story: &Story) -> Vec<String> {
         (Call::Release { name, .. }, 35) => vec![owner_words(&teller.book, &String::from_utf8_lossy(name))],
         (Call::Disconnect { peer }, 0) => ended_waits(&teller.book, *peer),
         (Call::Piece { .. }, _) => piece(teller, story),
+        (Call::Tick { tick, .. }, 0) => expired(&teller.book, story, *tick),
+        (Call::Tick { tick, .. }, 41) => vec![went_back(&teller.book, *tick)],
         _ => Vec::new(),
     }
 }
@@ -92,14 +94,42 @@ fn own(book: &Book, number: u32, name: &[u8], answer: u32) -> Vec<String> {
 }
 
 fn ended_waits(book: &Book, number: u32) -> Vec<String> {
-    let line = |(wait, call): &(Wait, usize)| {
-        format!(
-            "with it ended the wait of peer {} for peer {}, serial {}, from #{call}",
-            wait.caller, wait.callee, wait.serial
-        )
-    };
-    let is_its = |(wait, _): &&(Wait, usize)| wait.caller == number || wait.callee == number;
+    let line = |pending: &Pending| format!("with it ended {}", pending_words(pending));
+    let is_its = |pending: &&Pending| pending.wait.caller == number || pending.wait.callee == number;
     book.waits.iter().filter(is_its).map(line).collect()
+}
+
+/// "the wait of peer 1 for peer 2, serial 7, from #12".
+pub fn pending_words(Pending { wait, call, .. }: &Pending) -> String {
+    format!("the wait of peer {} for peer {}, serial {}, from #{call}", wait.caller, wait.callee, wait.serial)
+}
+
+/// What a tick ended, and how old the oldest wait is that goes on.
+fn expired(book: &Book, story: &Story, now: u64) -> Vec<String> {
+    let aged = |pending: &Pending| format!("{}, {} old", pending_words(pending), ticks(pending.age(now)));
+    let mut lines: Vec<String> =
+        story.expired.iter().map(|over| format!("so ended {}", aged(over))).collect();
+    let left: Vec<&Pending> = book.waits.iter().filter(|pending| !story.expired.contains(pending)).collect();
+    if let Some(oldest) = left.iter().min_by_key(|pending| pending.tick) {
+        lines.push(match left.len() {
+            1 => format!("one goes on: {}", aged(oldest)),
+            count => format!("{count} go on, the oldest of them {}", aged(oldest)),
+        });
+    }
+    lines
+}
+
+pub fn ticks(count: u64) -> String {
+    match count {
+        1 => "1 tick".to_string(),
+        count => format!("{count} ticks"),
+    }
+}
+
+fn went_back(book: &Book, tick: u64) -> String {
+    let since = book.tick_since.map(|call| format!(" since #{call}")).unwrap_or_default();
+    let back = ticks(book.tick.saturating_sub(tick));
+    format!("the last tick is {}{since}: the host's clock went back by {back}", book.tick)
 }
 
 fn piece(teller: &Teller, story: &Story) -> Vec<String> {
@@ -120,7 +150,7 @@ fn piece(teller: &Teller, story: &Story) -> Vec<String> {
         22 | 23 => denied(teller, story, peer, head),
         24 => vec![not_awaited(book, story, peer, head)],
         25 => same_call(book, story, peer, head),
-        26 => book.waits_of(peer.number).map(wait_words).collect(),
+        26 => book.waits_of(peer.number).map(|pending| wait_words(book, pending)).collect(),
         _ => Vec::new(),
     }
 }
@@ -149,8 +179,8 @@ fn passed(teller: &Teller, story: &Story, head: &Head) -> Vec<String> {
         let wait = reply_to(caller, story, head);
         return teller
             .book
-            .began_in(&wait)
-            .map(|call| format!("it is the reply to #{call}"))
+            .pending(&wait)
+            .map(|pending| format!("it is the reply to #{}", pending.call))
             .into_iter()
             .collect();
     }
@@ -233,15 +263,19 @@ fn not_awaited(book: &Book, story: &Story, sender: &Peer, head: &Head) -> String
         (Some(Ending::Replied(call)), _) => format!(": it was given in #{call}"),
         (Some(Ending::CalleeLeft(call)), _) => format!(": that wait ended in #{call}, as the callee left"),
         (Some(Ending::CallerLeft(call)), _) => format!(": that wait ended in #{call}, as the caller left"),
+        (Some(Ending::Expired(expiry)), _) => format!(": that wait {}", expiry_words(&expiry)),
         (None, Some((callee, Ending::CalleeLeft(call)))) => {
             format!(": that was for peer {callee} to give, which left in #{call}")
+        }
+        (None, Some((callee, Ending::Expired(expiry)))) => {
+            format!(": that was for peer {callee} to give, and the wait {}", expiry_words(&expiry))
         }
         (None, Some((callee, _))) => format!(": that was for peer {callee} to give"),
         (None, None) => String::new(),
     };
     let open: Vec<String> = book
         .waits_of(caller)
-        .map(|(wait, _)| format!("serial {} of peer {}", wait.serial, wait.callee))
+        .map(|Pending { wait, .. }| format!("serial {} of peer {}", wait.serial, wait.callee))
         .collect();
     let open = if open.is_empty() { "nothing".to_string() } else { open.join(", ") };
     format!("{what}{ended}; it awaits {open}")
@@ -250,10 +284,24 @@ fn not_awaited(book: &Book, story: &Story, sender: &Peer, head: &Head) -> String
 fn same_call(book: &Book, story: &Story, sender: &Peer, head: &Head) -> Vec<String> {
     let Some((_, Destination::Peer(callee))) = story.destination else { return Vec::new() };
     let wait = Wait { caller: sender.number, callee, serial: head.serial };
-    let line = |call| format!("serial {} awaits its reply of peer {callee} since #{call}", head.serial);
-    book.began_in(&wait).map(line).into_iter().collect()
+    let line = |pending: &Pending| {
+        format!("serial {} awaits its reply of peer {callee} {}", head.serial, since_words(book, pending))
+    };
+    book.pending(&wait).map(line).into_iter().collect()
 }
 
-fn wait_words((wait, call): &(Wait, usize)) -> String {
-    format!("awaited: the reply of peer {} to serial {}, since #{call}", wait.callee, wait.serial)
+fn wait_words(book: &Book, pending: &Pending) -> String {
+    let Wait { callee, serial, .. } = pending.wait;
+    format!("awaited: the reply of peer {callee} to serial {serial}, {}", since_words(book, pending))
+}
+
+/// Since when a reply is awaited; in ticks only where the host has a clock.
+fn since_words(book: &Book, pending: &Pending) -> String {
+    let ago = book.tick_since.map(|_| format!(", {} ago", ticks(pending.age(book.tick)))).unwrap_or_default();
+    format!("since #{}{ago}", pending.call)
+}
+
+/// "from #12 expired in #20, at tick 1000, 30 ticks old".
+pub fn expiry_words(Expiry { call, tick, began, age }: &Expiry) -> String {
+    format!("from #{began} expired in #{call}, at tick {tick}, {} old", ticks(*age))
 }

@@ -1,7 +1,7 @@
 //! A story as lines for a person.
 
 use super::story::{Decided, Receiver, Story};
-use super::why::peer_words;
+use super::why::{peer_words, ticks};
 use crate::answers::{self, is_broken};
 use crate::book::Destination;
 use crate::cli::Style;
@@ -65,6 +65,10 @@ pub fn headline(story: &Story) -> String {
             None => format!("{}{}, {} bytes", peer(), unaddressed(story), bytes.len()),
         },
         Call::Disconnect { .. } => format!("{} leaves", peer()),
+        Call::Tick { tick, limit: 0 } => format!("tick {tick}: all waits are to end"),
+        Call::Tick { tick, limit } => {
+            format!("tick {tick}: waits of {} and more are to end", ticks(*limit))
+        }
     }
 }
 
@@ -149,6 +153,7 @@ fn done_words(story: &Story) -> String {
             format!("gone, with {} bytes of an unfinished or broken message", place.value)
         }
         (Call::Disconnect { .. }, _) => "gone".to_string(),
+        (Call::Tick { .. }, _) => ended_words(place.value),
         (_, Receiver::Bus) => "passed to the bus".to_string(),
         (_, Receiver::Peer(number)) => format!("passed to peer {number}"),
         (_, Receiver::Peers(peers)) if peers.is_empty() => "passed, and reaches nobody".to_string(),
@@ -157,6 +162,15 @@ fn done_words(story: &Story) -> String {
             format!("passed to peers {}", numbers.join(" "))
         }
         _ => "done".to_string(),
+    }
+}
+
+/// How many waits a tick ended.
+pub fn ended_words(count: u32) -> String {
+    match count {
+        0 => "no wait ended".to_string(),
+        1 => "1 wait ended".to_string(),
+        count => format!("{count} waits ended"),
     }
 }
 

@@ -35,6 +35,7 @@ pub fn calls(imported: &Imported) -> Vec<String> {
         Call::Release { peer, name } => format!("{peer} releases {}", String::from_utf8_lossy(name)),
         Call::Piece { peer, bytes } => format!("{peer} {}", message(bytes)),
         Call::Disconnect { peer } => format!("{peer} leaves"),
+        Call::Tick { tick, limit } => format!("tick {tick} {limit}"),
     };
     imported.capture.calls.iter().map(word).collect()
 }

@@ -1,0 +1,28 @@
+-- `replay::open_calls::reply` meets its contract.
+use Prim.Native.Nat.{_-_, _≤_}
+use borrow.Author.Needs.{needs}
+use Rattle.replay.proofs.open_calls.reply.Statement.{statement}
+use Rattle.replay.proofs.open_calls.reply.Tie as tie
+
+abbrev Inv-loop : tie.InvT-loop
+Inv-loop ledger₀ slot callee serial n i₀ ledger i = i ≤ n
+
+abbrev μ-loop : tie.MeasureT-loop
+μ-loop ledger₀ slot callee serial n i₀ ledger i = n - i
+
+pub reply-spec : {M : Type 1} → statement M
+reply-spec =
+    tie.close
+    (tie.spec
+    Inv-loop
+    μ-loop
+    (λ c κs. search needs)
+    (λ c. search needs)
+    (λ c κs. search needs)
+    (λ c κs. search needs)
+    (λ c κs. search needs)
+    (λ c. search needs)
+    (λ c. search needs)
+    (λ c. search needs)
+    (λ c. search needs)
+    (λ c. search needs))
