@@ -31,6 +31,9 @@ static uint64_t batch(struct bytes b) {
     return taken == b.len && wrote ? told(places[wrote - 1]) % 256 : ~0ULL;
 }
 
+// A tick, behind the head: the test of the memory reads it.
+static uint64_t tick(struct bytes b) { return guard_tick(memory, b.len, UINT64_MAX) % 256; }
+
 // The body's one byte, behind the head: the test of the memory reads the head, and so does the end of the message.
 static uint64_t last_byte(struct bytes b) { return piece((struct bytes){b.at + b.len, 1}); }
 
@@ -141,6 +144,7 @@ static void show(const char *name, struct bytes b, size_t none) {
     size_t read = depth(read_head, b, 0, name) - none;
     b.at[4] = 1;
     size_t piece_takes = depth(piece, b, 10, name);
+    size_t tick_takes = depth(tick, b, 0, name) - none;
     piece_takes = more(piece_takes, depth(last_byte, b, 20, name)) - none;
     // two whole messages; a head; the byte that ends its message, and the next head; and that message's end
     struct bytes two = in_a_row((struct bytes){b.at, b.len + 1}, 2);
@@ -148,7 +152,7 @@ static void show(const char *name, struct bytes b, size_t none) {
     batch_takes = more(batch_takes, depth(batch, b, 10, name));
     batch_takes = more(batch_takes, depth(batch, (struct bytes){two.at + b.len, 1 + b.len}, 10, name));
     batch_takes = more(batch_takes, depth(batch, (struct bytes){two.at + b.len, 1}, 20, name)) - none;
-    printf("| %s | %zu | %zu | %zu |\n", name, read, piece_takes, batch_takes);
+    printf("| %s | %zu | %zu | %zu | %zu |\n", name, read, piece_takes, batch_takes, tick_takes);
 }
 
 int main(void) {
@@ -157,7 +161,7 @@ int main(void) {
     char deep[300];
     size_t deep_n = deep_signature(deep);
     unsigned char path[] = {2, 0, 0, 0, '/', 'a', 0}, text[] = {3, 0, 0, 0, 0xe2, 0x82, 0xac, 0};
-    printf("| head | stack of a reading, bytes | of a piece | of a batch |\n|-|-:|-:|-:|\n");
+    printf("| head | stack of a reading, bytes | of a piece | of a batch | of a tick |\n|-|-:|-:|-:|-:|\n");
     show("without such a field", message_bytes(&(struct message){.kind = 5, .path = PATH, .member = MEMBER, .destination = NAME}), none);
     show("a field of u", message_bytes(&(struct message){.kind = 5, .extra = &NUMBER}), none);
     show("64 variants round y", nested("v", 63, "y", "\1", 1, 1), none);

@@ -9,7 +9,8 @@ use lib.ListN.{length, drop, length-drop, drop-of-length-le}
 use borrow.Author.Needs.{needs}
 use borrow.Author.Tests.{le-leb, lt-leb, lt-ltb, le-ltb, leb-true, ne-eqb, not-true, not-false}
 use Rattle.wire.specs.Lists.{every, distinct}
-use Rattle.wire.proofs.Texts.{both-first, both-second, both-true}
+use Rattle.wire.proofs.Texts.{both-first, both-second}
+use Rattle.memory.proofs.Octets.{every-each}
 use Rattle.wire.proofs.Tests.{clash, refute}
 use Rattle.rules.specs.State.{Pending, isPeer, firstBy}
 use Rattle.rules.specs.Pending.{isCall, sameCall, awaits}
@@ -131,17 +132,11 @@ module _ {m : List ℕ} {i tick least j : ℕ} (l : Calling m i tick least j) (h
           good = step ∙ rw (← e, not-false r t, back) (l .good);
         }
       where
-        lower : (n k : ℕ) → n ≤ k → (ws : List Pending) → every (λ w. leb k (w .serial)) ws ≡ true → every (λ w. leb n (w .serial)) ws ≡ true
-        lower n k o [] e = refl
-        lower n k o (w ∷ ws) e =
-            let x : k ≤ w .serial = leb-true k (w .serial) (both-first (leb k (w .serial)) (every (λ v. leb k (v .serial)) ws) e) in
-            both-true (leb n (w .serial)) (every (λ v. leb n (v .serial)) ws) (le-leb n (w .serial) (omega arith))
-            (lower n k o ws (both-second (leb k (w .serial)) (every (λ v. leb k (v .serial)) ws) e))
-
         above-next : (n : ℕ) → n ≤ least → n ≤ serialAt m i (j - 1) → every (λ w. leb n (w .serial)) (drop (j - 1) (peerAt m i .pending)) ≡ true
         above-next n a b =
             rw (calls-next m i (j - 1) calling-inside, back, le-leb n (serialAt m i (j - 1)) b)
-            (lower n least a (drop j (peerAt m i .pending)) (l .above .are))
+            (every-each (λ w. leb least (w .serial)) (λ w. leb n (w .serial))
+            (λ w q. let k : least ≤ w .serial = leb-true least (w .serial) q in le-leb n (w .serial) (omega arith)) (drop j (peerAt m i .pending)) (l .above .are))
 
     pub calling-stops : not r ≡ true → false ≡ goodPending (stateOf m .slots) tick (peerAt m i .pending)
     unfolding goodPending

@@ -14,7 +14,7 @@ use Rattle.stream.specs.Tail.{Tail, judge}
 use Rattle.policy.specs.Matching.{fieldOf}
 use Rattle.rules.specs.State.{Pending, free, peer, Peer, State, isPeer, firstBy, withStream}
 use Rattle.rules.specs.Addresses.{slot, resolve}
-use Rattle.rules.specs.Pending.{expired, endedWhere, removeCalls}
+use Rattle.rules.specs.Pending.{expired, endedWhere, removeCalls, pendingIn, pendingAll}
 use Rattle.rules.specs.Judge.{isReply}
 use Rattle.rules.specs.Calls.{Step, empty, slotAt, disconnect, tick}
 use Rattle.rules.specs.declared.Taken.{Taken}
@@ -24,7 +24,7 @@ use Rattle.rules.specs.View.{seenPeer, seenSlot, seen, seenStep}
 use Rattle.rules.proofs.View.{chosen, same-seen, slot-seen, resolve-seen}
 use Rattle.rules.proofs.Seen.{tick-seen}
 use Rattle.rules.proofs.Waits.{okPending}
-use Rattle.rules.proofs.Expiry.{pendingIn, pendingAll, tick-reports, tick-waits}
+use Rattle.rules.proofs.Expiry.{tick-reports, tick-waits}
 use Rattle.wire.proofs.Tests.{by-test}
 use Rattle.rules.proofs.First.{taken-below, number-found}
 use Rattle.rules.specs.Awaited.{isWaiting, waitsYoung, isAwaited}

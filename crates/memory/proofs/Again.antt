@@ -27,7 +27,7 @@ use Rattle.rules.specs.Calls.{isOwner}
 use Rattle.memory.specs.Encoding.{pendingBytes, pendingOf, wordOf}
 use Rattle.memory.specs.Good.{nobody, goodNames, goodPending, goodSlots}
 use Rattle.memory.specs.Layout.{serialOffset, tickOffset}
-use Rattle.memory.specs.Sound.{word32, word64}
+use Rattle.memory.specs.Sound.{word32}
 use Rattle.memory.proofs.Octets.{every-both, distinct-every}
 use Rattle.memory.proofs.Peers.{connected-within}
 
@@ -79,15 +79,16 @@ names-back xs later e =
     (distinct-every t (λ x y. same y x) xs e)
 
 pub pendings-back : (all : List (Slot Tail)) (last tick : ℕ) (ws : List Pending) → goodSlots all last tick all ≡ true → last < 4294967296
-    → goodPending all tick ws ≡ true → every (λ w. word32 (w .serial) && word64 (w .tick)) ws ≡ true → map pendingOf (map pendingBytes ws) ≡ ws
+    → tick < 18446744073709551616
+    → goodPending all tick ws ≡ true → every (λ w. word32 (w .serial)) ws ≡ true → map pendingOf (map pendingBytes ws) ≡ ws
 unfolding goodPending
-pendings-back all last tick ws g l e n =
+pendings-back all last tick ws g l k e n =
     let t : Pending → Bool = λ w. any (isPeer (w .callee)) all && leb 1 (w .serial) && leb (w .tick) tick in
-    let u : Pending → Bool = λ w. word32 (w .serial) && word64 (w .tick) in
+    let u : Pending → Bool = λ w. word32 (w .serial) in
     maps-back (λ w. t w && u w) pendingBytes pendingOf
     (λ w h. let c : any (isPeer (w .callee)) all ≡ true = search both in
-    let k : w .callee ≤ last = connected-within all last tick (w .callee) all g c in
-    let x : word32 (w .serial) ≡ true = search both in
-    let y : word64 (w .tick) ≡ true = search both in
-    pending-back w (omega arith) (ltb-true (w .serial) 4294967296 x) (ltb-true (w .tick) 18446744073709551616 y))
+    let x : w .callee ≤ last = connected-within all last tick (w .callee) all g c in
+    let d : leb (w .tick) tick ≡ true = search both in
+    let y : w .tick ≤ tick = leb-true (w .tick) tick d in
+    pending-back w (omega arith) (ltb-true (w .serial) 4294967296 (both-second (t w) (u w) h)) (omega arith))
     ws (every-both t u ws (distinct-every t sameCall ws e) n)

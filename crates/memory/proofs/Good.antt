@@ -1,5 +1,5 @@
 -- Good memory: it is the bytes of the state that is read off it, and that state is sound.
-use mathlib.Core.Bool.{Bool, true, false, cond, _&&_}
+use mathlib.Core.Bool.{Bool, true, false, cond}
 use mathlib.Core.List.{List, [], _∷_, _++_, map}
 use mathlib.Core.Path.{_≡_, refl, sym, ap, ap₂, _∙_}
 use Prim.Native.Nat.{ℕ, zero, suc, _+_, _*_, _≤_, min, _<_}
@@ -10,7 +10,7 @@ use lib.Seq.{take-add}
 use borrow.Author.Tests.{eqb-true, lt-ltb}
 use Rattle.wire.specs.Lists.{every}
 use Rattle.wire.specs.Bytes.{Below}
-use Rattle.wire.specs.Words.{wordAt, longAt, wordBytes}
+use Rattle.wire.specs.Words.{wordAt, wordBytes}
 use Rattle.wire.specs.declared.Order.the-variants.{Little}
 use Rattle.wire.proofs.Texts.{both, both-true, same-eq}
 use Rattle.wire.proofs.Words.{word-bytes}
@@ -20,10 +20,10 @@ use Rattle.tables.proofs.Words.{bytes-take, bytes-drop, word-fits}
 use Rattle.stream.specs.Tail.{Tail}
 use Rattle.rules.specs.State.{Pending, Slot, free, peer, putSlot}
 use Rattle.memory.specs.Layout.{memoryLength, slotLength, slotStart, gidWidth, gidRoom, pendingAt}
-use Rattle.memory.specs.Layout.{callWidth, callRoom, uidAt, gidsAt, tickAt, slotsAt, serialOffset, tickOffset}
+use Rattle.memory.specs.Layout.{callWidth, callRoom, uidAt, gidsAt, tickAt, slotsAt, serialOffset}
 use Rattle.memory.specs.Encoding.{slotBytes, clockBytes, memoryOf, wordOf, pendingOf, peerOf, slotOf, stateOf}
 use Rattle.memory.specs.Good.{goodSlots, plainSlots, good}
-use Rattle.memory.specs.Sound.{headOctets, word32, word64, narrow, Sound, Held}
+use Rattle.memory.specs.Sound.{headOctets, word32, narrow, Sound, Held}
 use Rattle.memory.proofs.Octets.{slot-octets}
 use Rattle.memory.proofs.Frame.{put-memory, put-last}
 use Rattle.memory.proofs.Reading.{sixteen}
@@ -69,7 +69,7 @@ good-is m b e =
     ap₂ _++_ (clock-plain m b (omega arith)) (plain-slots 16 (drop slotsAt m) (length-drop slotsAt m ∙ omega arith) (good-plain m e))
     ∙ take-append-drop slotsAt m
 
--- ---- the numbers read off bytes are of 32 bits, and ticks of 64
+-- ---- the numbers read off bytes are of 32 bits
 
 every-parts : {A : Type 0} (t : A → Bool) (dec : List ℕ → A) (w : ℕ) → ((b : List ℕ) → Below 256 b → t (dec b) ≡ true)
     → (n : ℕ) (m : List ℕ) → Below 256 m → every t (map dec (parts w n m)) ≡ true
@@ -87,9 +87,6 @@ every-table t dec w k f m b = every-parts t dec w f (min (wordAt Little m 0) k) 
 word-narrow : (a : ℕ) (b : List ℕ) → Below 256 b → word32 (wordAt Little b a) ≡ true
 word-narrow a b f = lt-ltb (wordAt Little b a) 4294967296 (word-fits b a f)
 
-long-narrow : (a : ℕ) (b : List ℕ) → Below 256 b → word64 (longAt b a) ≡ true
-long-narrow a b f = lt-ltb (longAt b a) 18446744073709551616 (long-below b a f)
-
 pub slot-narrow : (b : List ℕ) → Below 256 b → narrow (slotOf b) ≡ true
 unfolding slotOf peerOf narrow
 slot-narrow b f = go (eqb (wordAt Little b 0) 0)
@@ -99,9 +96,8 @@ slot-narrow b f = go (eqb (wordAt Little b 0) 0)
     go false =
         let u = word-narrow uidAt b f in
         let v = every-table word32 wordOf gidWidth gidRoom (word-narrow 0) (drop gidsAt b) (bytes-drop gidsAt b f) in
-        let x = every-table (λ (w : Pending). word32 (w .serial) && word64 (w .tick)) pendingOf callWidth callRoom
-        (λ c k. both-true (word32 (wordAt Little c serialOffset)) (word64 (longAt c tickOffset)) (word-narrow serialOffset c k) (long-narrow tickOffset c k))
-        (drop pendingAt b) (bytes-drop pendingAt b f) in
+        let x = every-table (λ (w : Pending). word32 (w .serial)) pendingOf callWidth callRoom (word-narrow serialOffset) (drop pendingAt b)
+        (bytes-drop pendingAt b f) in
         rw (u, v, x)
 
 pub good-sound : (m : List ℕ) → Below 256 m → good m ≡ true → Sound (stateOf m)

@@ -32,6 +32,12 @@ module _ {A : Type 0} (t : A → Bool) where
       both-true (t x && u x) (every (λ y. t y && u y) l) (both-true (t x) (u x) (both-first (t x) (every t l) e) (both-first (u x) (every u l) f))
       (every-both u l (both-second (t x) (every t l) e) (both-second (u x) (every u l) f))
 
+  -- what each thing that passes one test passes too
+  pub every-each : (u : A → Bool) → ((x : A) → t x ≡ true → u x ≡ true) → (l : List A) → every t l ≡ true → every u l ≡ true
+  every-each u f [] e = refl
+  every-each u f (x ∷ l) e =
+      both-true (u x) (every u l) (f x (both-first (t x) (every t l) e)) (every-each u f l (both-second (t x) (every t l) e))
+
   pub distinct-every : (is : A → A → Bool) (l : List A) → distinct t is l ≡ true → every t l ≡ true
   distinct-every is [] e = refl
   distinct-every is (x ∷ l) e = both-true (t x) (every t l) (first-good t is x l e) (distinct-every is l (rest-distinct t is x l e))

@@ -48,7 +48,8 @@ tick-back s h =
     ∙ drop-at (wordBytes (s .last)) t tickAt (word-length (s .last)))
     ∙ long-again (s .tick) (cells slotBytes (s .slots)) h
 
-module _ (all : List (Slot Tail)) (last tick : ℕ) (g : goodSlots all last tick all ≡ true) (l : last < 4294967296) where
+module _ (all : List (Slot Tail)) (last tick : ℕ) (g : goodSlots all last tick all ≡ true) (l : last < 4294967296)
+    (k : tick < 18446744073709551616) where
   peer-fits : (p : Peer Tail) (later : List (Slot Tail)) → GoodPeer all last tick p later → narrow (peer p) ≡ true → Fits p
   unfolding narrow
   peer-fits p later q n =
@@ -59,7 +60,7 @@ module _ (all : List (Slot Tail)) (last tick : ℕ) (g : goodSlots all last tick
         gids = q .gids;
         gidsBack = words-back (p .gids) (search both);
         calls = q .calls;
-        callsBack = pendings-back all last tick (p .pending) g l (q .pending) (search both);
+        callsBack = pendings-back all last tick (p .pending) g l k (q .pending) (search both);
         names = q .few;
         namesBack = names-back (p .names) later (q .names);
         taken = omega arith;
@@ -89,7 +90,7 @@ unfolding stateOf
 state-again s g =
     let a : wordAt Little (memoryOf s) 0 ≡ s .last = last-back s (g .fits) in
     let b : map slotOf (parts slotLength 16 (drop slotsAt (memoryOf s))) ≡ s .slots
-    = rw (memory-slots s, slot-parts (s .slots) (g .sixteen)) (slots-again (s .slots) (s .last) (s .tick) (g .slots) (g .fits) (s .slots) (g .slots) (g .narrows)) in
+    = rw (memory-slots s, slot-parts (s .slots) (g .sixteen)) (slots-again (s .slots) (s .last) (s .tick) (g .slots) (g .fits) (g .ticks) (s .slots) (g .slots) (g .narrows)) in
     let c : longAt (memoryOf s) tickAt ≡ s .tick = tick-back s (g .ticks) in
     λ j. record { last = a j; tick = c j; slots = b j }
 
@@ -97,7 +98,7 @@ state-again s g =
 pub good-memory : (s : State Tail) → Sound s → good (memoryOf s) ≡ true
 unfolding good
 good-memory s g =
-    let p = plain-slots (s .slots) (s .last) (s .tick) (g .slots) (g .fits) (s .slots) (g .slots) (g .narrows) in
+    let p = plain-slots (s .slots) (s .last) (s .tick) (g .slots) (g .fits) (g .ticks) (s .slots) (g .slots) (g .narrows) in
     rw (
       eq-eqb (length (memoryOf s)) memoryLength (memory-length s (g .sixteen)),
       state-again s g,

@@ -1,4 +1,4 @@
--- A good state as a fact: sixteen slots that keep the rules, numbers of 32 bits, ticks of 64 and bytes of 8. Memory is good exactly where it is the bytes of a sound
+-- A good state as a fact: sixteen slots that keep the rules, numbers of 32 bits, a tick of 64 and bytes of 8. Memory is good exactly where it is the bytes of a sound
 -- state, and every call leaves one (rule 10.6).
 use mathlib.Core.Bool.{Bool, true, _&&_}
 use mathlib.Core.List.{List}
@@ -15,13 +15,10 @@ use Rattle.memory.specs.Layout.{memoryLength}
 abbrev pub word32 : ℕ → Bool
 word32 n = ltb n 4294967296
 
-abbrev pub word64 : ℕ → Bool
-word64 n = ltb n 18446744073709551616
-
--- the numbers that a call or a message brings are of 32 bits, and ticks of 64
+-- the numbers that a call or a message brings are of 32 bits
 unfoldable pub narrow : Slot Tail → Bool
 narrow free = true
-narrow (peer p) = word32 (p .uid) && every word32 (p .gids) && every (λ w. word32 (w .serial) && word64 (w .tick)) (p .pending)
+narrow (peer p) = word32 (p .uid) && every word32 (p .gids) && every (λ w. word32 (w .serial)) (p .pending)
 
 abbrev pub octet : ℕ → Bool
 octet b = ltb b 256

@@ -8,21 +8,12 @@ use lib.Dec.{ltb}
 use lib.ListN.{length, getD, List·getD-map}
 use borrow.Author.Tests.{ltb-false, le-ltb, lt-ltb}
 use Rattle.rules.specs.State.{Pending, Slot, free, peer, State}
-use Rattle.rules.specs.Pending.{expired, removeCalls, countSlot, countIn}
+use Rattle.rules.specs.Pending.{expired, removeCalls, countSlot, countIn, pendingIn, pendingAll}
 use Rattle.rules.specs.Awaited.{isWaiting, waitsYoung}
 use Rattle.rules.specs.Calls.{Step, tick}
 use Rattle.rules.specs.declared.Ticked.{Ticked}
 use Rattle.wire.proofs.Tests.{choice}
 use Rattle.rules.proofs.Waits.{ended-where-awaits, ended-where-count}
-
--- how many calls are pending in a slot, and in all
-abbrev pub pendingIn : {S : Type 0} → Slot S → ℕ
-pendingIn free = 0
-pendingIn (peer p) = length (p .pending)
-
-unfoldable pub pendingAll : {S : Type 0} → List (Slot S) → ℕ
-pendingAll [] = 0
-pendingAll (x ∷ l) = pendingIn x + pendingAll l
 
 module _ {S : Type 0} (t : Pending → Bool) where
   removed-count : (x : Slot S) → pendingIn (removeCalls t x) + countSlot t x ≡ pendingIn x

@@ -3,6 +3,7 @@ use mathlib.Core.Bool.{Bool, true, false, cond, _&&_}
 use mathlib.Core.List.{List, [], _∷_}
 use Prim.Native.Nat.{ℕ, _+_, _-_}
 use lib.Dec.{eqb, leb}
+use lib.ListN.{length}
 use Rattle.wire.specs.Lists.{any}
 use Rattle.rules.specs.State.{Pending, Slot, free, peer, dropFirst, withPending}
 
@@ -55,3 +56,12 @@ countSlot t (peer p) = countWhere t (p .pending)
 unfoldable pub countIn : {S : Type 0} → (Pending → Bool) → List (Slot S) → ℕ
 countIn t [] = 0
 countIn t (x ∷ l) = countSlot t x + countIn t l
+
+-- how many calls are pending in a slot, and in all: what is reported is held to it (rule 8.12)
+abbrev pub pendingIn : {S : Type 0} → Slot S → ℕ
+pendingIn free = 0
+pendingIn (peer p) = length (p .pending)
+
+unfoldable pub pendingAll : {S : Type 0} → List (Slot S) → ℕ
+pendingAll [] = 0
+pendingAll (x ∷ l) = pendingIn x + pendingAll l

@@ -1,4 +1,4 @@
--- Good pending calls are good by themselves, not newer than the last tick, and have connected callees; serials of 32 bits and ticks of 64.
+-- Good pending calls are good by themselves, not newer than the last tick, and have connected callees; serials of 32 bits.
 use mathlib.Core.Path.{_≡_, refl, subst}
 use mathlib.Core.Bool.{Bool, true, _&&_}
 use mathlib.Core.List.{List, [], _∷_, _++_}
@@ -15,8 +15,8 @@ use Rattle.rules.proofs.Fewer.{Fewer, none, skip, keep}
 use Rattle.rules.proofs.Any.{first-good, first-once, rest-distinct, distinct-any, distinct-pass}
 use Rattle.rules.proofs.Waits.{call, call-callee, call-own, hasSerial, okPending}
 use Rattle.memory.specs.Good.{goodPending}
-use Rattle.memory.proofs.Octets.{every-snoc, distinct-every}
-use Rattle.memory.specs.Sound.{word32, word64}
+use Rattle.memory.proofs.Octets.{every-snoc, distinct-every, every-each}
+use Rattle.memory.specs.Sound.{word32}
 
 -- ---- what every call of a list keeps
 
@@ -26,16 +26,15 @@ fewer-every t (skip {x = x} {xs = xs} f) e = fewer-every t f (both-second (t x) 
 fewer-every t (keep {x = x} {xs = xs} {ys = ys} f) e =
     both-true (t x) (every t ys) (both-first (t x) (every t xs) e) (fewer-every t f (both-second (t x) (every t xs) e))
 
--- numbers of 32 bits, and ticks of 64
+-- serials of 32 bits
 abbrev pub narrowCall : Pending → Bool
-narrowCall w = word32 (w .serial) && word64 (w .tick)
+narrowCall w = word32 (w .serial)
 
 abbrev pub narrowPending : List Pending → Bool
 narrowPending ws = every narrowCall ws
 
-pub narrow-snoc : (ws : List Pending) (c s k : ℕ) → narrowPending ws ≡ true → s < 4294967296 → k < 18446744073709551616
-    → narrowPending (ws ++ (call c s k ∷ [])) ≡ true
-narrow-snoc ws c s k e h l = every-snoc narrowCall ws (call c s k) e (rw (lt-ltb s 4294967296 h, lt-ltb k 18446744073709551616 l))
+pub narrow-snoc : (ws : List Pending) (c s k : ℕ) → narrowPending ws ≡ true → s < 4294967296 → narrowPending (ws ++ (call c s k ∷ [])) ≡ true
+narrow-snoc ws c s k e h = every-snoc narrowCall ws (call c s k) e (lt-ltb s 4294967296 h)
 
 -- no call is newer than the tick
 abbrev pub datedCall : ℕ → Pending → Bool
@@ -48,10 +47,8 @@ pub dated-snoc : (tick : ℕ) (ws : List Pending) (c s : ℕ) → dated tick ws 
 dated-snoc tick ws c s e = every-snoc (datedCall tick) ws (call c s tick) e (le-leb tick tick (omega arith))
 
 pub dated-later : (tick now : ℕ) → tick ≤ now → (ws : List Pending) → dated tick ws ≡ true → dated now ws ≡ true
-dated-later tick now h [] e = refl
-dated-later tick now h (w ∷ ws) e =
-    both-true (datedCall now w) (dated now ws) (le-leb (w .tick) now (omega (arith, leb-true (w .tick) tick (both-first (datedCall tick w) (dated tick ws) e))))
-    (dated-later tick now h ws (both-second (datedCall tick w) (dated tick ws) e))
+dated-later tick now h ws e =
+    every-each (datedCall tick) (datedCall now) (λ w d. let k : w .tick ≤ tick = leb-true (w .tick) tick d in le-leb (w .tick) now (omega arith)) ws e
 
 -- ---- good pending calls are good by themselves and not newer than the tick, and their callees are connected
 

@@ -62,7 +62,7 @@ module _ (s : State Tail) (i : ℕ) (p : Peer Tail) (g : Sound s) (e : getD (s .
   unfolding awaits
   waits-sound c r k n l a b =
       pending-renewed (p .pending ++ (call c r (s .tick) ∷ [])) (omega (arith, length-append (p .pending) (call c r (s .tick) ∷ [])))
-      (waits.ok-snoc (p .pending) c r (s .tick) (fine .waits) a n) (narrow-snoc (p .pending) c r (s .tick) (fine .serials) b (g .ticks))
+      (waits.ok-snoc (p .pending) c r (s .tick) (fine .waits) a n) (narrow-snoc (p .pending) c r (s .tick) (fine .serials) b)
       (dated-snoc (s .tick) (p .pending) c r (fine .dates))
       (λ d q h. elim (any-snoc (isCall d q) (p .pending) (call c r (s .tick)) h)
       [ inl a ↦ inl a | inr a ↦ inr (rw (← waits.call-callee d q (call c r (s .tick)) a) k) ])
