@@ -1,4 +1,6 @@
 // Who is meant by a destination: the bus, a peer by its unique name or a name that it owns, or nobody.
+#![tactic(auto)]
+
 ghost use Rattle.std.specs.Prelude.{◌≡◌, length};
 ghost use Rattle.wire.specs.Bytes.{same};
 ghost use Rattle.rules.specs.Addresses.{unique_name, answers_to};
@@ -12,14 +14,14 @@ ghost use Rattle.addresses.specs.Destinations.{Spelled, Seeks, Resolved};
 use header::Place;
 
 // A text at the end of 13 bytes, from `from` on.
-#[derive(Drop)]
+#[derive(Clone, Copy)]
 pub struct Text {
     pub bytes: [u8; 13],
     pub from: usize,
 }
 
 // Who is meant by a destination field: it is absent, the bus, the peer of a slot, or nobody (rule 7.3).
-#[derive(Drop)]
+#[derive(Clone, Copy)]
 pub enum Destination {
     Absent,
     Bus,

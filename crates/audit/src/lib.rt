@@ -1,4 +1,6 @@
 // Is a lent memory good? Each slot is tested by itself, beside the slots after it.
+#![tactic(auto)]
+
 ghost use Rattle.std.specs.Prelude.{◌≡◌, ◌+◌, ◌*◌, ◌≤◌, ◌<◌, length, drop, get_or};
 ghost use Rattle.memory.specs.Layout.{memory_length, slot_start, call_room, first_name, name_room, head_room};
 ghost use Rattle.policy.specs.Names.{name_width};

@@ -1,5 +1,7 @@
 // The guard for C: its calls on numbers and byte slices, each with its report in a place of the room behind its arguments. What is returned is the count of
 // places that were written: without a whole place no call tests or changes anything (rule 8.11). Beside them stands the converter of stored images.
+#![tactic(auto)]
+
 ghost use Rattle.std.specs.Prelude.{◌≡◌};
 ghost use Rattle.rules.specs.Places.{plain_words, connected_words, owned_words, taken_words, gone_words, ticked_words};
 ghost use Rattle.memory.specs.Layout.{memory_length};

@@ -1,4 +1,6 @@
 // Values that hold no other value: numbers, booleans and texts, with the padding in front of them. A place counts from the head's first byte.
+#![tactic(auto)]
+
 ghost use Rattle.std.specs.Prelude.{◌≡◌, ◌<◌};
 ghost use Rattle.basics.specs.Values.{number_at, boolean_at, text_in, any_text, text_at, short_text_at, plain_at};
 ghost use Rattle.basics.specs.Promises.{good_text, RoundedAt, PaddedAt};
@@ -6,14 +8,14 @@ ghost use Rattle.basics.specs.Promises.{good_text, RoundedAt, PaddedAt};
 use wire::Order;
 
 // Where something stops.
-#[derive(Drop)]
+#[derive(Clone, Copy)]
 pub enum Stop {
     At(usize),
     Bad,
 }
 
 // The rules of texts.
-#[derive(Drop)]
+#[derive(Clone, Copy)]
 pub enum Text {
     Utf8,
     Path,

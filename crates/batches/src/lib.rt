@@ -1,4 +1,6 @@
 // A batch: a piece offered to a peer's stream call after call, each report in its place of a lent room, on good memory and under a good image.
+#![tactic(auto)]
+
 ghost use Rattle.std.specs.Prelude.{◌≤◌, length};
 ghost use Rattle.image.specs.Promises.{GoodImage};
 ghost use Rattle.rules.specs.Series.{series};

@@ -1,5 +1,7 @@
 // The inner calls that the benchmark makes, for a C program to link: each is one call of another crate on numbers and byte slices, and asks nothing. The
 // guard's own calls are those of `aygeshunt`.
+#![tactic(auto)]
+
 ghost use Rattle.std.specs.Prelude.{◌≡◌, ◌+◌, ◌≤◌};
 ghost use Rattle.signature.specs.Signature.{valid_signature};
 ghost use Rattle.utf8.specs.Utf8.{valid_utf_8};

@@ -1,4 +1,6 @@
 // Runs a list of calls that stands in bytes, one call after the other on one guard, and writes their answers down.
+#![tactic(auto)]
+
 ghost use Rattle.std.specs.Prelude.{◌≡◌, true, ◌≤◌, length, take};
 ghost use Rattle.wire.specs.Words.{word_at, long_at};
 ghost use Rattle.wire.specs.declared.Order.TheVariants.{Little};
@@ -14,14 +16,14 @@ use rules::Connected;
 use wire::Order;
 
 // The first `count` of a list of gids: one more than a peer may have at most.
-#[derive(Drop)]
+#[derive(Clone, Copy)]
 struct Gids {
     list: [u32; 17],
     count: usize,
 }
 
 // Whether a script's layout holds, and its calls.
-#[derive(Drop)]
+#[derive(Clone, Copy)]
 struct Count {
     whole: bool,
     calls: usize,

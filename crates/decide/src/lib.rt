@@ -1,4 +1,6 @@
 // Who may connect, own a name, send and receive, and by which rule: they are searched from the highest precedence down.
+#![tactic(auto)]
+
 ghost use Rattle.std.specs.Prelude.{◌≡◌, ◌/◌, ◌<◌};
 ghost use Rattle.image.specs.Promises.{GoodImage};
 ghost use Rattle.image.specs.declared.Section.TheVariants.{Connect, Own, Transaction};

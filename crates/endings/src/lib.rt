@@ -1,4 +1,6 @@
 // Pending calls that end without a reply, on good memory: those to a callee that goes, and those that are old enough at a tick.
+#![tactic(auto)]
+
 ghost use Rattle.std.specs.Prelude.{◌≡◌, ◌+◌, ◌-◌, ◌≤◌, length, take, drop};
 ghost use Rattle.tables.specs.Tables.{table_bytes, table_of};
 ghost use Rattle.rules.specs.Calls.{tick};
@@ -13,7 +15,7 @@ use rules::{Ticked, no_tick};
 use wire::Order;
 
 // Which calls end: those to this callee, or those that are at this tick at least so many ticks old.
-#[derive(Drop)]
+#[derive(Clone, Copy)]
 pub enum Ending {
     To(u32),
     Aged(u64, u64),

@@ -1,4 +1,6 @@
 // Writes the image that a conversion makes: the own rules, each in its place, and the names that they cite.
+#![tactic(auto)]
+
 ghost use Rattle.std.specs.Prelude.{◌≡◌, ◌++◌, ◌+◌, ◌*◌, ◌≤◌, ◌<◌, length, drop};
 ghost use Rattle.wire.specs.Words.{word_bytes};
 ghost use Rattle.tables.specs.Tables.{cells};

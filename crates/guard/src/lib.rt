@@ -1,4 +1,6 @@
 // The guard: eight calls on lent memory. No call asks anything of its caller: images, memory, names, pieces and rooms may be any bytes.
+#![tactic(auto)]
+
 ghost use Rattle.std.specs.Prelude.{◌≡◌};
 ghost use Rattle.image.specs.Good.{image_answer};
 ghost use Rattle.memory.specs.Calls.{start_on, connect_on, own_on, release_on, piece_on, batch_on, disconnect_on, tick_on, Did};

@@ -1,4 +1,6 @@
 // Scenarios on the guard's single calls: a line for each call, with its answer, its receiver, the bytes taken, and whether any byte of memory changed.
+#![tactic(auto)]
+
 mod cuts;
 mod lines;
 mod messages;

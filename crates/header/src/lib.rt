@@ -1,6 +1,8 @@
 // The head of a D-Bus message: what a reader of it hands back. The definitions of specs/ say which head is which; the crate `reader` reads them.
 
 // Where the parts of the fixed part stand; behind it begins the array of fields.
+#![tactic(auto)]
+
 pub const KIND_BYTE: usize = 1;
 
 pub const FLAGS_BYTE: usize = 2;
@@ -51,14 +53,14 @@ pub const SIGNATURE_CODE: usize = 8;
 pub const CODE_LIMIT: usize = 10;
 
 // A field's value in the head: `len` bytes from `at` on. No value starts at byte 0: there the field is absent.
-#[derive(Drop)]
+#[derive(Clone, Copy)]
 pub struct Place {
     pub at: usize,
     pub len: usize,
 }
 
 // A head that has been read: `head` is its own length, `body` the body's. A reply serial of 0 is absent.
-#[derive(Drop)]
+#[derive(Clone, Copy)]
 pub struct Header {
     pub kind: u8,
     pub flags: u8,
@@ -74,7 +76,7 @@ pub struct Header {
 }
 
 // What bytes begin with: too few to say, a head with the fault of that answer number, or a whole head.
-#[derive(Drop)]
+#[derive(Clone, Copy)]
 pub enum Reading {
     Short,
     Broken(u8),
@@ -82,14 +84,14 @@ pub enum Reading {
 }
 
 // What the first 16 bytes say: a fault, or the lengths of the head and of the message.
-#[derive(Drop)]
+#[derive(Clone, Copy)]
 pub enum Fixed {
     Broken(u8),
     Sizes(usize, usize),
 }
 
 // An element of the array: its code, where its value starts, how long that is, and where the element stops; of an unknown field only that.
-#[derive(Drop)]
+#[derive(Clone, Copy)]
 pub enum Element {
     At {
         code: usize,

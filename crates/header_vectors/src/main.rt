@@ -1,5 +1,7 @@
 // Runs vectors of heads, names and signatures: a line for each, with what is fed and what comes back. Of a head that is the answer
 // number, where 0 is a whole head and 10 one that has not come whole; of a name or a signature 1 where it is good.
+#![tactic(auto)]
+
 mod drafts;
 mod unknown;
 

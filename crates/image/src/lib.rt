@@ -1,4 +1,6 @@
 // The policy image: whether a lent image is good, and the places of its rules and strings.
+#![tactic(auto)]
+
 ghost use Rattle.std.specs.Prelude.{◌≡◌, ◌+◌, ◌*◌, ◌≤◌, ◌<◌, length};
 ghost use Rattle.wire.specs.Words.{word_at};
 ghost use Rattle.wire.specs.declared.Order.TheVariants.{Little};
@@ -13,14 +15,14 @@ ghost use Rattle.image.specs.declared.Section.TheVariants.{Connect, Own, Transac
 use names::Form;
 
 // What the test of an image says: a bad one is answered 50 (rule 5.9).
-#[derive(Drop)]
+#[derive(Clone, Copy)]
 pub enum Outcome {
     Good,
     Bad,
 }
 
 // The sections of rules, in the order of the image.
-#[derive(Drop)]
+#[derive(Clone, Copy)]
 pub enum Section {
     Connect,
     Own,

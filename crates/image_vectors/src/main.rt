@@ -1,4 +1,6 @@
 // Runs the test of policy images: each rule about them kept at its limits, and broken once at each place where it can be.
+#![tactic(auto)]
+
 ghost use Rattle.std.specs.Prelude.{◌≤◌, ◌<◌};
 
 use libc::STDOUT_FILENO;

@@ -1,4 +1,6 @@
 // The judgement of a whole message over the guard's memory: its answer, its receiver, who decided, and the pending calls that it begins or ends.
+#![tactic(auto)]
+
 ghost use Rattle.std.specs.Prelude.{◌≡◌, ◌+◌, ◌*◌, ◌≤◌, ◌<◌, take};
 ghost use Rattle.decide.specs.Promises.{Asked};
 ghost use Rattle.policy.specs.Decisions.{transaction_decision};

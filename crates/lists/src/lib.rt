@@ -1,4 +1,6 @@
 // The list of names that a conversion is lent: each behind its length byte.
+#![tactic(auto)]
+
 ghost use Rattle.std.specs.Prelude.{◌≡◌, true};
 ghost use Rattle.wire.specs.Bytes.{same};
 ghost use Rattle.wire.specs.Lists.{any, distinct};

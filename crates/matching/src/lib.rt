@@ -1,4 +1,6 @@
 // Whether a rule is about a peer, a name or a message.
+#![tactic(auto)]
+
 ghost use Rattle.std.specs.Prelude.{◌≡◌, ◌+◌, ◌*◌, ◌≤◌, ◌<◌, length, drop};
 ghost use Rattle.wire.specs.Bytes.{same};
 ghost use Rattle.image.specs.Image.{name_span, rule_size};

@@ -1,5 +1,7 @@
 // The guard's memory: where things stand in it (docs/MEMORY.md).
 // How wide a thing is, and how many of it a slot has room for.
+#![tactic(auto)]
+
 pub const GID_WIDTH: usize = 4;
 
 pub const GID_ROOM: usize = 16;

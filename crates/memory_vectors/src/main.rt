@@ -1,5 +1,7 @@
 // Memory that is not good: each rule of good memory broken once at each place where it can be. The six calls that test memory all answer 51 and change
 // nothing; the first lines are memory that stays good.
+#![tactic(auto)]
+
 mod counts;
 mod ticks;
 

@@ -1,5 +1,7 @@
 // Runs vectors of names: every value of a byte at the first, second, middle and last place of texts of several lengths. A line has the kind of name,
 // the length, where the separator stands, the place, and the runs of the values that make the text a name.
+#![tactic(auto)]
+
 ghost use Rattle.std.specs.Prelude.{◌+◌, ◌≤◌, ◌<◌};
 
 use names::Form;
@@ -11,7 +13,7 @@ const LONGEST: usize = 256;
 const VALUES: usize = 256;
 
 // A kind for each form, and one more for bus names that begin with a colon.
-#[derive(Drop)]
+#[derive(Clone, Copy)]
 enum Kind {
     Interface,
     WellKnown,
@@ -23,7 +25,7 @@ enum Kind {
 }
 
 // Where the separator of a text stands.
-#[derive(Drop)]
+#[derive(Clone, Copy)]
 enum Base {
     Early,
     Middle,

@@ -1,4 +1,6 @@
 // The name rules of D-Bus: every byte is looked up in a table of classes, and a name is good by its bytes' classes and by what follows a separator.
+#![tactic(auto)]
+
 mod classes;
 mod scan;
 
@@ -14,7 +16,7 @@ use crate::scan::walk;
 // How long a name may be; a path has no limit.
 pub const NAME_LIMIT: usize = 255;
 
-#[derive(Drop)]
+#[derive(Clone, Copy)]
 pub enum Form {
     Interface,
     WellKnown,
@@ -26,7 +28,7 @@ pub enum Form {
 
 // How the names of a form are made: the byte between two elements, the classes of the bytes that stand nowhere in them, and the last of the bytes
 // from `.` on that may not follow a separator.
-#[derive(Drop)]
+#[derive(Clone, Copy)]
 struct Shape {
     separator: u8,
     barred: u8,

@@ -1,4 +1,6 @@
 // The calls about names, on a good image and good memory: own, release.
+#![tactic(auto)]
+
 ghost use Rattle.std.specs.Prelude.{◌≡◌, ◌++◌, ◌+◌, ◌-◌, ◌*◌, ◌≤◌, ◌<◌, length, take, drop};
 ghost use Rattle.image.specs.Promises.{GoodImage};
 ghost use Rattle.policy.specs.Decisions.{own_decision};

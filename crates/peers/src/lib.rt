@@ -1,4 +1,6 @@
 // The calls about peers, on a good image and good memory: connect, disconnect.
+#![tactic(auto)]
+
 ghost use Rattle.std.specs.Prelude.{◌≡◌, ◌++◌, ◌+◌, ◌*◌, ◌≤◌, ◌<◌, length, take, drop};
 ghost use Rattle.image.specs.Promises.{GoodImage};
 ghost use Rattle.stream.specs.Tail.{tails};

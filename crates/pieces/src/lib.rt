@@ -1,4 +1,6 @@
 // A piece offered to a peer's stream, on good memory and under a good image.
+#![tactic(auto)]
+
 ghost use Rattle.std.specs.Prelude.{◌≡◌, false, ◌+◌, ◌-◌, ◌≤◌, ◌<◌, length, take, replicate};
 ghost use Rattle.stream.specs.Stream.{offer};
 ghost use Rattle.stream.specs.Tail.{tails, closed};

@@ -1,4 +1,6 @@
 // Reports in places of a lent room: seven little-endian numbers each.
+#![tactic(auto)]
+
 ghost use Rattle.std.specs.Prelude.{◌≡◌, [], ◌∷◌, ◌++◌, ◌%◌, ◌≤◌, length, drop};
 ghost use Rattle.rules.specs.Places.{receiver_words, shown_words, plain_words, connected_words, owned_words, taken_words, gone_words, ticked_words};
 ghost use Rattle.places.specs.Places.{place_of, place_length, report_words, Shows};
@@ -8,7 +10,7 @@ use rules::{Connected, Gone, Owned, Receiver, RuleNumbers, Shown, Taken, Ticked,
 pub const PLACE_LENGTH: usize = 28;
 
 // The numbers of a place.
-#[derive(Drop)]
+#[derive(Clone, Copy)]
 pub struct Report {
     pub answer: u32,
     pub taken: u32,

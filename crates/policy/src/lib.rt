@@ -1,4 +1,6 @@
 // Policy: what its rules say of who may connect, own a name, send and receive. Crate `decide` searches them.
+#![tactic(auto)]
+
 ghost use Rattle.std.specs.Prelude.{◌≡◌};
 ghost use Rattle.wire.specs.Bytes.{same};
 ghost use Rattle.policy.specs.Names.{cell_of, bus_name};
@@ -6,21 +8,21 @@ ghost use Rattle.policy.specs.Names.{cell_of, bus_name};
 use image::Section;
 
 // A user and a group are types of their own: a subject test takes the one or the other.
-#[derive(Drop)]
+#[derive(Clone, Copy)]
 pub struct Uid(pub u32);
 
-#[derive(Drop)]
+#[derive(Clone, Copy)]
 pub struct Gid(pub u32);
 
 // Who decides: the rule at a position of a section, from 0, or none, since none matches.
-#[derive(Drop)]
+#[derive(Clone, Copy)]
 pub enum Decider {
     Nobody,
     Rule(Section, u32),
 }
 
 // What is decided, and by which rule.
-#[derive(Drop)]
+#[derive(Clone, Copy)]
 pub struct Decision {
     pub allow: bool,
     pub rule: Decider,

@@ -1,6 +1,8 @@
 // Decisions over generated images: every context, matcher and direction, strings that overlap, four owned names. Each message is asked about as it is
 // and as a call without an interface. A letter is the position of the rule that decides, a capital where it allows, and a point says that no rule matches. An
 // independent program wrote `stdout` from the same choices.
+#![tactic(auto)]
+
 ghost use Rattle.std.specs.Prelude.{◌+◌, ◌≤◌, ◌<◌};
 ghost use Rattle.image.specs.Promises.{GoodImage};
 ghost use Rattle.policy_vectors.specs.Short.{Short};

@@ -6,7 +6,7 @@ ghost use Rattle.reader.specs.Promises.{Inside, element_in};
 use header::Element;
 
 // The lent head, where its array ends, and where the padding before the next element starts.
-#[derive(Drop)]
+#[derive(Clone, Copy)]
 pub struct FieldReader<'a> {
     pub head: &'a [u8],
     pub end: usize,

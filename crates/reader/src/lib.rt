@@ -1,4 +1,6 @@
 // Reads the head of a D-Bus message: its fixed part, the array of header fields, their values, and the fields that a type requires.
+#![tactic(auto)]
+
 mod fields;
 mod values;
 
@@ -19,7 +21,7 @@ use header::{
 use wire::Order;
 
 // Where the value of each code stands, if the array is good.
-#[derive(Drop)]
+#[derive(Clone, Copy)]
 pub struct Found {
     pub good: bool,
     pub places: [Place; CODE_LIMIT],

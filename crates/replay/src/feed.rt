@@ -4,7 +4,7 @@ use crate::rows::LEDGER_LENGTH;
 use rules::{Receiver, Shown};
 
 // What one part came to: how many bytes were offered, and how many were taken.
-#[derive(Drop)]
+#[derive(Clone, Copy)]
 struct Part {
     reader: Reader,
     offered: usize,
@@ -14,7 +14,7 @@ struct Part {
     rule: Shown,
 }
 
-#[derive(Drop)]
+#[derive(Clone, Copy)]
 pub struct Feeding {
     pub reader: Reader,
     pub taken: u64,
@@ -24,7 +24,7 @@ pub struct Feeding {
 }
 
 // A receiver in numbers: 0 nobody, 1 the bus, 2 a peer, 3 a mask of slots.
-#[derive(Drop)]
+#[derive(Clone, Copy)]
 pub struct Received {
     pub kind: u64,
     pub value: u64,

@@ -2,7 +2,7 @@
 ghost use Rattle.std.specs.Prelude.{◌≤◌};
 
 // The bytes from `at` to `end` of the buffer are read and not yet used. It is sound until a read fails or the file ends inside what is asked for.
-#[derive(Drop)]
+#[derive(Clone, Copy)]
 pub struct Reader {
     pub fd: i32,
     pub at: usize,
@@ -10,19 +10,19 @@ pub struct Reader {
     pub is_sound: bool,
 }
 
-#[derive(Drop)]
+#[derive(Clone, Copy)]
 pub struct Byte {
     pub reader: Reader,
     pub value: u8,
 }
 
-#[derive(Drop)]
+#[derive(Clone, Copy)]
 pub struct Word {
     pub reader: Reader,
     pub value: u32,
 }
 
-#[derive(Drop)]
+#[derive(Clone, Copy)]
 pub struct Long {
     pub reader: Reader,
     pub value: u64,

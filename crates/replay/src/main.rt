@@ -6,6 +6,8 @@
 // With `--waits` before the file's name, and where the capture is not broken, a line for each peer that is connected at the end stands behind those of the calls:
 // its number, the count of its waiting calls in the guard's memory and, from the calls and answers since it connected, how many of its calls that expect a reply
 // passed to a peer, how many of those were replied to, and how many ended otherwise: the callee disconnected, or a tick found them old enough.
+#![tactic(auto)]
+
 mod counts;
 mod feed;
 mod file;

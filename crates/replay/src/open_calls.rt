@@ -13,7 +13,7 @@ const SERIAL: usize = 1;
 const TICK: usize = 2;
 
 // Which calls end otherwise than by a reply: those to the peer with this number, or those that are at this tick at least so many ticks old.
-#[derive(Drop)]
+#[derive(Clone, Copy)]
 pub enum Ending {
     To(u64),
     Aged(u64, u64),

@@ -4,7 +4,7 @@ use crate::file::Reader;
 use crate::rows::LEDGER_LENGTH;
 
 // What a replay carries from call to call: the file, and how much of the output's buffer is used.
-#[derive(Drop)]
+#[derive(Clone, Copy)]
 pub struct Run {
     pub reader: Reader,
     pub used: usize,

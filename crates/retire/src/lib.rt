@@ -1,4 +1,6 @@
 // Stored images without prefixes: each prefix rule becomes an exact rule for each listed name that it covers.
+#![tactic(auto)]
+
 ghost use Rattle.std.specs.Prelude.{◌≡◌, true, ◌&&◌, ◌+◌, ◌*◌, ◌≤◌, ◌<◌, length};
 ghost use Rattle.names.specs.Namespace.{in_namespace};
 ghost use Rattle.image.specs.Image.{name_span, rule_count};
@@ -18,7 +20,7 @@ use image::{
 };
 
 // What a conversion comes to: its answer, and the length of the new image, 0 where it is refused.
-#[derive(Drop)]
+#[derive(Clone, Copy)]
 pub struct Retired {
     pub answer: u8,
     pub length: usize,
@@ -82,7 +84,7 @@ fn kept(image: &[u8]) -> usize
 const MOST: usize = 256;
 
 // The names that are added: how many they are and how many bytes they have; and how many own rules there will be.
-#[derive(Drop)]
+#[derive(Clone, Copy)]
 struct Gathered {
     pub names: usize,
     pub bytes: usize,

@@ -1,4 +1,6 @@
 // What the guard's calls report, each report of a refusal, when an offering goes on, and which names a peer may own.
+#![tactic(auto)]
+
 ghost use Rattle.std.specs.Prelude.{◌≡◌, not, ◌&&◌, [], ◌∷◌, ltb};
 ghost use Rattle.policy.specs.Decisions.{decider_words};
 ghost use Rattle.rules.specs.Addresses.{ownable};
@@ -10,7 +12,7 @@ use names::Form;
 use policy::Decider;
 
 // Who receives a message: nobody, the bus itself, the peer of a number, or the slots of a mask, with their count.
-#[derive(Drop)]
+#[derive(Clone, Copy)]
 pub enum Receiver {
     Nobody,
     Bus,
@@ -19,14 +21,14 @@ pub enum Receiver {
 }
 
 // Who decided, where a report shows it.
-#[derive(Drop)]
+#[derive(Clone, Copy)]
 pub enum Shown {
     Nothing,
     By(Decider),
 }
 
 // An answer number, the receiver, and who decided.
-#[derive(Drop)]
+#[derive(Clone, Copy)]
 pub struct Judgement {
     pub answer: u8,
     pub receiver: Receiver,
@@ -34,7 +36,7 @@ pub struct Judgement {
 }
 
 // What connect reports: the peer's number and its slot, 0s where it is refused, and who decided.
-#[derive(Drop)]
+#[derive(Clone, Copy)]
 pub struct Connected {
     pub answer: u8,
     pub number: u32,
@@ -43,42 +45,42 @@ pub struct Connected {
 }
 
 // What own reports: its answer, and who decided.
-#[derive(Drop)]
+#[derive(Clone, Copy)]
 pub struct Owned {
     pub answer: u8,
     pub rule: Shown,
 }
 
 // Who decided, in two numbers.
-#[derive(Drop)]
+#[derive(Clone, Copy)]
 pub struct RuleNumbers {
     pub kind: u32,
     pub position: u32,
 }
 
 // What a piece comes to: the judgement, and the bytes taken.
-#[derive(Drop)]
+#[derive(Clone, Copy)]
 pub struct Taken {
     pub judgement: Judgement,
     pub taken: usize,
 }
 
 // What a batch reports: how many places it wrote, and how many bytes were taken in all.
-#[derive(Drop)]
+#[derive(Clone, Copy)]
 pub struct Batch {
     pub written: usize,
     pub taken: usize,
 }
 
 // What disconnect reports: the bytes taken of the peer's unfinished or broken message.
-#[derive(Drop)]
+#[derive(Clone, Copy)]
 pub struct Gone {
     pub answer: u8,
     pub bytes: u32,
 }
 
 // What a tick reports: how many pending calls ended.
-#[derive(Drop)]
+#[derive(Clone, Copy)]
 pub struct Ticked {
     pub answer: u8,
     pub ended: u32,

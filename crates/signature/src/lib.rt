@@ -1,10 +1,12 @@
 // The signature rule of D-Bus: a list of types calls one type, and one type calls a list for parentheses and braces.
+#![tactic(auto)]
+
 ghost use Rattle.std.specs.Prelude.{◌≡◌, drop};
 ghost use Rattle.signature.specs.Signature.{basic, closed_by, valid_signature};
 ghost use Rattle.signature.specs.Reader.{left_of, StepFits, HeadAt, OneAt, RowAt};
 
 // How a type begins; a dict entry, with or without a basic key.
-#[derive(Drop)]
+#[derive(Clone, Copy)]
 pub enum FirstCode {
     Plain,
     Array,
@@ -14,14 +16,14 @@ pub enum FirstCode {
 }
 
 // Where the bytes after one type start.
-#[derive(Drop)]
+#[derive(Clone, Copy)]
 pub enum TypeEnd {
     Rest(usize),
     Bad,
 }
 
 // How many types stand in a row, and where the bytes after them start.
-#[derive(Drop)]
+#[derive(Clone, Copy)]
 pub enum RowEnd {
     Types(usize, usize),
     Bad,

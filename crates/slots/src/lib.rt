@@ -1,4 +1,6 @@
 // Readings of the guard's memory: the words of a slot, and which slot a peer has.
+#![tactic(auto)]
+
 ghost use Rattle.std.specs.Prelude.{◌≡◌, ◌+◌, ◌*◌, ◌≤◌, ◌<◌, length, drop, get_or};
 ghost use Rattle.wire.specs.Words.{word_at, long_at};
 ghost use Rattle.wire.specs.declared.Order.TheVariants.{Little};
@@ -17,7 +19,7 @@ use memory::{
 use wire::Order;
 
 // A peer's gids: the first `count` of the list.
-#[derive(Drop)]
+#[derive(Clone, Copy)]
 pub struct Gids {
     pub list: [u32; GID_ROOM],
     pub count: usize,

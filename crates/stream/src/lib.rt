@@ -1,4 +1,6 @@
 // Cutting a byte stream into messages: the counters of a peer's unfinished message, whose head is kept in lent memory.
+#![tactic(auto)]
+
 ghost use Rattle.std.specs.Prelude.{◌≡◌, ◌≤◌, length};
 ghost use Rattle.header.specs.Fixed.{message_limit};
 ghost use Rattle.stream.specs.Tail.{good_tail, closed};
@@ -8,14 +10,14 @@ ghost use Rattle.stream.specs.Steps.{WholeTail, Resumed, Room, Stored, Begun, In
 use header::{FIXED_LENGTH, Fixed, Header, Reading};
 
 // Bytes taken of the unfinished message, and how many of them are its head's.
-#[derive(Drop)]
+#[derive(Clone, Copy)]
 pub struct Stream {
     pub taken: usize,
     pub stored: usize,
 }
 
 // What a piece comes to: its message is unfinished, its head is broken with that answer number, or it is whole.
-#[derive(Drop)]
+#[derive(Clone, Copy)]
 pub enum Event {
     More,
     Broken(u8),
@@ -23,7 +25,7 @@ pub enum Event {
 }
 
 // The stream with the bytes taken of a piece, before a whole message is consumed; how many they are; and what they come to.
-#[derive(Drop)]
+#[derive(Clone, Copy)]
 pub struct Advance {
     pub stream: Stream,
     pub taken: usize,

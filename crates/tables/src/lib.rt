@@ -1,4 +1,6 @@
 // Tables of things of one width in bytes: taking one out, and a row of words put.
+#![tactic(auto)]
+
 ghost use Rattle.std.specs.Prelude.{◌≡◌, ◌++◌, ◌+◌, ◌-◌, ◌*◌, ◌≤◌, length, take, drop};
 ghost use Rattle.wire.specs.Words.{word_bytes};
 ghost use Rattle.tables.specs.Tables.{cells};

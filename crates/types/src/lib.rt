@@ -1,4 +1,6 @@
 // The types of a signature: their letters, and where each of them ends.
+#![tactic(auto)]
+
 ghost use Rattle.std.specs.Prelude.{◌≡◌, true, false, ◌+◌, ◌≤◌, ◌<◌, min, max, length, get_or};
 ghost use Rattle.wire.specs.Bytes.{byte};
 ghost use Rattle.types.specs.Letters.{opens, closes, letter, align_of, width_of};
@@ -7,7 +9,7 @@ ghost use Rattle.types.specs.Nest.{RowAt, EntryAt, NestAt, NestsFrom, NestsBehin
 
 // Of a type or a row of types: where it ends, and how many arrays and how many parentheses it opens in one another at most. A type that is not
 // complete opens 33 arrays, which is one too many wherever it stands.
-#[derive(Drop)]
+#[derive(Clone, Copy)]
 struct Nest(usize, u8, u8);
 
 // ---- letters

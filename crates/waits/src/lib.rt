@@ -1,4 +1,6 @@
 // The pending calls of a slot, a table in its caller's slot: when a call waits, and when a reply ends the wait.
+#![tactic(auto)]
+
 ghost use Rattle.std.specs.Prelude.{◌≡◌, ◌++◌, ◌+◌, ◌≤◌, ◌<◌, length, take, drop};
 ghost use Rattle.memory.specs.Layout.{call_width, call_room};
 ghost use Rattle.memory.specs.Encoding.{pending_bytes};

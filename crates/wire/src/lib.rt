@@ -1,10 +1,12 @@
 // Numbers in bytes, in either byte order; alignment; runs of zeros; equal ranges. Every other crate stands on this one.
+#![tactic(auto)]
+
 ghost use Rattle.std.specs.Prelude.{◌≡◌, ◌++◌, ◌+◌, ◌-◌, ◌*◌, ◌≤◌, ◌<◌, min, length, take, drop, replicate};
 ghost use Rattle.wire.specs.Bytes.{front, all_zero, same};
 ghost use Rattle.wire.specs.Words.{joined, word_at, long_at, word_bytes, long_bytes, round_up_8};
 
 // The byte order of a message: its first byte says which.
-#[derive(Drop)]
+#[derive(Clone, Copy)]
 pub enum Order {
     Little,
     Big,

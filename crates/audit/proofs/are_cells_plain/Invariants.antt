@@ -1,0 +1,11 @@
+-- `audit::are_cells_plain` meets its contract.
+use Prim.Native.Nat.{◌-◌}
+use Rattle.audit.proofs.Shape.{CellsInvariant, cells}
+use Rattle.wire.proofs.Needs.{all4, all5}
+use Rattle.audit.proofs.are_cells_plain.Given as goal
+
+abbrev pub invariant-loop-j : goal.invariant-loop-j
+invariant-loop-j l = CellsInvariant l.memory l.i l.n l.j
+
+abbrev pub decreases-loop-j : goal.decreases-loop-j
+decreases-loop-j l = l.n - l.j

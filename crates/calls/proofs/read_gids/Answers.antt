@@ -1,0 +1,40 @@
+-- `calls::read_gids` meets its contract.
+use Prim.Native.Nat.{◌-◌}
+use Rattle.calls.proofs.Words.{Gathering, gathering}
+use Rattle.calls.proofs.read_gids.Goals as goal
+
+pub overflow_sub-argument : goal.overflow_sub-argument
+overflow_sub-argument c = search gathering
+
+pub least-count-requires : goal.least-count-requires
+least-count-requires c = search gathering
+
+pub loop-k-init : goal.loop-k-init
+loop-k-init c = search gathering
+
+pub overflow_mul-k : goal.overflow_mul-k
+overflow_mul-k c = search gathering
+
+pub overflow_add-k : goal.overflow_add-k
+overflow_add-k c = search gathering
+
+pub u32_at-requires : goal.u32_at-requires
+u32_at-requires c = search gathering
+
+pub offset_bounds-list-k : goal.offset_bounds-list-k
+offset_bounds-list-k c = search gathering
+
+pub bounds-list-k : goal.bounds-list-k
+bounds-list-k c = search gathering
+
+pub overflow_add-k-in-loop-k : goal.overflow_add-k-in-loop-k
+overflow_add-k-in-loop-k c = search gathering
+
+pub loop-k-smaller : goal.loop-k-smaller
+loop-k-smaller c = search gathering
+
+pub loop-k-preserved : goal.loop-k-preserved
+loop-k-preserved c = search gathering
+
+pub returns : goal.returns
+returns c = search gathering

@@ -1,0 +1,16 @@
+-- `decide::own` meets its contract.
+use Prim.Native.Nat.{◌-◌}
+use Rattle.decide.proofs.Decisions.{Owning, owning, own_found}
+use Rattle.decide.proofs.own.Given as goal
+
+abbrev pub invariant-loop-at : goal.invariant-loop-at
+invariant-loop-at l = Owning l.image l.uid l.gids l.name l.base l.end l.context l.at
+
+abbrev pub invariant-search : goal.invariant-search
+invariant-search l = Owning l.image l.uid l.gids l.name l.base l.end l.context l.end
+
+abbrev pub decreases-loop-at : goal.decreases-loop-at
+decreases-loop-at l = l.at - l.base
+
+abbrev pub decreases-search : goal.decreases-search
+decreases-search l = l.context

@@ -1,0 +1,15 @@
+-- `endings::end_calls` meets its contract.
+use Rattle.tables.specs.Tables.{table_of}
+use Rattle.memory.specs.Layout.{call_width, call_room}
+use Rattle.memory.specs.Encoding.{pending_of}
+use Rattle.memory.proofs.Ending.{Ending, ending, ending_out}
+use borrow.Author.Rules.{rules}
+use Rattle.endings.specs.Endings.{test_of}
+use Rattle.endings.proofs.Calls.{calls_ended_lem}
+use Rattle.endings.proofs.end_calls.Given as goal
+
+abbrev pub invariant-loop-j : goal.invariant-loop-j
+invariant-loop-j l = Ending (test_of l.which) (table_of call_width call_room pending_of l.initial.table) l.table l.before l.n l.j
+
+abbrev pub decreases-loop-j : goal.decreases-loop-j
+decreases-loop-j l = l.j

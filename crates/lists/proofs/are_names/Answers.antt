@@ -1,0 +1,53 @@
+-- `lists::are_names` meets its contract. The loop's invariant: the names from `at` on decide.
+use Prim.Native.Nat.{◌-◌}
+use lib.ListN.{length}
+use Rattle.lists.proofs.Lists.{Naming, naming}
+use Rattle.lists.proofs.are_names.Goals as goal
+
+pub class_table-table-requires : goal.class_table-table-requires
+class_table-table-requires c = search naming
+
+pub loop-at-init : goal.loop-at-init
+loop-at-init c = search naming
+
+pub overflow_add-to : goal.overflow_add-to
+overflow_add-to c = search naming
+
+pub bounds-list-at : goal.bounds-list-at
+bounds-list-at c = search naming
+
+pub overflow_cast-to : goal.overflow_cast-to
+overflow_cast-to c = search naming
+
+pub overflow_add-to-in-loop-at : goal.overflow_add-to-in-loop-at
+overflow_add-to-in-loop-at c = search naming
+
+pub returns-then-list-to : goal.returns-then-list-to
+returns-then-list-to c = search naming
+
+pub overflow_add-at : goal.overflow_add-at
+overflow_add-at c = search naming
+
+pub slice_bounds-is_valid_by-count : goal.slice_bounds-is_valid_by-count
+slice_bounds-is_valid_by-count c = search naming
+
+pub slice_bounds-is_valid_by-start : goal.slice_bounds-is_valid_by-start
+slice_bounds-is_valid_by-start c = search naming
+
+pub slice_bounds-is_valid_by-end : goal.slice_bounds-is_valid_by-end
+slice_bounds-is_valid_by-end c = search naming
+
+pub is_valid_by-requires : goal.is_valid_by-requires
+is_valid_by-requires c = search naming
+
+pub returns-then-not-is_valid_by : goal.returns-then-not-is_valid_by
+returns-then-not-is_valid_by c = search naming
+
+pub loop-at-smaller : goal.loop-at-smaller
+loop-at-smaller c = search naming
+
+pub loop-at-preserved : goal.loop-at-preserved
+loop-at-preserved c = search naming
+
+pub returns : goal.returns
+returns c = search naming

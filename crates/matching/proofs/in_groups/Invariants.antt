@@ -1,0 +1,11 @@
+-- `matching::in_groups` meets its contract.
+use lib.ListN.{length}
+use Prim.Native.Nat.{◌-◌}
+use Rattle.matching.proofs.Subjects.{Looking, looking}
+use Rattle.matching.proofs.in_groups.Given as goal
+
+abbrev pub invariant-loop-i : goal.invariant-loop-i
+invariant-loop-i l = Looking l.gids l.group l.i
+
+abbrev pub decreases-loop-i : goal.decreases-loop-i
+decreases-loop-i l = length l.gids - l.i

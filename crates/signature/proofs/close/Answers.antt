@@ -1,0 +1,42 @@
+-- `signature::close` meets its contract.
+use mathlib.Core.Path.{◌≡◌}
+use mathlib.Core.Bool.{Bool, true, false, ◌&&◌}
+use mathlib.Core.List.{List}
+use mathlib.Core.Option.{none, some}
+use Prim.Native.Nat.{ℕ, ◌+◌, ◌≤◌, ◌<◌}
+use lib.Dec.{eqb}
+use lib.ListN.{length, drop, get_or}
+use borrow.Author.Rules.{rules}
+use Rattle.signature.specs.Signature.{closed_by}
+use Rattle.wire.proofs.From.{next, past}
+use Rattle.signature.proofs.close.Goals as goal
+
+module _ (s : List ℕ) (end : ℕ) (well : Bool) (by : ℕ) where
+  none_left : length s ≤ end → none ≡ closed_by by well (drop end s)
+  unfolding closed_by
+  none_left h = rw (past s end h)
+
+  closes : end < length s → well && eqb (get_or s end 0) by ≡ true → some (drop (end + 1) s) ≡ closed_by by well (drop end s)
+  unfolding closed_by
+  closes h t = rw (next s end h, t)
+
+  differs : end < length s → well && eqb (get_or s end 0) by ≡ false → none ≡ closed_by by well (drop end s)
+  unfolding closed_by
+  differs h t = rw (next s end h, t)
+
+ruleset closing = (none_left, closes, differs, rules)
+
+pub returns-then-s-end : goal.returns-then-s-end
+returns-then-s-end c = search closing
+
+pub bounds-s-end : goal.bounds-s-end
+bounds-s-end c = search closing
+
+pub overflow_add-result : goal.overflow_add-result
+overflow_add-result c = search closing
+
+pub returns-then-well-s : goal.returns-then-well-s
+returns-then-well-s c = search closing
+
+pub returns-else-well-s : goal.returns-else-well-s
+returns-else-well-s c = search closing

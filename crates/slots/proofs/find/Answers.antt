@@ -1,0 +1,30 @@
+-- `slots::find` meets its contract.
+use Prim.Native.Nat.{◌-◌}
+use Rattle.rules.specs.State.{is_peer}
+use Rattle.memory.proofs.Search.{Looking}
+use Rattle.memory.proofs.Find.{finding, peer_nobody}
+use Rattle.slots.proofs.find.Goals as goal
+
+pub returns-then-number-eq0 : goal.returns-then-number-eq0
+returns-then-number-eq0 c = search peer_nobody
+
+pub loop-i-init : goal.loop-i-init
+loop-i-init c = search finding
+
+pub number_at-requires : goal.number_at-requires
+number_at-requires c = search finding
+
+pub returns-then-number_at-number : goal.returns-then-number_at-number
+returns-then-number_at-number c = search finding
+
+pub overflow_add-i : goal.overflow_add-i
+overflow_add-i c = search finding
+
+pub loop-i-smaller : goal.loop-i-smaller
+loop-i-smaller c = search finding
+
+pub loop-i-preserved : goal.loop-i-preserved
+loop-i-preserved c = search finding
+
+pub returns : goal.returns
+returns c = search finding

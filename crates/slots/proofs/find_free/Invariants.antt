@@ -1,0 +1,12 @@
+-- `slots::find_free` meets its contract.
+use Prim.Native.Nat.{◌-◌}
+use Rattle.rules.specs.State.{is_free}
+use Rattle.memory.proofs.Search.{Looking}
+use Rattle.memory.proofs.Find.{finding}
+use Rattle.slots.proofs.find_free.Given as goal
+
+abbrev pub invariant-loop-i : goal.invariant-loop-i
+invariant-loop-i l = Looking is_free l.memory 0 l.i
+
+abbrev pub decreases-loop-i : goal.decreases-loop-i
+decreases-loop-i l = 16 - l.i

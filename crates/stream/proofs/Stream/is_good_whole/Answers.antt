@@ -1,0 +1,13 @@
+-- `stream::Stream::is_good_whole` meets its contract: by what the whole head reads as.
+use borrow.Author.Rules.{rules}
+use Rattle.stream.proofs.Tests.{whole_body, whole_broken, whole_short}
+use Rattle.stream.proofs.Stream.is_good_whole.Goals as goal
+
+pub returns-in-Short : goal.returns-in-Short
+returns-in-Short c = search whole_short
+
+pub returns-in-Broken : goal.returns-in-Broken
+returns-in-Broken c = search whole_broken
+
+pub returns-in-Whole : goal.returns-in-Whole
+returns-in-Whole c = search whole_body

@@ -1,0 +1,11 @@
+-- `tables::shift` meets its contract.
+use Prim.Native.Nat.{◌-◌}
+use Rattle.tables.proofs.Cutting.{Shifting, shifting}
+use Rattle.wire.proofs.Needs.{all7}
+use Rattle.tables.proofs.shift.Given as goal
+
+abbrev pub invariant-loop-i : goal.invariant-loop-i
+invariant-loop-i l = Shifting l.initial.s l.s l.at l.w l.count l.i
+
+abbrev pub decreases-loop-i : goal.decreases-loop-i
+decreases-loop-i l = l.count - l.i

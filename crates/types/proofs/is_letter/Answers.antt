@@ -1,0 +1,7 @@
+-- `types::is_letter` meets its contract.
+use borrow.Author.Rules.{rules}
+use Rattle.types.proofs.Letters.{letter_is}
+use Rattle.types.proofs.is_letter.Goals as goal
+
+pub returns : goal.returns
+returns c = search letter_is

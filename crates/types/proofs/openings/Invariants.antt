@@ -1,0 +1,12 @@
+-- `types::openings` meets its contract.
+use Prim.Native.Nat.{◌-◌}
+use lib.ListN.{length}
+use Rattle.types.specs.Promises.{OpenedAt}
+use Rattle.types.proofs.Entries.{opened}
+use Rattle.types.proofs.openings.Given as goal
+
+abbrev pub invariant-loop-j : goal.invariant-loop-j
+invariant-loop-j l = OpenedAt l.sig l.i l.j
+
+abbrev pub decreases-loop-j : goal.decreases-loop-j
+decreases-loop-j l = length l.sig - l.j

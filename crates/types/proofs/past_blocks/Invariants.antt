@@ -1,0 +1,12 @@
+-- `types::past_blocks` meets its contract.
+use Prim.Native.Nat.{◌-◌}
+use lib.ListN.{length}
+use Rattle.types.specs.Promises.{OpenedAt}
+use Rattle.types.proofs.Entries.{opened}
+use Rattle.types.proofs.past_blocks.Given as goal
+
+abbrev pub invariant-loop-j : goal.invariant-loop-j
+invariant-loop-j l = OpenedAt l.s l.i l.j
+
+abbrev pub decreases-loop-j : goal.decreases-loop-j
+decreases-loop-j l = length l.s - l.j

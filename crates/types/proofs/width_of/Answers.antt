@@ -1,0 +1,13 @@
+-- `types::width_of` meets its contract.
+use borrow.Author.Rules.{rules}
+use Rattle.types.proofs.Letters.{widths}
+use Rattle.types.proofs.width_of.Goals as goal
+
+pub returns-then-b : goal.returns-then-b
+returns-then-b c = search widths
+
+pub returns-then-is_basic : goal.returns-then-is_basic
+returns-then-is_basic c = search widths
+
+pub returns : goal.returns
+returns c = search widths

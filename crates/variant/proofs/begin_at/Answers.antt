@@ -1,0 +1,16 @@
+-- `variant::begin_at` meets its contract.
+use Rattle.variant.proofs.Begins.{beginning}
+use borrow.Author.Rules.{rules}
+use Rattle.variant.proofs.begin_at.Goals as goal
+
+pub returns-then-sig-i : goal.returns-then-sig-i
+returns-then-sig-i c = search beginning
+
+pub returns-then-is_basic : goal.returns-then-is_basic
+returns-then-is_basic c = search beginning
+
+pub returns-then-depth-ge-OPEN_LIMIT : goal.returns-then-depth-ge-OPEN_LIMIT
+returns-then-depth-ge-OPEN_LIMIT c = search beginning
+
+pub returns : goal.returns
+returns c = search beginning

@@ -1,0 +1,10 @@
+-- `variant::row` meets its contract.
+use Rattle.variant.proofs.Begins.{rows}
+use borrow.Author.Rules.{rules}
+use Rattle.variant.proofs.row.Goals as goal
+
+pub returns-in-At : goal.returns-in-At
+returns-in-At c = search rows
+
+pub returns-in-Bad : goal.returns-in-Bad
+returns-in-Bad c = search rows

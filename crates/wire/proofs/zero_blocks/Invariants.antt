@@ -1,0 +1,10 @@
+-- `wire::zero_blocks` meets its contract.
+use Prim.Native.Nat.{◌-◌}
+use Rattle.wire.proofs.Blocks.{Zeros, zeros}
+use Rattle.wire.proofs.zero_blocks.Given as goal
+
+abbrev pub invariant-loop-i : goal.invariant-loop-i
+invariant-loop-i l = Zeros l.s l.from l.to l.i
+
+abbrev pub decreases-loop-i : goal.decreases-loop-i
+decreases-loop-i l = l.to - l.i
