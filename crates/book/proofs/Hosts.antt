@@ -99,7 +99,7 @@ module _ (image : List ℕ) (n : ℕ) where
 
   -- ---- such calls are a run
 
-  calls_run : {m e p : List ℕ} {k : ℕ} {ts : List Taken} → Below 256 p → Calls image n e k m p ts → Run m (piece_calls image n p ts) (map taken ts) e
+  calls_run : {e m p : List ℕ} {k : ℕ} {ts : List Taken} → Below 256 p → Calls image n e k m p ts → Run m (piece_calls image n p ts) (map taken ts) e
   calls_run b full = done
   calls_run b (last d o) = then (ran_piece b d) done
   calls_run b (on {p = p} {t = t} d o rest) = then (ran_piece b d) (calls_run (below_drop t.taken p b) rest)
@@ -112,7 +112,7 @@ module _ (image : List ℕ) (n : ℕ) where
 
   -- ---- such calls are an offering, or the first part of one
 
-  calls_offer : {m d e p : List ℕ} {k : ℕ} {ts : List Taken} {vs : List Judgement} → Calls image n d k m p ts → Behind image n d p ts e vs
+  calls_offer : {d m e p : List ℕ} {k : ℕ} {ts : List Taken} {vs : List Judgement} → Calls image n d k m p ts → Behind image n d p ts e vs
       → Offers image n e m p (said_all ts ++ vs)
   unfolding taken_by
   calls_offer full (nothing_more q) = absurd (false≢true (sym q))
@@ -126,7 +126,7 @@ module _ (image : List ℕ) (n : ℕ) where
       (again d o (calls_offer {vs = vs} rest (what_is_left (rw o at q) (rw (drop-drop (taken_by ts) t.taken p) r))))
 
   -- where all go on, all places are used
-  calls_fill : {m e p : List ℕ} {k : ℕ} {ts : List Taken} → Calls image n e k m p ts → goes_on_all ts p ≡ true → length ts ≡ k
+  calls_fill : {e m p : List ℕ} {k : ℕ} {ts : List Taken} → Calls image n e k m p ts → goes_on_all ts p ≡ true → length ts ≡ k
   calls_fill full q = refl
   calls_fill (last d o) q = absurd (false≢true (rw o at q))
   calls_fill (on d o rest) q = ap suc (calls_fill rest (rw o at q))

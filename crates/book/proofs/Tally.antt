@@ -85,9 +85,9 @@ module _ {S : Type 0} (n : ℕ) where
 
     -- ---- own and release
 
-    own_at : (image : List ℕ) (i : ℕ) (y : Slot S) (name : List ℕ) → slot_at s i ≡ y → Counts n t (own_at image s i y name).state
-    own_at image i free name e = c
-    own_at image i (peer p) name e =
+    own_at_lem : (image : List ℕ) (i : ℕ) (y : Slot S) (name : List ℕ) → slot_at s i ≡ y → Counts n t (own_at image s i y name).state
+    own_at_lem image i free name e = c
+    own_at_lem image i (peer p) name e =
         let d = own_decision image (record { 0 = p.uid }) p.gids name in
         choice (λ (z : Step S Owned). Counts n t z.state) (ownable name) _ _
         (λ a. choice (λ (z : Step S ℕ). Counts n t z.state) d.allow (cond (owns p.names name) (stays s 0) (own_new s i p name)) (stays s 32)
@@ -96,7 +96,7 @@ module _ {S : Type 0} (n : ℕ) where
 
     pub owned_counts : (image : List ℕ) (k : ℕ) (name : List ℕ) → Counts n t (own image s k name).state
     unfolding own
-    owned_counts image k name = let i = first_by (is_peer k) s.slots in own_at image i (slot_at s i) name refl
+    owned_counts image k name = let i = first_by (is_peer k) s.slots in own_at_lem image i (slot_at s i) name refl
 
     release_at_lem : (i : ℕ) (y : Slot S) (name : List ℕ) → slot_at s i ≡ y → Counts n t (release_at s i y name).state
     release_at_lem i free name e = c

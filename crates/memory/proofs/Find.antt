@@ -30,7 +30,7 @@ module _ {m : List ℕ} {from i : ℕ} (l : Looking is_free m from i) (h : i < 1
 
 -- ---- the peer of number n; no slot is that of number 0
 
-module _ {n : ℕ} {m : List ℕ} {from i : ℕ} (l : Looking (is_peer n) m from i) (h : i < 16) (k : ℕ) (e : k ≡ number_at m i) where
+module _ (n : ℕ) {m : List ℕ} {from i : ℕ} (l : Looking (is_peer n) m from i) (h : i < 16) (k : ℕ) (e : k ≡ number_at m i) where
   pub peer_hit : (n ≡ 0 → ⊥) → k ≡ n → FoundSlot (is_peer n) m from i
   peer_hit z q =
       looking_hit (is_peer n) m from i l h
@@ -51,8 +51,8 @@ nobody_from m from i zero e l =
     let q : i ≡ 16 = omega arith in
     looking_ends (is_peer 0) m from 16 (rw q at l) (omega arith)
 nobody_from m from i (suc j) e l = elim (ℕ_discrete (number_at m i) 0) [
-  | yes z ↦ nobody_from m from (i + 1) j (omega arith) (peer_skip l (omega arith) (number_at m i) refl z)
-  | no z ↦ nobody_from m from (i + 1) j (omega arith) (peer_miss l (omega arith) (number_at m i) refl z)
+  | yes z ↦ nobody_from m from (i + 1) j (omega arith) (peer_skip 0 l (omega arith) (number_at m i) refl z)
+  | no z ↦ nobody_from m from (i + 1) j (omega arith) (peer_miss 0 l (omega arith) (number_at m i) refl z)
 ]
 
 pub peer_nobody : (n : ℕ) (m : List ℕ) (from : ℕ) → n ≡ 0 → from ≤ 16 → FoundSlot (is_peer n) m from 16

@@ -40,7 +40,7 @@ module _ (image m d head : List ℕ) (i : ℕ) (x : Header) (c : Completed image
   judge_ready =
       rw (sub-zero x.head, h, e)
       (record {
-        good = c.well_formed;
+        good = c.good;
         sender = c.seat;
         read = c.read;
         long = head_length_lem m i x.head c.sized c.below c.small;

@@ -1,5 +1,5 @@
 -- What holds wherever a conversion is answered 0 (rule 14.6), whatever room was lent: the claims take that answer and nothing else.
-use mathlib.Core.Path.{◌≡◌}
+use mathlib.Core.Path.{◌≡◌, ◌∙◌}
 use mathlib.Core.Bool.{true}
 use mathlib.Core.List.{List}
 use Prim.Native.Nat.{ℕ}
@@ -8,6 +8,7 @@ use Rattle.wire.specs.Bytes.{same}
 use Rattle.wire.specs.Lists.{any}
 use Rattle.wire.proofs.Tests.{choice}
 use Rattle.image.specs.Good.{good_image, without_prefixes, image_answer}
+use Rattle.image.proofs.Answers.{image_answers}
 use Rattle.image.specs.Promises.{GoodImage}
 use Rattle.image.proofs.Holds.{image_holds}
 use Rattle.policy.specs.Matching.{Message}
@@ -54,8 +55,7 @@ module _ (image list : List ℕ) (n : ℕ) (answered : retire_answer image list 
 
   -- so a call that is lent it goes on
   pub result_taken : image_answer (converted image list) ≡ 0
-  unfolding image_answer
-  result_taken = rw (result_good, result_exact)
+  result_taken = image_answers (converted image list) ∙ rw result_good
 
   -- of each listed name everybody has the verdict that he had
   pub own_kept : (uid : Uid) (gids name : List ℕ) → any (same name) (listed list) ≡ true → may_own (converted image list) uid gids name ≡ may_own image uid gids name

@@ -96,6 +96,7 @@ module _ {A : Type 0} (p : A → Bool) where
 
   pub passed_of : {x : A} (xs : List A) → Member x (passing p xs) → Passed x xs
   unfolding passing
+  passed_of {x = x} [] m = elim m [ ]
   passed_of {x} (y ∷ ys) m = go (p y) refl m (passed_of ys)
     where
       further : Passed x ys → Passed x (y ∷ ys)
@@ -119,8 +120,11 @@ module _ {A B : Type 0} (f : A → B) where
     pub is : y ≡ f from
 
   pub mapped_of : {y : B} (xs : List A) → Member y (map f xs) → Image y xs
-  mapped_of (x ∷ xs) here = record { from = x; of = here; is = refl }
-  mapped_of (x ∷ xs) (there m) = let w = mapped_of xs m in record { from = w.from; of = there w.of; is = w.is }
+  mapped_of {y = y} [] x' = elim x' [ ]
+  mapped_of {y = y} (x ∷ xs) m = elim (first_or_later m) [
+    | inl e ↦ record { from = x; of = here; is = e }
+    | inr r ↦ (let w = mapped_of {y = y} xs r in record { from = w.from; of = there w.of; is = w.is })
+  ]
 
 -- ---- copies
 

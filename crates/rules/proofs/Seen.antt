@@ -144,9 +144,9 @@ module _ {A B : Type 0} (f : A → B) (s : State A) where
       rw (first_seen f s (is_owner name) (is_owner name) refl (λ p. refl), long_seen f s)
       (search (chosen (seen_step f {R = ℕ}), named i p) depth 8)
 
-  own_at : (image : List ℕ) (i : ℕ) (x : Slot A) (name : List ℕ) → own_at image z i (seen_slot f x) name ≡ seen_step f (own_at image s i x name)
-  own_at image i free name = refl
-  own_at image i (peer p) name =
+  own_at_lem : (image : List ℕ) (i : ℕ) (x : Slot A) (name : List ℕ) → own_at image z i (seen_slot f x) name ≡ seen_step f (own_at image s i x name)
+  own_at_lem image i free name = refl
+  own_at_lem image i (peer p) name =
       let d = own_decision image (record { 0 = p.uid }) p.gids name in
       chosen (seen_step f) (ownable name) _ _ _ _
       (ap (own_by d.rule)
@@ -155,7 +155,7 @@ module _ {A B : Type 0} (f : A → B) (s : State A) where
 
   pub own_seen : (image : List ℕ) (n : ℕ) (name : List ℕ) → own image (seen f s) n name ≡ seen_step f (own image s n name)
   unfolding own
-  own_seen image n name = let i = first_by (is_peer n) s.slots in rw (first_peer f s n, slot_seen f s i) (own_at image i (slot_at s i) name)
+  own_seen image n name = let i = first_by (is_peer n) s.slots in rw (first_peer f s n, slot_seen f s i) (own_at_lem image i (slot_at s i) name)
 
   release_at_lem : (i : ℕ) (x : Slot A) (name : List ℕ) → release_at z i (seen_slot f x) name ≡ seen_step f (release_at s i x name)
   release_at_lem i free name = refl

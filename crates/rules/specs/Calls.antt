@@ -91,9 +91,9 @@ own_new s i p name =
     (stays (put_slot s i (peer (with_names p (p.names ++ (name ∷ []))))) 0))
 
 -- 30, 31 and 32 in this order, and only then whether the name is the peer's already (rule 8.4); all that comes behind 31 shows who decided (rule 8.10)
-abbrev pub field_own : {S : Type 0} → List ℕ → State S → ℕ → Slot S → List ℕ → Step S Owned
-field_own image s i free name = stays s (no_own 30)
-field_own image s i (peer p) name =
+abbrev pub own_at : {S : Type 0} → List ℕ → State S → ℕ → Slot S → List ℕ → Step S Owned
+own_at image s i free name = stays s (no_own 30)
+own_at image s i (peer p) name =
     let d = own_decision image (record { 0 = p.uid }) p.gids name in
     cond (ownable name)
     (own_by d.rule (cond d.allow (cond (owns p.names name) (stays s 0) (own_new s i p name)) (stays s 32)))
@@ -105,7 +105,7 @@ slot_at s i = get_or s.slots i free
 
 -- the peer with number n asks for a name (rule 8.4)
 unfoldable pub own : {S : Type 0} → List ℕ → State S → ℕ → List ℕ → Step S Owned
-own image s n name = let i = first_by (is_peer n) s.slots in field_own image s i (slot_at s i) name
+own image s n name = let i = first_by (is_peer n) s.slots in own_at image s i (slot_at s i) name
 
 -- ---- release
 

@@ -85,9 +85,9 @@ module _ {S : Type 0} (s : State S) where
   abbrev Owns : Step S Owned → Type 0
   Owns = Modest (λ r. r.answer) (λ r. r) s
 
-  own_at : (image : List ℕ) (i : ℕ) (x : Slot S) (name : List ℕ) → Owns (own_at image s i x name)
-  own_at image i free name = search leb-true
-  own_at image i (peer p) name =
+  own_at_lem : (image : List ℕ) (i : ℕ) (x : Slot S) (name : List ℕ) → Owns (own_at image s i x name)
+  own_at_lem image i free name = search leb-true
+  own_at_lem image i (peer p) name =
       let d = own_decision image (record { 0 = p.uid }) p.gids name in
       choice Owns (ownable name) _ _
       (λ e. let z = cond (owns p.names name) (stays s 0) (own_new s i p name) in
@@ -97,7 +97,7 @@ module _ {S : Type 0} (s : State S) where
 
   pub own_modest : (image : List ℕ) (n : ℕ) (name : List ℕ) → Modest (λ (r : Owned). r.answer) (λ (r : Owned). r) s (own image s n name)
   unfolding own
-  own_modest image n name = let i = first_by (is_peer n) s.slots in own_at image i (slot_at s i) name
+  own_modest image n name = let i = first_by (is_peer n) s.slots in own_at_lem image i (slot_at s i) name
 
   release_at_lem : (i : ℕ) (x : Slot S) (name : List ℕ) → Names (release_at s i x name)
   release_at_lem i free name = search leb-true

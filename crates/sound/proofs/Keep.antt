@@ -76,9 +76,9 @@ module _ (s : State Tail) (uid : ℕ) (gids : List ℕ) (g : Sound s)
 -- ---- own and release
 
 module _ (s : State Tail) (g : Sound s) where
-  own_at : (image : List ℕ) (i : ℕ) (x : Slot Tail) (name : List ℕ) → get_or s.slots i free ≡ x → Leaves (own_at image s i x name)
-  own_at image i free name e = g
-  own_at image i (peer p) name e =
+  own_at_lem : (image : List ℕ) (i : ℕ) (x : Slot Tail) (name : List ℕ) → get_or s.slots i free ≡ x → Leaves (own_at image s i x name)
+  own_at_lem image i free name e = g
+  own_at_lem image i (peer p) name e =
       let d = own_decision image (record { 0 = p.uid }) p.gids name in
       choice (Leaves {R = Owned}) (ownable name) _ _
       (λ a. choice (Leaves {R = ℕ}) d.allow (cond (owns p.names name) (stays s 0) (own_new s i p name)) (stays s 32)
@@ -87,7 +87,7 @@ module _ (s : State Tail) (g : Sound s) where
 
   pub own_sound : (image : List ℕ) (n : ℕ) (name : List ℕ) → Sound (own image s n name).state
   unfolding own
-  own_sound image n name = let i = first_by (is_peer n) s.slots in own_at image i (slot_at s i) name refl
+  own_sound image n name = let i = first_by (is_peer n) s.slots in own_at_lem image i (slot_at s i) name refl
 
   release_at_lem : (i : ℕ) (x : Slot Tail) (name : List ℕ) → get_or s.slots i free ≡ x → Leaves (release_at s i x name)
   release_at_lem i free name e = g

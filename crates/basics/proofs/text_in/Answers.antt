@@ -5,16 +5,16 @@ use borrow.Author.Rules.{rules}
 use Rattle.basics.proofs.text_in.Goals as goal
 
 pub overflow_sub-end : goal.overflow_sub-end
-overflow_sub-end c = omega (arith, any_fits _ _ _ c.any_text.ensures c.stop-1.given.1)
+overflow_sub-end c = omega (arith, any_fits _ _ _ c.any_text.ensures c.in-At.is)
 
 pub slice_bounds-is_good-count : goal.slice_bounds-is_good-count
-slice_bounds-is_good-count c = omega (arith, any_fits _ _ _ c.any_text.ensures c.stop-1.given.1)
+slice_bounds-is_good-count c = omega (arith, any_fits _ _ _ c.any_text.ensures c.in-At.is)
 
 pub slice_bounds-is_good-start : goal.slice_bounds-is_good-start
-slice_bounds-is_good-start c = omega (arith, any_fits _ _ _ c.any_text.ensures c.stop-1.given.1)
+slice_bounds-is_good-start c = omega (arith, any_fits _ _ _ c.any_text.ensures c.in-At.is)
 
 pub slice_bounds-is_good-end : goal.slice_bounds-is_good-end
-slice_bounds-is_good-end c = omega (arith, any_fits _ _ _ c.any_text.ensures c.stop-1.given.1)
+slice_bounds-is_good-end c = omega (arith, any_fits _ _ _ c.any_text.ensures c.in-At.is)
 
 pub returns-then-is_good : goal.returns-then-is_good
 returns-then-is_good c = search ins

@@ -1,4 +1,6 @@
 -- `guard::connect` meets its contract.
+use mathlib.Core.Path.{ap}
+use mathlib.Core.Bool.{not}
 use Rattle.memory.specs.Calls.{connect_on}
 use Rattle.guard.proofs.Tested.{passed_image, passed_memory, calls}
 use Rattle.guard.proofs.connect.Goals as goal
@@ -33,7 +35,7 @@ returns-then-not-is_good c = search calls
 
 pub connect-requires : goal.connect-requires
 unfolding connect_on
-connect-requires c = (search passed_image, passed_memory _ _ c.is_good.ensures c.if-not-is_good.false)
+connect-requires c = (search passed_image, passed_memory _ _ c.is_good.ensures (ap not c.if-not-is_good.false))
 
 pub shape_of-memory : goal.shape_of-memory
 unfolding connect_on

@@ -1,4 +1,6 @@
 -- `guard::own` meets its contract.
+use mathlib.Core.Path.{ap}
+use mathlib.Core.Bool.{not}
 use Rattle.memory.specs.Calls.{own_on}
 use Rattle.guard.proofs.Tested.{passed_image, passed_memory, calls}
 use Rattle.guard.proofs.own.Goals as goal
@@ -33,7 +35,7 @@ returns-then-not-is_good c = search calls
 
 pub own-requires : goal.own-requires
 unfolding own_on
-own-requires c = (search passed_image, passed_memory _ _ c.is_good.ensures c.if-not-is_good.false)
+own-requires c = (search passed_image, passed_memory _ _ c.is_good.ensures (ap not c.if-not-is_good.false))
 
 pub shape_of-memory : goal.shape_of-memory
 unfolding own_on

@@ -1,4 +1,6 @@
 -- `guard::piece` meets its contract.
+use mathlib.Core.Path.{ap}
+use mathlib.Core.Bool.{not}
 use Rattle.memory.specs.Calls.{piece_on}
 use Rattle.guard.proofs.Tested.{passed_image, passed_memory, calls}
 use Rattle.guard.proofs.piece.Goals as goal
@@ -33,7 +35,7 @@ returns-then-not-is_good c = search calls
 
 pub piece-requires : goal.piece-requires
 unfolding piece_on
-piece-requires c = (search passed_image, passed_memory _ _ c.is_good.ensures c.if-not-is_good.false)
+piece-requires c = (search passed_image, passed_memory _ _ c.is_good.ensures (ap not c.if-not-is_good.false))
 
 pub shape_of-memory : goal.shape_of-memory
 unfolding piece_on

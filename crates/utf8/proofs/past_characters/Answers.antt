@@ -43,7 +43,7 @@ pub returns-then-not-is_tail : goal.returns-then-not-is_tail
 returns-then-not-is_tail c = search passing
 
 pub overflow_add-i-then-not-is_ascii : goal.overflow_add-i-then-not-is_ascii
-overflow_add-i-then-not-is_ascii c = omega (arith, c.is_tail.ensures.inside (not-false _ c.if-not-is_tail.false))
+overflow_add-i-then-not-is_ascii c = omega (arith, c.is_tail.ensures.inside c.if-not-is_tail.false)
 
 pub loop-i-smaller-then-not-is_ascii : goal.loop-i-smaller-then-not-is_ascii
 loop-i-smaller-then-not-is_ascii c = search passing
