@@ -1,7 +1,4 @@
 -- `addresses::find_addressee` meets its contract.
-use Prim.Native.Nat.{◌-◌}
-use Rattle.rules.specs.Addresses.{answers_to}
-use Rattle.memory.proofs.Search.{Looking}
 use Rattle.addresses.proofs.Addresses.{addressees}
 use Rattle.addresses.proofs.find_addressee.Goals as goal
 

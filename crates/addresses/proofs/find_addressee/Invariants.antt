@@ -2,7 +2,6 @@
 use Prim.Native.Nat.{◌-◌}
 use Rattle.rules.specs.Addresses.{answers_to}
 use Rattle.memory.proofs.Search.{Looking}
-use Rattle.addresses.proofs.Addresses.{addressees}
 use Rattle.addresses.proofs.find_addressee.Given as goal
 
 abbrev pub invariant-loop-i : goal.invariant-loop-i

@@ -1,5 +1,5 @@
 -- `addresses::unique_name` meets its contract.
-use Rattle.addresses.proofs.Unique.{Spelling, spelling}
+use Rattle.addresses.proofs.Unique.{spelling}
 use Rattle.addresses.proofs.unique_name.Goals as goal
 
 pub loop-k-init : goal.loop-k-init

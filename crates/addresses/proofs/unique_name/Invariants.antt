@@ -1,5 +1,5 @@
 -- `addresses::unique_name` meets its contract.
-use Rattle.addresses.proofs.Unique.{Spelling, spelling}
+use Rattle.addresses.proofs.Unique.{Spelling}
 use Rattle.addresses.proofs.unique_name.Given as goal
 
 abbrev pub invariant-loop-k : goal.invariant-loop-k

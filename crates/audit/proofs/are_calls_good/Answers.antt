@@ -1,5 +1,5 @@
 -- `audit::are_calls_good` meets its contract.
-use Rattle.audit.proofs.Calls.{Calling, calling}
+use Rattle.audit.proofs.Calls.{calling}
 use Rattle.audit.proofs.are_calls_good.Goals as goal
 
 pub count_pending-j-requires : goal.count_pending-j-requires

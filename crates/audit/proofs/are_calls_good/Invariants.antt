@@ -1,5 +1,5 @@
 -- `audit::are_calls_good` meets its contract.
-use Rattle.audit.proofs.Calls.{Calling, calling}
+use Rattle.audit.proofs.Calls.{Calling}
 use Rattle.audit.proofs.are_calls_good.Given as goal
 
 abbrev pub invariant-loop-j : goal.invariant-loop-j

@@ -1,7 +1,5 @@
 -- `audit::are_cells_plain` meets its contract.
-use Prim.Native.Nat.{◌-◌}
-use Rattle.audit.proofs.Shape.{CellsInvariant, cells}
-use Rattle.wire.proofs.Needs.{all4, all5}
+use Rattle.audit.proofs.Shape.{cells}
 use Rattle.audit.proofs.are_cells_plain.Goals as goal
 
 pub word_at-n-requires : goal.word_at-n-requires

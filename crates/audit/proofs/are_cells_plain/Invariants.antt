@@ -1,7 +1,6 @@
 -- `audit::are_cells_plain` meets its contract.
 use Prim.Native.Nat.{◌-◌}
-use Rattle.audit.proofs.Shape.{CellsInvariant, cells}
-use Rattle.wire.proofs.Needs.{all4, all5}
+use Rattle.audit.proofs.Shape.{CellsInvariant}
 use Rattle.audit.proofs.are_cells_plain.Given as goal
 
 abbrev pub invariant-loop-j : goal.invariant-loop-j

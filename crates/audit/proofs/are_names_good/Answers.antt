@@ -1,6 +1,5 @@
 -- `audit::are_names_good` meets its contract.
-use Prim.Native.Nat.{◌-◌}
-use Rattle.audit.proofs.Names.{Naming, naming}
+use Rattle.audit.proofs.Names.{naming}
 use Rattle.audit.proofs.are_names_good.Goals as goal
 
 pub count_names-count-requires : goal.count_names-count-requires

@@ -1,6 +1,6 @@
 -- `audit::are_names_good` meets its contract.
 use Prim.Native.Nat.{◌-◌}
-use Rattle.audit.proofs.Names.{Naming, naming}
+use Rattle.audit.proofs.Names.{Naming}
 use Rattle.audit.proofs.are_names_good.Given as goal
 
 abbrev pub invariant-loop-j : goal.invariant-loop-j

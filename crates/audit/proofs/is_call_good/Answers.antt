@@ -1,6 +1,5 @@
 -- `audit::is_call_good` meets its contract.
 use Rattle.audit.proofs.Calls.{call_tests}
-use Rattle.wire.proofs.Needs.{all7}
 use Rattle.audit.proofs.is_call_good.Goals as goal
 
 pub overflow_mul-j : goal.overflow_mul-j

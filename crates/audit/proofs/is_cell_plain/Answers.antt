@@ -1,6 +1,5 @@
 -- `audit::is_cell_plain` meets its contract.
 use Rattle.audit.proofs.Shape.{cell_tests}
-use Rattle.wire.proofs.Needs.{all6}
 use Rattle.audit.proofs.is_cell_plain.Goals as goal
 
 pub overflow_mul-at : goal.overflow_mul-at

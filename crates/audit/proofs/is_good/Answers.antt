@@ -1,6 +1,5 @@
 -- `audit::is_good` meets its contract.
-use Prim.Native.Nat.{◌-◌}
-use Rattle.audit.proofs.Slots.{Auditing, auditing}
+use Rattle.audit.proofs.Slots.{auditing}
 use Rattle.audit.proofs.is_good.Goals as goal
 
 pub returns-then-memory-ne-MEMORY_LENGTH : goal.returns-then-memory-ne-MEMORY_LENGTH

@@ -1,6 +1,6 @@
 -- `audit::is_good` meets its contract.
 use Prim.Native.Nat.{◌-◌}
-use Rattle.audit.proofs.Slots.{Auditing, auditing}
+use Rattle.audit.proofs.Slots.{Auditing}
 use Rattle.audit.proofs.is_good.Given as goal
 
 abbrev pub invariant-loop-i : goal.invariant-loop-i

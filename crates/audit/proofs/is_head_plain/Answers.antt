@@ -1,6 +1,5 @@
 -- `audit::is_head_plain` meets its contract.
 use Rattle.audit.proofs.Shape.{heads}
-use Rattle.wire.proofs.Needs.{all6}
 use Rattle.audit.proofs.is_head_plain.Goals as goal
 
 pub word_at-n-requires : goal.word_at-n-requires

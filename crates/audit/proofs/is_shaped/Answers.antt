@@ -1,6 +1,5 @@
 -- `audit::is_shaped` meets its contract.
 use Rattle.audit.proofs.Slots.{shapes}
-use Rattle.wire.proofs.Needs.{all8}
 use Rattle.audit.proofs.is_shaped.Goals as goal
 
 pub overflow_mul-at : goal.overflow_mul-at

@@ -1,6 +1,5 @@
 -- `audit::is_slot_good` meets its contract.
 use Rattle.audit.proofs.Slots.{slot_tests}
-use Rattle.wire.proofs.Needs.{all5}
 use Rattle.audit.proofs.is_slot_good.Goals as goal
 
 pub number_at-number-requires : goal.number_at-number-requires

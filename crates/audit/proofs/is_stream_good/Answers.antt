@@ -1,6 +1,5 @@
 -- `audit::is_stream_good` meets its contract.
 use Rattle.audit.proofs.Slots.{streams}
-use Rattle.wire.proofs.Needs.{all5, all8}
 use Rattle.audit.proofs.is_stream_good.Goals as goal
 
 pub word_at-taken-requires : goal.word_at-taken-requires

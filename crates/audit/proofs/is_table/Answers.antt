@@ -1,6 +1,5 @@
 -- `audit::is_table` meets its contract.
 use Rattle.audit.proofs.Shape.{tables}
-use Rattle.wire.proofs.Needs.{all7}
 use Rattle.audit.proofs.is_table.Goals as goal
 
 pub u32_at-n-requires : goal.u32_at-n-requires

@@ -1,6 +1,5 @@
 -- `basics::any_text` meets its contract.
 use Rattle.basics.proofs.Places.{anys}
-use borrow.Author.Rules.{rules}
 use Rattle.basics.proofs.any_text.Goals as goal
 
 pub returns-then-head-from : goal.returns-then-head-from

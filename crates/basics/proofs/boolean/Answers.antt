@@ -1,6 +1,5 @@
 -- `basics::boolean` meets its contract.
 use Rattle.basics.proofs.Places.{booleans}
-use borrow.Author.Rules.{rules}
 use Rattle.basics.proofs.boolean.Goals as goal
 
 pub overflow_sub-head : goal.overflow_sub-head

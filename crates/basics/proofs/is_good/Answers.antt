@@ -1,6 +1,5 @@
 -- `basics::is_good` meets its contract.
 use Rattle.basics.proofs.Places.{goods}
-use borrow.Author.Rules.{rules}
 use Rattle.basics.proofs.is_good.Goals as goal
 
 pub returns-in-Utf8 : goal.returns-in-Utf8

@@ -1,6 +1,5 @@
 -- `basics::number` meets its contract.
 use Rattle.basics.proofs.Places.{numbers}
-use borrow.Author.Rules.{rules}
 use Rattle.basics.proofs.number.Goals as goal
 
 pub overflow_sub-head : goal.overflow_sub-head

@@ -1,6 +1,5 @@
 -- `basics::pad` meets its contract.
 use Rattle.basics.proofs.Places.{padding}
-use borrow.Author.Rules.{rules}
 use Rattle.basics.proofs.pad.Goals as goal
 
 pub returns-then-head-at : goal.returns-then-head-at

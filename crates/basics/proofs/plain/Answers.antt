@@ -1,6 +1,5 @@
 -- `basics::plain` meets its contract.
 use Rattle.basics.proofs.Places.{plains}
-use borrow.Author.Rules.{rules}
 use Rattle.basics.proofs.plain.Goals as goal
 
 pub returns-in-98 : goal.returns-in-98

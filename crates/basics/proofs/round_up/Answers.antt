@@ -1,6 +1,5 @@
 -- `basics::round_up` meets its contract.
 use Rattle.basics.proofs.Rounding.{rounding}
-use borrow.Author.Rules.{rules}
 use Rattle.basics.proofs.round_up.Goals as goal
 
 pub returns-then-k-eq1 : goal.returns-then-k-eq1

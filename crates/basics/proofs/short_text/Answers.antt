@@ -1,6 +1,5 @@
 -- `basics::short_text` meets its contract.
 use Rattle.basics.proofs.Places.{shorts}
-use borrow.Author.Rules.{rules}
 use Rattle.basics.proofs.short_text.Goals as goal
 
 pub returns-then-head-at : goal.returns-then-head-at

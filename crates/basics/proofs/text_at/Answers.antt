@@ -1,6 +1,5 @@
 -- `basics::text_at` meets its contract.
 use Rattle.basics.proofs.Places.{texts}
-use borrow.Author.Rules.{rules}
 use Rattle.basics.proofs.text_at.Goals as goal
 
 pub overflow_sub-head : goal.overflow_sub-head

@@ -1,7 +1,6 @@
 -- `basics::text_in` meets its contract.
 use native.Mathlib.Omega.{arith}
 use Rattle.basics.proofs.Places.{ins, any_fits}
-use borrow.Author.Rules.{rules}
 use Rattle.basics.proofs.text_in.Goals as goal
 
 pub overflow_sub-end : goal.overflow_sub-end

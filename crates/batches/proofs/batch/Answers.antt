@@ -1,6 +1,5 @@
 -- `batches::batch` meets its contract.
-use Prim.Native.Nat.{◌-◌}
-use Rattle.batches.proofs.Going.{Going, going_kept, going_stops, going_on, going}
+use Rattle.batches.proofs.Going.{going_kept, going_stops, going_on, going}
 use Rattle.batches.proofs.batch.Goals as goal
 
 pub loop-written-init : goal.loop-written-init

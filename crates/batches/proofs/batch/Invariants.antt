@@ -1,6 +1,6 @@
 -- `batches::batch` meets its contract.
 use Prim.Native.Nat.{◌-◌}
-use Rattle.batches.proofs.Going.{Going, going_kept, going_stops, going_on, going}
+use Rattle.batches.proofs.Going.{Going}
 use Rattle.batches.proofs.batch.Given as goal
 
 abbrev pub invariant-loop-written : goal.invariant-loop-written

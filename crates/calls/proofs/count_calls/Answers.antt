@@ -1,6 +1,5 @@
 -- `calls::count_calls` meets its contract.
-use lib.ListN.{length}
-use Rattle.calls.proofs.Entries.{Counting, counting}
+use Rattle.calls.proofs.Entries.{counting}
 use Rattle.calls.proofs.count_calls.Goals as goal
 
 pub loop-rest-init : goal.loop-rest-init

@@ -1,6 +1,6 @@
 -- `calls::count_calls` meets its contract.
 use lib.ListN.{length}
-use Rattle.calls.proofs.Entries.{Counting, counting}
+use Rattle.calls.proofs.Entries.{Counting}
 use Rattle.calls.proofs.count_calls.Given as goal
 
 abbrev pub invariant-loop-rest : goal.invariant-loop-rest

@@ -1,6 +1,5 @@
 -- `calls::read_gids` meets its contract.
-use Prim.Native.Nat.{◌-◌}
-use Rattle.calls.proofs.Words.{Gathering, gathering}
+use Rattle.calls.proofs.Words.{gathering}
 use Rattle.calls.proofs.read_gids.Goals as goal
 
 pub overflow_sub-argument : goal.overflow_sub-argument

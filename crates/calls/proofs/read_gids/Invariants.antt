@@ -1,6 +1,6 @@
 -- `calls::read_gids` meets its contract.
 use Prim.Native.Nat.{◌-◌}
-use Rattle.calls.proofs.Words.{Gathering, gathering}
+use Rattle.calls.proofs.Words.{Gathering}
 use Rattle.calls.proofs.read_gids.Given as goal
 
 abbrev pub invariant-loop-k : goal.invariant-loop-k

@@ -1,6 +1,5 @@
 -- `calls::replay` meets its contract.
-use lib.ListN.{length}
-use Rattle.calls.proofs.Going.{Going, going}
+use Rattle.calls.proofs.Going.{going}
 use Rattle.calls.proofs.replay.Goals as goal
 
 pub loop-rest-init : goal.loop-rest-init

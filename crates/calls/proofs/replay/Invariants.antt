@@ -1,6 +1,6 @@
 -- `calls::replay` meets its contract.
 use lib.ListN.{length}
-use Rattle.calls.proofs.Going.{Going, going}
+use Rattle.calls.proofs.Going.{Going}
 use Rattle.calls.proofs.replay.Given as goal
 
 abbrev pub invariant-loop-rest : goal.invariant-loop-rest

@@ -1,6 +1,5 @@
 -- `decide::connect` meets its contract.
-use Prim.Native.Nat.{◌-◌}
-use Rattle.decide.proofs.Decisions.{Connecting, connecting, connect_found}
+use Rattle.decide.proofs.Decisions.{connecting}
 use Rattle.decide.proofs.connect.Goals as goal
 
 pub word-base-requires : goal.word-base-requires

@@ -1,6 +1,6 @@
 -- `decide::connect` meets its contract.
 use Prim.Native.Nat.{◌-◌}
-use Rattle.decide.proofs.Decisions.{Connecting, connecting, connect_found}
+use Rattle.decide.proofs.Decisions.{Connecting}
 use Rattle.decide.proofs.connect.Given as goal
 
 abbrev pub invariant-loop-at : goal.invariant-loop-at

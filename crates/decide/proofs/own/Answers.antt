@@ -1,6 +1,5 @@
 -- `decide::own` meets its contract.
-use Prim.Native.Nat.{◌-◌}
-use Rattle.decide.proofs.Decisions.{Owning, owning, own_found}
+use Rattle.decide.proofs.Decisions.{owning}
 use Rattle.decide.proofs.own.Goals as goal
 
 pub word-base-requires : goal.word-base-requires

@@ -1,6 +1,6 @@
 -- `decide::own` meets its contract.
 use Prim.Native.Nat.{◌-◌}
-use Rattle.decide.proofs.Decisions.{Owning, owning, own_found}
+use Rattle.decide.proofs.Decisions.{Owning}
 use Rattle.decide.proofs.own.Given as goal
 
 abbrev pub invariant-loop-at : goal.invariant-loop-at

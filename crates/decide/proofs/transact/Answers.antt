@@ -1,6 +1,5 @@
 -- `decide::transact` meets its contract. The invariant: the decision is left to the rules below the context and place reached.
-use Prim.Native.Nat.{◌-◌}
-use Rattle.decide.proofs.Transactions.{Deciding, deciding, decide_place, decide_cited, decide_unnamed}
+use Rattle.decide.proofs.Transactions.{deciding, decide_place, decide_cited, decide_unnamed}
 use Rattle.decide.proofs.transact.Goals as goal
 
 pub word-base-requires : goal.word-base-requires

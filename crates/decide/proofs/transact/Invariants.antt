@@ -1,6 +1,6 @@
 -- `decide::transact` meets its contract. The invariant: the decision is left to the rules below the context and place reached.
 use Prim.Native.Nat.{◌-◌}
-use Rattle.decide.proofs.Transactions.{Deciding, deciding, decide_place, decide_cited, decide_unnamed}
+use Rattle.decide.proofs.Transactions.{Deciding}
 use Rattle.decide.proofs.transact.Given as goal
 
 abbrev pub invariant-loop-at : goal.invariant-loop-at

@@ -1,7 +1,5 @@
 -- `endings::end_all` meets its contract.
-use Prim.Native.Nat.{◌-◌}
-use Rattle.endings.specs.Endings.{test_of}
-use Rattle.endings.proofs.Calls.{RemovalInvariant, removal}
+use Rattle.endings.proofs.Calls.{removal}
 use Rattle.endings.proofs.end_all.Goals as goal
 
 pub loop-i-init : goal.loop-i-init

@@ -1,7 +1,7 @@
 -- `endings::end_all` meets its contract.
 use Prim.Native.Nat.{◌-◌}
 use Rattle.endings.specs.Endings.{test_of}
-use Rattle.endings.proofs.Calls.{RemovalInvariant, removal}
+use Rattle.endings.proofs.Calls.{RemovalInvariant}
 use Rattle.endings.proofs.end_all.Given as goal
 
 abbrev pub invariant-loop-i : goal.invariant-loop-i

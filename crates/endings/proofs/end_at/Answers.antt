@@ -1,6 +1,5 @@
 -- `endings::end_at` meets its contract.
 use Rattle.endings.proofs.Calls.{slot_calls}
-use Rattle.wire.proofs.Needs.{all7}
 use Rattle.endings.proofs.end_at.Goals as goal
 
 pub number_at-requires : goal.number_at-requires

@@ -1,10 +1,6 @@
 -- `endings::end_calls` meets its contract.
-use Rattle.tables.specs.Tables.{table_of}
-use Rattle.memory.specs.Layout.{call_width, call_room}
-use Rattle.memory.specs.Encoding.{pending_of}
-use Rattle.memory.proofs.Ending.{Ending, ending, ending_out}
+use Rattle.memory.proofs.Ending.{ending, ending_out}
 use borrow.Author.Rules.{rules}
-use Rattle.endings.specs.Endings.{test_of}
 use Rattle.endings.proofs.Calls.{calls_ended_lem}
 use Rattle.endings.proofs.end_calls.Goals as goal
 

@@ -1,7 +1,5 @@
 -- `exacts::put_exacts` meets its contract.
-use Prim.Native.Nat.{◌-◌}
-use lib.ListN.{length}
-use Rattle.exacts.proofs.Exacts.{Making, making}
+use Rattle.exacts.proofs.Exacts.{making}
 use Rattle.exacts.proofs.put_exacts.Goals as goal
 
 pub loop-k-init : goal.loop-k-init

@@ -1,7 +1,7 @@
 -- `exacts::put_exacts` meets its contract.
 use Prim.Native.Nat.{◌-◌}
 use lib.ListN.{length}
-use Rattle.exacts.proofs.Exacts.{Making, making}
+use Rattle.exacts.proofs.Exacts.{Making}
 use Rattle.exacts.proofs.put_exacts.Given as goal
 
 abbrev pub invariant-loop-k : goal.invariant-loop-k

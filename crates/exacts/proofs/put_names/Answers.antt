@@ -1,7 +1,5 @@
 -- `exacts::put_names` meets its contract.
-use Prim.Native.Nat.{◌-◌}
-use lib.ListN.{length}
-use Rattle.exacts.proofs.Adding.{Adding, adding}
+use Rattle.exacts.proofs.Adding.{adding}
 use Rattle.exacts.proofs.put_names.Goals as goal
 
 pub loop-k-init : goal.loop-k-init

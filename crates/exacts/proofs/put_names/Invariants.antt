@@ -1,7 +1,7 @@
 -- `exacts::put_names` meets its contract.
 use Prim.Native.Nat.{◌-◌}
 use lib.ListN.{length}
-use Rattle.exacts.proofs.Adding.{Adding, adding}
+use Rattle.exacts.proofs.Adding.{Adding}
 use Rattle.exacts.proofs.put_names.Given as goal
 
 abbrev pub invariant-loop-k : goal.invariant-loop-k

@@ -1,6 +1,5 @@
 -- `exacts::put_owns` meets its contract.
-use Prim.Native.Nat.{◌-◌}
-use Rattle.exacts.proofs.Owns.{Owning, owning}
+use Rattle.exacts.proofs.Owns.{owning}
 use Rattle.exacts.proofs.put_owns.Goals as goal
 
 pub word-count-requires : goal.word-count-requires

@@ -1,6 +1,6 @@
 -- `exacts::put_owns` meets its contract.
 use Prim.Native.Nat.{◌-◌}
-use Rattle.exacts.proofs.Owns.{Owning, owning}
+use Rattle.exacts.proofs.Owns.{Owning}
 use Rattle.exacts.proofs.put_owns.Given as goal
 
 abbrev pub invariant-loop-i : goal.invariant-loop-i

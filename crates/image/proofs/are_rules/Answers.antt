@@ -1,7 +1,5 @@
 -- `image::are_rules` meets its contract. The loop's invariant: of the rules, those below `i` are left to be tested.
-use Rattle.image.specs.Image.{rule_count}
-use Rattle.image.specs.Good.{good_rule}
-use Rattle.wire.proofs.Below.{Testing, testing}
+use Rattle.wire.proofs.Below.{testing}
 use Rattle.image.proofs.Holds.{rules_begin, next_rule}
 use Rattle.image.proofs.are_rules.Goals as goal
 

@@ -1,7 +1,6 @@
 -- `image::check` meets its contract.
 use Rattle.image.proofs.Ways.{no_header, all_good, some_bad}
 use Rattle.image.proofs.Holds.{header_passed}
-use borrow.Author.Rules.{rules}
 use Rattle.image.proofs.check.Goals as goal
 
 pub returns-then-not-has_header : goal.returns-then-not-has_header

@@ -1,6 +1,5 @@
 -- `image::counts_fit` meets its contract.
 use Rattle.image.proofs.Ways.{counts}
-use borrow.Author.Rules.{rules}
 use Rattle.image.proofs.counts_fit.Goals as goal
 
 pub returns : goal.returns

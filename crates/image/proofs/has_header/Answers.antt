@@ -1,6 +1,5 @@
 -- `image::has_header` meets its contract.
 use Rattle.image.proofs.Ways.{too_short, too_long, header_is}
-use borrow.Author.Rules.{rules}
 use Rattle.image.proofs.has_header.Goals as goal
 
 pub returns-then-image-lt-SECTIONS_AT : goal.returns-then-image-lt-SECTIONS_AT

@@ -1,6 +1,5 @@
 -- `image::has_strings` meets its contract.
 use Rattle.image.proofs.Ways.{strings_are}
-use borrow.Author.Rules.{rules}
 use Rattle.image.proofs.has_strings.Goals as goal
 
 pub returns : goal.returns

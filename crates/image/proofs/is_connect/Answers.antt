@@ -1,6 +1,5 @@
 -- `image::is_connect` meets its contract.
 use Rattle.image.proofs.Ways.{connect_is}
-use borrow.Author.Rules.{rules}
 use Rattle.image.proofs.is_connect.Goals as goal
 
 pub returns : goal.returns

@@ -1,6 +1,5 @@
 -- `image::is_own` meets its contract.
 use Rattle.image.proofs.Ways.{own_is}
-use borrow.Author.Rules.{rules}
 use Rattle.image.proofs.is_own.Goals as goal
 
 pub returns : goal.returns

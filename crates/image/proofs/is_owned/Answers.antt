@@ -1,6 +1,5 @@
 -- `image::is_owned` meets its contract.
 use Rattle.image.proofs.Ways.{any_name, one_name}
-use borrow.Author.Rules.{rules}
 use Rattle.image.proofs.is_owned.Goals as goal
 
 pub returns-then-image-at-eq0 : goal.returns-then-image-at-eq0

@@ -1,6 +1,5 @@
 -- `image::is_string` meets its contract.
 use Rattle.image.proofs.Ways.{outside, inside}
-use borrow.Author.Rules.{rules}
 use Rattle.image.proofs.is_string.Goals as goal
 
 pub returns-then-image-to : goal.returns-then-image-to

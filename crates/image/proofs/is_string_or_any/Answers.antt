@@ -1,6 +1,5 @@
 -- `image::is_string_or_any` meets its contract.
 use Rattle.image.proofs.Ways.{any, literal}
-use borrow.Author.Rules.{rules}
 use Rattle.image.proofs.is_string_or_any.Goals as goal
 
 pub returns-then-word-eq0 : goal.returns-then-word-eq0

@@ -1,6 +1,5 @@
 -- `image::is_transaction` meets its contract.
 use Rattle.image.proofs.Ways.{transaction_bad, transaction_is}
-use borrow.Author.Rules.{rules}
 use Rattle.image.proofs.is_transaction.Goals as goal
 
 pub returns-then-is_subject-image : goal.returns-then-is_subject-image

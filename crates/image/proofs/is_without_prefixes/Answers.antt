@@ -1,5 +1,5 @@
 -- `image::is_without_prefixes` meets its contract. The loop's invariant: of the own rules, those below `i` are left to be looked at, and one of them at least.
-use Rattle.image.proofs.Prefixes.{Looking, looking}
+use Rattle.image.proofs.Prefixes.{looking}
 use Rattle.image.proofs.is_without_prefixes.Goals as goal
 
 pub word-from-requires : goal.word-from-requires

@@ -1,5 +1,5 @@
 -- `image::is_without_prefixes` meets its contract. The loop's invariant: of the own rules, those below `i` are left to be looked at, and one of them at least.
-use Rattle.image.proofs.Prefixes.{Looking, looking}
+use Rattle.image.proofs.Prefixes.{Looking}
 use Rattle.image.proofs.is_without_prefixes.Given as goal
 
 abbrev pub invariant-loop-i : goal.invariant-loop-i

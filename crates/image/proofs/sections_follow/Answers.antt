@@ -1,6 +1,5 @@
 -- `image::sections_follow` meets its contract.
 use Rattle.image.proofs.Ways.{sections}
-use borrow.Author.Rules.{rules}
 use Rattle.image.proofs.sections_follow.Goals as goal
 
 pub returns : goal.returns

@@ -1,5 +1,5 @@
 -- `judge::to_all` meets its contract.
-use Rattle.judge.proofs.Everybody.{Masking, masking}
+use Rattle.judge.proofs.Everybody.{masking}
 use Rattle.judge.proofs.to_all.Goals as goal
 
 pub loop-k-init : goal.loop-k-init

@@ -1,5 +1,5 @@
 -- `judge::to_all` meets its contract.
-use Rattle.judge.proofs.Everybody.{Masking, masking}
+use Rattle.judge.proofs.Everybody.{Masking}
 use Rattle.judge.proofs.to_all.Given as goal
 
 abbrev pub invariant-loop-k : goal.invariant-loop-k

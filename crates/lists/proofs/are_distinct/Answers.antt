@@ -1,7 +1,5 @@
 -- `lists::are_distinct` meets its contract. The loop's invariant: the names from `at` on decide.
-use Prim.Native.Nat.{◌-◌}
-use lib.ListN.{length}
-use Rattle.lists.proofs.Lists.{Parting, parting}
+use Rattle.lists.proofs.Lists.{parting}
 use Rattle.lists.proofs.are_distinct.Goals as goal
 
 pub loop-at-init : goal.loop-at-init

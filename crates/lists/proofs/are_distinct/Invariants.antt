@@ -1,7 +1,7 @@
 -- `lists::are_distinct` meets its contract. The loop's invariant: the names from `at` on decide.
 use Prim.Native.Nat.{◌-◌}
 use lib.ListN.{length}
-use Rattle.lists.proofs.Lists.{Parting, parting}
+use Rattle.lists.proofs.Lists.{Parting}
 use Rattle.lists.proofs.are_distinct.Given as goal
 
 abbrev pub invariant-loop-at : goal.invariant-loop-at

@@ -1,7 +1,5 @@
 -- `lists::are_names` meets its contract. The loop's invariant: the names from `at` on decide.
-use Prim.Native.Nat.{◌-◌}
-use lib.ListN.{length}
-use Rattle.lists.proofs.Lists.{Naming, naming}
+use Rattle.lists.proofs.Lists.{naming}
 use Rattle.lists.proofs.are_names.Goals as goal
 
 pub class_table-table-requires : goal.class_table-table-requires

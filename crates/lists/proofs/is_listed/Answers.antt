@@ -1,7 +1,5 @@
 -- `lists::is_listed` meets its contract. The loop's invariant: the names from `at` on decide.
-use Prim.Native.Nat.{◌-◌}
-use lib.ListN.{length}
-use Rattle.lists.proofs.Lists.{Seeking, seeking}
+use Rattle.lists.proofs.Lists.{seeking}
 use Rattle.lists.proofs.is_listed.Goals as goal
 
 pub loop-at-init : goal.loop-at-init

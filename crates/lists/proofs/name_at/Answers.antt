@@ -1,5 +1,4 @@
 -- `lists::name_at` meets its contract.
-use borrow.Author.Rules.{rules}
 use Rattle.lists.proofs.Lists.{name_cut}
 use Rattle.lists.proofs.name_at.Goals as goal
 

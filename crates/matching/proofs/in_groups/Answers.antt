@@ -1,7 +1,5 @@
 -- `matching::in_groups` meets its contract.
-use lib.ListN.{length}
-use Prim.Native.Nat.{◌-◌}
-use Rattle.matching.proofs.Subjects.{Looking, looking}
+use Rattle.matching.proofs.Subjects.{looking}
 use Rattle.matching.proofs.in_groups.Goals as goal
 
 pub loop-i-init : goal.loop-i-init

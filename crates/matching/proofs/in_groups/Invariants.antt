@@ -1,7 +1,7 @@
 -- `matching::in_groups` meets its contract.
 use lib.ListN.{length}
 use Prim.Native.Nat.{◌-◌}
-use Rattle.matching.proofs.Subjects.{Looking, looking}
+use Rattle.matching.proofs.Subjects.{Looking}
 use Rattle.matching.proofs.in_groups.Given as goal
 
 abbrev pub invariant-loop-i : goal.invariant-loop-i

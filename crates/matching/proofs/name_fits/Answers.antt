@@ -1,6 +1,5 @@
 -- `matching::name_fits` meets its contract. The invariant: the rule's name is one of the names if it is in the cells that are left.
-use lib.ListN.{length}
-use Rattle.matching.proofs.Names.{Seeking, seeking}
+use Rattle.matching.proofs.Names.{seeking}
 use Rattle.matching.proofs.name_fits.Goals as goal
 
 pub overflow_add-at : goal.overflow_add-at

@@ -1,6 +1,6 @@
 -- `matching::name_fits` meets its contract. The invariant: the rule's name is one of the names if it is in the cells that are left.
 use lib.ListN.{length}
-use Rattle.matching.proofs.Names.{Seeking, seeking}
+use Rattle.matching.proofs.Names.{Seeking}
 use Rattle.matching.proofs.name_fits.Given as goal
 
 abbrev pub invariant-loop-cells : goal.invariant-loop-cells

@@ -1,6 +1,5 @@
 -- `names::in_namespace` meets its contract.
 use Rattle.names.proofs.Namespace.{under}
-use borrow.Author.Rules.{rules}
 use Rattle.names.proofs.in_namespace.Goals as goal
 
 pub returns-then-name-n : goal.returns-then-name-n

@@ -1,6 +1,5 @@
 -- `names::is_bus_name` meets its contract.
 use Rattle.names.proofs.Forms.{forms}
-use borrow.Author.Rules.{rules}
 use Rattle.names.proofs.is_bus_name.Goals as goal
 
 pub returns-then-s-eq0 : goal.returns-then-s-eq0

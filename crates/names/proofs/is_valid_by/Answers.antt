@@ -1,6 +1,5 @@
 -- `names::is_valid_by` meets its contract.
 use Rattle.names.proofs.Forms.{forms}
-use borrow.Author.Rules.{rules}
 use Rattle.names.proofs.is_valid_by.Goals as goal
 
 pub returns-in-Interface : goal.returns-in-Interface

@@ -1,6 +1,5 @@
 -- `owners::give_up` meets its contract.
 use Rattle.owners.proofs.Releasing.{giving}
-use Rattle.wire.proofs.Needs.{all5, all6}
 use Rattle.owners.proofs.give_up.Goals as goal
 
 pub find_name-j-requires : goal.find_name-j-requires

@@ -1,6 +1,5 @@
 -- `owners::grant` meets its contract.
 use Rattle.owners.proofs.Owning.{granting}
-use Rattle.wire.proofs.Needs.{all6, all7}
 use Rattle.owners.proofs.grant.Goals as goal
 
 pub word_at-n-requires : goal.word_at-n-requires

@@ -1,6 +1,5 @@
 -- `peers::leave` meets its contract.
 use Rattle.peers.proofs.Leaving.{leaving}
-use Rattle.wire.proofs.Needs.{all6}
 use Rattle.peers.proofs.leave.Goals as goal
 
 pub overflow_mul-from : goal.overflow_mul-from

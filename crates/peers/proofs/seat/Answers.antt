@@ -1,6 +1,5 @@
 -- `peers::seat` meets its contract.
 use Rattle.peers.proofs.Newcomers.{seating}
-use Rattle.wire.proofs.Needs.{all5, all6}
 use Rattle.peers.proofs.seat.Goals as goal
 
 pub overflow_mul-at : goal.overflow_mul-at

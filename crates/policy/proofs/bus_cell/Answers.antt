@@ -3,7 +3,6 @@ use mathlib.Core.Path.{◌≡◌}
 use mathlib.Core.List.{List, ◌∷◌, ◌++◌}
 use Prim.Native.Nat.{ℕ}
 use lib.ListN.{replicate}
-use borrow.Author.Rules.{rules}
 use Rattle.wire.specs.Bytes.{pad}
 use Rattle.policy.specs.Names.{cell_of, bus_name}
 use Rattle.policy.proofs.bus_cell.Goals as goal

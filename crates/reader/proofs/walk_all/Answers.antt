@@ -1,7 +1,5 @@
 -- `reader::walk_all` meets its contract.
-use Prim.Native.Nat.{◌-◌}
-use Rattle.header.specs.Fixed.{order_of}
-use Rattle.reader.proofs.Walking.{Walking, walking}
+use Rattle.reader.proofs.Walking.{walking}
 use Rattle.reader.proofs.walk_all.Goals as goal
 
 pub loop-from-init : goal.loop-from-init

@@ -1,7 +1,7 @@
 -- `reader::walk_all` meets its contract.
 use Prim.Native.Nat.{◌-◌}
 use Rattle.header.specs.Fixed.{order_of}
-use Rattle.reader.proofs.Walking.{Walking, walking}
+use Rattle.reader.proofs.Walking.{Walking}
 use Rattle.reader.proofs.walk_all.Given as goal
 
 abbrev pub invariant-loop-from : goal.invariant-loop-from

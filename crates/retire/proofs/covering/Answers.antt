@@ -1,6 +1,5 @@
 -- `retire::covering` meets its contract. The loop's invariant: of the own rules, those below `i` are counted.
-use Prim.Native.Nat.{◌-◌}
-use Rattle.retire.proofs.Covered.{Covering, covering_ends, covering}
+use Rattle.retire.proofs.Covered.{covering_ends, covering}
 use Rattle.retire.proofs.covering.Goals as goal
 
 pub word-strings-requires : goal.word-strings-requires

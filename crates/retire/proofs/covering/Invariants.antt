@@ -1,6 +1,6 @@
 -- `retire::covering` meets its contract. The loop's invariant: of the own rules, those below `i` are counted.
 use Prim.Native.Nat.{◌-◌}
-use Rattle.retire.proofs.Covered.{Covering, covering_ends, covering}
+use Rattle.retire.proofs.Covered.{Covering}
 use Rattle.retire.proofs.covering.Given as goal
 
 abbrev pub invariant-loop-i : goal.invariant-loop-i

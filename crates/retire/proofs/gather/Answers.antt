@@ -1,7 +1,5 @@
 -- `retire::gather` meets its contract. The loop's invariant: the names before `at` are told, and those from `at` on are to come.
-use Prim.Native.Nat.{◌-◌}
-use lib.ListN.{length}
-use Rattle.retire.proofs.Gathering.{Gathering, gathering}
+use Rattle.retire.proofs.Gathering.{gathering}
 use Rattle.retire.proofs.gather.Goals as goal
 
 pub kept-rules-requires : goal.kept-rules-requires

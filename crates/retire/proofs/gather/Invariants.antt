@@ -1,7 +1,7 @@
 -- `retire::gather` meets its contract. The loop's invariant: the names before `at` are told, and those from `at` on are to come.
 use Prim.Native.Nat.{◌-◌}
 use lib.ListN.{length}
-use Rattle.retire.proofs.Gathering.{Gathering, gathering}
+use Rattle.retire.proofs.Gathering.{Gathering}
 use Rattle.retire.proofs.gather.Given as goal
 
 abbrev pub invariant-loop-at : goal.invariant-loop-at

@@ -1,6 +1,5 @@
 -- `retire::kept` meets its contract. The loop's invariant: of the own rules, those below `i` are counted.
-use Prim.Native.Nat.{◌-◌}
-use Rattle.retire.proofs.Covered.{Keeping, keeping_ends, keeping}
+use Rattle.retire.proofs.Covered.{keeping_ends, keeping}
 use Rattle.retire.proofs.kept.Goals as goal
 
 pub word-from-requires : goal.word-from-requires

@@ -1,6 +1,6 @@
 -- `retire::kept` meets its contract. The loop's invariant: of the own rules, those below `i` are counted.
 use Prim.Native.Nat.{◌-◌}
-use Rattle.retire.proofs.Covered.{Keeping, keeping_ends, keeping}
+use Rattle.retire.proofs.Covered.{Keeping}
 use Rattle.retire.proofs.kept.Given as goal
 
 abbrev pub invariant-loop-i : goal.invariant-loop-i

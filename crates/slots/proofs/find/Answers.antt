@@ -1,7 +1,4 @@
 -- `slots::find` meets its contract.
-use Prim.Native.Nat.{◌-◌}
-use Rattle.rules.specs.State.{is_peer}
-use Rattle.memory.proofs.Search.{Looking}
 use Rattle.memory.proofs.Find.{finding, peer_nobody}
 use Rattle.slots.proofs.find.Goals as goal
 

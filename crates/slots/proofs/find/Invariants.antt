@@ -2,7 +2,6 @@
 use Prim.Native.Nat.{◌-◌}
 use Rattle.rules.specs.State.{is_peer}
 use Rattle.memory.proofs.Search.{Looking}
-use Rattle.memory.proofs.Find.{finding, peer_nobody}
 use Rattle.slots.proofs.find.Given as goal
 
 abbrev pub invariant-loop-i : goal.invariant-loop-i

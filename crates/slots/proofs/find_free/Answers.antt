@@ -1,7 +1,4 @@
 -- `slots::find_free` meets its contract.
-use Prim.Native.Nat.{◌-◌}
-use Rattle.rules.specs.State.{is_free}
-use Rattle.memory.proofs.Search.{Looking}
 use Rattle.memory.proofs.Find.{finding}
 use Rattle.slots.proofs.find_free.Goals as goal
 

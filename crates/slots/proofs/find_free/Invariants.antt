@@ -2,7 +2,6 @@
 use Prim.Native.Nat.{◌-◌}
 use Rattle.rules.specs.State.{is_free}
 use Rattle.memory.proofs.Search.{Looking}
-use Rattle.memory.proofs.Find.{finding}
 use Rattle.slots.proofs.find_free.Given as goal
 
 abbrev pub invariant-loop-i : goal.invariant-loop-i

@@ -1,6 +1,5 @@
 -- `slots::find_name` meets its contract.
-use Prim.Native.Nat.{◌-◌}
-use Rattle.slots.proofs.Owned.{Looking, looking}
+use Rattle.slots.proofs.Owned.{looking}
 use Rattle.slots.proofs.find_name.Goals as goal
 
 pub count_names-count-requires : goal.count_names-count-requires

@@ -1,6 +1,6 @@
 -- `slots::find_name` meets its contract.
 use Prim.Native.Nat.{◌-◌}
-use Rattle.slots.proofs.Owned.{Looking, looking}
+use Rattle.slots.proofs.Owned.{Looking}
 use Rattle.slots.proofs.find_name.Given as goal
 
 abbrev pub invariant-loop-j : goal.invariant-loop-j

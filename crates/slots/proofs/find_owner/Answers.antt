@@ -1,7 +1,4 @@
 -- `slots::find_owner` meets its contract.
-use Prim.Native.Nat.{◌-◌}
-use Rattle.rules.specs.Calls.{is_owner}
-use Rattle.memory.proofs.Search.{Looking}
 use Rattle.slots.proofs.Owned.{finding_owner}
 use Rattle.slots.proofs.find_owner.Goals as goal
 

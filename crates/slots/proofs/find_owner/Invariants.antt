@@ -2,7 +2,6 @@
 use Prim.Native.Nat.{◌-◌}
 use Rattle.rules.specs.Calls.{is_owner}
 use Rattle.memory.proofs.Search.{Looking}
-use Rattle.slots.proofs.Owned.{finding_owner}
 use Rattle.slots.proofs.find_owner.Given as goal
 
 abbrev pub invariant-loop-i : goal.invariant-loop-i

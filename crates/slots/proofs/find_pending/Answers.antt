@@ -1,7 +1,5 @@
 -- `slots::find_pending` meets its contract.
-use Prim.Native.Nat.{◌-◌}
-use Rattle.slots.proofs.Waiting.{Seeking, seeking}
-use Rattle.wire.proofs.Needs.{all6}
+use Rattle.slots.proofs.Waiting.{seeking}
 use Rattle.slots.proofs.find_pending.Goals as goal
 
 pub count_pending-count-requires : goal.count_pending-count-requires

@@ -1,7 +1,6 @@
 -- `slots::find_pending` meets its contract.
 use Prim.Native.Nat.{◌-◌}
-use Rattle.slots.proofs.Waiting.{Seeking, seeking}
-use Rattle.wire.proofs.Needs.{all6}
+use Rattle.slots.proofs.Waiting.{Seeking}
 use Rattle.slots.proofs.find_pending.Given as goal
 
 abbrev pub invariant-loop-j : goal.invariant-loop-j

@@ -1,7 +1,5 @@
 -- `slots::gids_at` meets its contract.
-use Prim.Native.Nat.{◌-◌}
-use Rattle.slots.proofs.Groups.{Gathering, gathering}
-use Rattle.wire.proofs.Needs.{all7}
+use Rattle.slots.proofs.Groups.{gathering}
 use Rattle.slots.proofs.gids_at.Goals as goal
 
 pub word_at-requires : goal.word_at-requires

@@ -1,7 +1,6 @@
 -- `slots::gids_at` meets its contract.
 use Prim.Native.Nat.{◌-◌}
-use Rattle.slots.proofs.Groups.{Gathering, gathering}
-use Rattle.wire.proofs.Needs.{all7}
+use Rattle.slots.proofs.Groups.{Gathering}
 use Rattle.slots.proofs.gids_at.Given as goal
 
 abbrev pub invariant-loop-k : goal.invariant-loop-k

@@ -1,6 +1,5 @@
 -- `slots::name_at` meets its contract.
 use Rattle.slots.proofs.Owned.{naming}
-use Rattle.wire.proofs.Needs.{all6, all7}
 use Rattle.slots.proofs.name_at.Goals as goal
 
 pub overflow_mul-at : goal.overflow_mul-at

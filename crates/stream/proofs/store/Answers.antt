@@ -1,5 +1,4 @@
 -- `stream::store` meets its contract: the part of the piece stands in the part of the head.
-use borrow.Author.Rules.{rules}
 use Rattle.stream.proofs.Regions.{same_lengths, stores}
 use Rattle.stream.proofs.store.Goals as goal
 

@@ -1,6 +1,5 @@
 -- `tables::cut_out` meets its contract.
 use Rattle.tables.proofs.Cutting.{cutting}
-use Rattle.wire.proofs.Needs.{all7}
 use Rattle.tables.proofs.cut_out.Goals as goal
 
 pub shift-requires : goal.shift-requires

@@ -1,8 +1,5 @@
 -- `tables::put_words` meets its contract.
-use Prim.Native.Nat.{◌-◌}
-use lib.ListN.{length}
-use Rattle.tables.proofs.Row.{Putting, putting}
-use Rattle.wire.proofs.Needs.{all7}
+use Rattle.tables.proofs.Row.{putting}
 use Rattle.tables.proofs.put_words.Goals as goal
 
 pub loop-k-init : goal.loop-k-init

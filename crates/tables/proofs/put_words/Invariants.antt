@@ -1,8 +1,7 @@
 -- `tables::put_words` meets its contract.
 use Prim.Native.Nat.{◌-◌}
 use lib.ListN.{length}
-use Rattle.tables.proofs.Row.{Putting, putting}
-use Rattle.wire.proofs.Needs.{all7}
+use Rattle.tables.proofs.Row.{Putting}
 use Rattle.tables.proofs.put_words.Given as goal
 
 abbrev pub invariant-loop-k : goal.invariant-loop-k

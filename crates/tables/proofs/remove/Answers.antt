@@ -1,6 +1,5 @@
 -- `tables::remove` meets its contract.
 use Rattle.tables.proofs.Cutting.{removing}
-use Rattle.wire.proofs.Needs.{all6}
 use Rattle.tables.proofs.remove.Goals as goal
 
 pub slice_bounds-cut_out-count : goal.slice_bounds-cut_out-count

@@ -1,7 +1,5 @@
 -- `tables::shift` meets its contract.
-use Prim.Native.Nat.{◌-◌}
-use Rattle.tables.proofs.Cutting.{Shifting, shifting}
-use Rattle.wire.proofs.Needs.{all7}
+use Rattle.tables.proofs.Cutting.{shifting}
 use Rattle.tables.proofs.shift.Goals as goal
 
 pub overflow_add-count : goal.overflow_add-count

@@ -1,7 +1,6 @@
 -- `tables::shift` meets its contract.
 use Prim.Native.Nat.{◌-◌}
-use Rattle.tables.proofs.Cutting.{Shifting, shifting}
-use Rattle.wire.proofs.Needs.{all7}
+use Rattle.tables.proofs.Cutting.{Shifting}
 use Rattle.tables.proofs.shift.Given as goal
 
 abbrev pub invariant-loop-i : goal.invariant-loop-i

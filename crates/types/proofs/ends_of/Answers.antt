@@ -1,5 +1,5 @@
 -- `types::ends_of` meets its contract.
-use Rattle.types.proofs.Filling.{Filling, filling}
+use Rattle.types.proofs.Filling.{filling}
 use Rattle.types.proofs.ends_of.Goals as goal
 
 pub loop-i-init : goal.loop-i-init

@@ -1,5 +1,5 @@
 -- `types::ends_of` meets its contract.
-use Rattle.types.proofs.Filling.{Filling, filling}
+use Rattle.types.proofs.Filling.{Filling}
 use Rattle.types.proofs.ends_of.Given as goal
 
 abbrev pub invariant-loop-i : goal.invariant-loop-i

@@ -1,5 +1,4 @@
 -- `types::is_letter` meets its contract.
-use borrow.Author.Rules.{rules}
 use Rattle.types.proofs.Letters.{letter_is}
 use Rattle.types.proofs.is_letter.Goals as goal
 

@@ -1,6 +1,5 @@
 -- `types::is_open_block` meets its contract.
-use Prim.Native.Nat.{◌-◌}
-use Rattle.types.proofs.Entries.{Blocking, opened}
+use Rattle.types.proofs.Entries.{opened}
 use Rattle.types.proofs.is_open_block.Goals as goal
 
 pub loop-k-init : goal.loop-k-init

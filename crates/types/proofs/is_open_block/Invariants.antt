@@ -1,6 +1,6 @@
 -- `types::is_open_block` meets its contract.
 use Prim.Native.Nat.{◌-◌}
-use Rattle.types.proofs.Entries.{Blocking, opened}
+use Rattle.types.proofs.Entries.{Blocking}
 use Rattle.types.proofs.is_open_block.Given as goal
 
 abbrev pub invariant-loop-k : goal.invariant-loop-k

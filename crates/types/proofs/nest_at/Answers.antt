@@ -1,6 +1,5 @@
 -- `types::nest_at` meets its contract.
 use Rattle.types.proofs.Entries.{letters}
-use borrow.Author.Rules.{rules}
 use Rattle.types.proofs.nest_at.Goals as goal
 
 pub returns-then-is_basic-b : goal.returns-then-is_basic-b

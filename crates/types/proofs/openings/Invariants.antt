@@ -2,7 +2,6 @@
 use Prim.Native.Nat.{◌-◌}
 use lib.ListN.{length}
 use Rattle.types.specs.Promises.{OpenedAt}
-use Rattle.types.proofs.Entries.{opened}
 use Rattle.types.proofs.openings.Given as goal
 
 abbrev pub invariant-loop-j : goal.invariant-loop-j

@@ -1,7 +1,4 @@
 -- `types::past_blocks` meets its contract.
-use Prim.Native.Nat.{◌-◌}
-use lib.ListN.{length}
-use Rattle.types.specs.Promises.{OpenedAt}
 use Rattle.types.proofs.Entries.{opened}
 use Rattle.types.proofs.past_blocks.Goals as goal
 

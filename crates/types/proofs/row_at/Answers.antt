@@ -1,7 +1,5 @@
 -- `types::row_at` meets its contract.
-use Prim.Native.Nat.{◌-◌}
-use lib.ListN.{length}
-use Rattle.types.proofs.Rows.{Walking, walking}
+use Rattle.types.proofs.Rows.{walking}
 use Rattle.types.proofs.row_at.Goals as goal
 
 pub loop-j-init : goal.loop-j-init

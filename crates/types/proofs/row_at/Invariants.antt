@@ -1,7 +1,7 @@
 -- `types::row_at` meets its contract.
 use Prim.Native.Nat.{◌-◌}
 use lib.ListN.{length}
-use Rattle.types.proofs.Rows.{Walking, walking}
+use Rattle.types.proofs.Rows.{Walking}
 use Rattle.types.proofs.row_at.Given as goal
 
 abbrev pub invariant-loop-j : goal.invariant-loop-j

@@ -1,5 +1,4 @@
 -- `types::width_of` meets its contract.
-use borrow.Author.Rules.{rules}
 use Rattle.types.proofs.Letters.{widths}
 use Rattle.types.proofs.width_of.Goals as goal
 

@@ -1,7 +1,5 @@
 -- `utf8::is_ascii_block` meets its contract.
-use Prim.Native.Nat.{◌-◌}
-use Rattle.utf8.specs.Scan.{block}
-use Rattle.utf8.proofs.Blocks.{Seen, seeing}
+use Rattle.utf8.proofs.Blocks.{seeing}
 use Rattle.utf8.proofs.is_ascii_block.Goals as goal
 
 pub loop-i-init : goal.loop-i-init

@@ -1,7 +1,7 @@
 -- `utf8::is_ascii_block` meets its contract.
 use Prim.Native.Nat.{◌-◌}
 use Rattle.utf8.specs.Scan.{block}
-use Rattle.utf8.proofs.Blocks.{Seen, seeing}
+use Rattle.utf8.proofs.Blocks.{Seen}
 use Rattle.utf8.proofs.is_ascii_block.Given as goal
 
 abbrev pub invariant-loop-i : goal.invariant-loop-i

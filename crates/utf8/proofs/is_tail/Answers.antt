@@ -1,6 +1,5 @@
 -- `utf8::is_tail` meets its contract.
-use Prim.Native.Nat.{◌-◌}
-use Rattle.utf8.proofs.Characters.{Trailing, trailing}
+use Rattle.utf8.proofs.Characters.{trailing}
 use Rattle.utf8.proofs.is_tail.Goals as goal
 
 pub overflow_sub-s : goal.overflow_sub-s

@@ -1,6 +1,6 @@
 -- `utf8::is_tail` meets its contract.
 use Prim.Native.Nat.{◌-◌}
-use Rattle.utf8.proofs.Characters.{Trailing, trailing}
+use Rattle.utf8.proofs.Characters.{Trailing}
 use Rattle.utf8.proofs.is_tail.Given as goal
 
 abbrev pub invariant-loop-i : goal.invariant-loop-i

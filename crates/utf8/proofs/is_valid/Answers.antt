@@ -1,7 +1,5 @@
 -- `utf8::is_valid` meets its contract.
-use Prim.Native.Nat.{◌-◌}
-use lib.ListN.{length}
-use Rattle.utf8.proofs.Blocks.{Left, leaving}
+use Rattle.utf8.proofs.Blocks.{leaving}
 use Rattle.utf8.proofs.is_valid.Goals as goal
 
 pub past_characters-requires : goal.past_characters-requires

@@ -1,7 +1,7 @@
 -- `utf8::is_valid` meets its contract.
 use Prim.Native.Nat.{◌-◌}
 use lib.ListN.{length}
-use Rattle.utf8.proofs.Blocks.{Left, leaving}
+use Rattle.utf8.proofs.Blocks.{Left}
 use Rattle.utf8.proofs.is_valid.Given as goal
 
 abbrev pub invariant-loop-i : goal.invariant-loop-i

@@ -1,9 +1,6 @@
 -- `utf8::past_characters` meets its contract.
 use native.Mathlib.Omega.{arith}
-use borrow.Author.Tests.{not-false}
-use Prim.Native.Nat.{◌-◌}
-use lib.ListN.{length}
-use Rattle.utf8.proofs.Characters.{Passing, passing}
+use Rattle.utf8.proofs.Characters.{passing}
 use Rattle.utf8.proofs.past_characters.Goals as goal
 
 pub loop-i-init : goal.loop-i-init

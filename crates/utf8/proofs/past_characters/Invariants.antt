@@ -1,9 +1,7 @@
 -- `utf8::past_characters` meets its contract.
-use native.Mathlib.Omega.{arith}
-use borrow.Author.Tests.{not-false}
 use Prim.Native.Nat.{◌-◌}
 use lib.ListN.{length}
-use Rattle.utf8.proofs.Characters.{Passing, passing}
+use Rattle.utf8.proofs.Characters.{Passing}
 use Rattle.utf8.proofs.past_characters.Given as goal
 
 abbrev pub invariant-loop-i : goal.invariant-loop-i

@@ -1,6 +1,6 @@
 -- The cycle {items, step_at, typed, value}: each way through the four functions is one of the walk.
 use Rattle.std.proofs.Common.{arith, rules}
-use Rattle.variant.proofs.Walking.{listing, steps, typing, going, begin_in, row_inside, going_row_in, letter_inside}
+use Rattle.variant.proofs.Walking.{listing, steps, typing, going, row_inside, going_row_in, letter_inside}
 use Rattle.variant.proofs.Widths.{items_numbers}
 use Rattle.variant.proofs.+items_step_at_typed_value.Goals as goal
 

@@ -1,6 +1,5 @@
 -- `variant::array` meets its contract.
 use Rattle.variant.proofs.Begins.{arrays}
-use borrow.Author.Rules.{rules}
 use Rattle.variant.proofs.array.Goals as goal
 
 pub returns-in-At : goal.returns-in-At

@@ -1,6 +1,5 @@
 -- `variant::array_in` meets its contract.
 use Rattle.variant.proofs.Begins.{arrays_in}
-use borrow.Author.Rules.{rules}
 use Rattle.variant.proofs.array_in.Goals as goal
 
 pub returns-then-head-a : goal.returns-then-head-a

@@ -1,6 +1,5 @@
 -- `variant::begin_at` meets its contract.
 use Rattle.variant.proofs.Begins.{beginning}
-use borrow.Author.Rules.{rules}
 use Rattle.variant.proofs.begin_at.Goals as goal
 
 pub returns-then-sig-i : goal.returns-then-sig-i

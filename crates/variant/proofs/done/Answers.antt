@@ -1,6 +1,5 @@
 -- `variant::done` meets its contract.
 use Rattle.variant.proofs.Begins.{dones}
-use borrow.Author.Rules.{rules}
 use Rattle.variant.proofs.done.Goals as goal
 
 pub returns-in-At : goal.returns-in-At

@@ -1,6 +1,5 @@
 -- `variant::numbers` meets its contract.
 use Rattle.variant.proofs.Widths.{many}
-use borrow.Author.Rules.{rules}
 use Rattle.variant.proofs.numbers.Goals as goal
 
 pub returns-then-head-at : goal.returns-then-head-at

@@ -1,6 +1,5 @@
 -- `variant::opening` meets its contract.
 use Rattle.variant.proofs.Begins.{openings}
-use borrow.Author.Rules.{rules}
 use Rattle.variant.proofs.opening.Goals as goal
 
 pub returns-then-letter-eq97 : goal.returns-then-letter-eq97

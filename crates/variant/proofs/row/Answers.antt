@@ -1,6 +1,5 @@
 -- `variant::row` meets its contract.
 use Rattle.variant.proofs.Begins.{rows}
-use borrow.Author.Rules.{rules}
 use Rattle.variant.proofs.row.Goals as goal
 
 pub returns-in-At : goal.returns-in-At

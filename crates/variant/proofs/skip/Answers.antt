@@ -1,6 +1,5 @@
 -- `variant::skip` meets its contract.
 use Rattle.variant.proofs.Walking.{skips}
-use borrow.Author.Rules.{rules}
 use Rattle.variant.proofs.skip.Goals as goal
 
 pub returns-then-head-end : goal.returns-then-head-end

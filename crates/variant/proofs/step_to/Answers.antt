@@ -1,6 +1,5 @@
 -- `variant::step_to` meets its contract.
 use Rattle.variant.proofs.Begins.{taken}
-use borrow.Author.Rules.{rules}
 use Rattle.variant.proofs.step_to.Goals as goal
 
 pub enum_known-stop : goal.enum_known-stop

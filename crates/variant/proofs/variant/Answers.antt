@@ -1,6 +1,5 @@
 -- `variant::variant` meets its contract.
 use Rattle.variant.proofs.Begins.{variants}
-use borrow.Author.Rules.{rules}
 use Rattle.variant.proofs.variant.Goals as goal
 
 pub returns-then-head-at : goal.returns-then-head-at

@@ -1,7 +1,5 @@
 -- `wire::copy` meets its contract.
-use Prim.Native.Nat.{◌-◌}
-use lib.ListN.{length}
-use Rattle.wire.proofs.Runs.{Copying, copying}
+use Rattle.wire.proofs.Runs.{copying}
 use Rattle.wire.proofs.copy.Goals as goal
 
 pub loop-i-init : goal.loop-i-init

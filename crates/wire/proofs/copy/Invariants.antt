@@ -1,7 +1,7 @@
 -- `wire::copy` meets its contract.
 use Prim.Native.Nat.{◌-◌}
 use lib.ListN.{length}
-use Rattle.wire.proofs.Runs.{Copying, copying}
+use Rattle.wire.proofs.Runs.{Copying}
 use Rattle.wire.proofs.copy.Given as goal
 
 abbrev pub invariant-loop-i : goal.invariant-loop-i

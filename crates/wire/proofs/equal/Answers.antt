@@ -1,6 +1,5 @@
 -- `wire::equal` meets its contract.
 use Rattle.wire.proofs.Blocks.{equal}
-use borrow.Author.Rules.{rules}
 use Rattle.wire.proofs.equal.Goals as goal
 
 pub returns-then-a-b : goal.returns-then-a-b

@@ -1,7 +1,5 @@
 -- `wire::equal_few` meets its contract.
-use Prim.Native.Nat.{◌-◌}
-use lib.ListN.{length}
-use Rattle.wire.proofs.Runs.{Alike, alike}
+use Rattle.wire.proofs.Runs.{alike}
 use Rattle.wire.proofs.equal_few.Goals as goal
 
 pub loop-i-init : goal.loop-i-init

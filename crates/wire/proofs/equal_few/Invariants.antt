@@ -1,7 +1,7 @@
 -- `wire::equal_few` meets its contract.
 use Prim.Native.Nat.{◌-◌}
 use lib.ListN.{length}
-use Rattle.wire.proofs.Runs.{Alike, alike}
+use Rattle.wire.proofs.Runs.{Alike}
 use Rattle.wire.proofs.equal_few.Given as goal
 
 abbrev pub invariant-loop-i : goal.invariant-loop-i

@@ -1,6 +1,5 @@
 -- `wire::equal_short` meets its contract.
 use Rattle.wire.proofs.Blocks.{equal}
-use borrow.Author.Rules.{rules}
 use Rattle.wire.proofs.equal_short.Goals as goal
 
 pub returns : goal.returns

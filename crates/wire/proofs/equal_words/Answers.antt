@@ -1,7 +1,5 @@
 -- `wire::equal_words` meets its contract.
-use Prim.Native.Nat.{◌-◌}
-use lib.ListN.{length}
-use Rattle.wire.proofs.Blocks.{Equals, equal}
+use Rattle.wire.proofs.Blocks.{equal}
 use Rattle.wire.proofs.equal_words.Goals as goal
 
 pub overflow_sub-last : goal.overflow_sub-last

@@ -1,7 +1,7 @@
 -- `wire::equal_words` meets its contract.
 use Prim.Native.Nat.{◌-◌}
 use lib.ListN.{length}
-use Rattle.wire.proofs.Blocks.{Equals, equal}
+use Rattle.wire.proofs.Blocks.{Equals}
 use Rattle.wire.proofs.equal_words.Given as goal
 
 abbrev pub invariant-loop-i : goal.invariant-loop-i

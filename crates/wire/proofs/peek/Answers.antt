@@ -3,7 +3,6 @@ use mathlib.Core.Path.{◌≡◌, sym, ap}
 use mathlib.Core.List.{List}
 use Prim.Native.Nat.{ℕ, ◌≤◌}
 use lib.ListN.{length, drop, get_or}
-use borrow.Author.Rules.{rules}
 use Rattle.wire.specs.Bytes.{front}
 use Rattle.wire.proofs.From.{first, past}
 use Rattle.wire.proofs.peek.Goals as goal

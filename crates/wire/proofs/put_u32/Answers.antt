@@ -2,7 +2,6 @@
 use Rattle.wire.proofs.Words.{stored}
 use lib.ListN.{length-set}
 use native.Mathlib.Omega.{arith}
-use borrow.Author.Rules.{rules}
 use Rattle.wire.proofs.put_u32.Goals as goal
 
 pub bounds-s-at-2 : goal.bounds-s-at-2

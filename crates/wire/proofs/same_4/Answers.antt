@@ -1,6 +1,5 @@
 -- `wire::same_4` meets its contract.
 use Rattle.wire.proofs.Loads.{loads}
-use borrow.Author.Rules.{rules}
 use Rattle.wire.proofs.same_4.Goals as goal
 
 pub returns : goal.returns

@@ -7,7 +7,6 @@ use Rattle.wire.specs.Words.{joined, word_at}
 use Rattle.wire.specs.declared.Order.{Order}
 use Rattle.wire.specs.declared.Order.TheVariants.{Little, Big}
 use borrow.Author.Rules.{rules}
-use Rattle.wire.proofs.Needs.{all2, all8}
 use Rattle.wire.proofs.u32_at.Goals as goal
 
 module _ (s : List ℕ) (at r : ℕ) (o : Order) where

@@ -1,7 +1,5 @@
 -- `wire::wipe` meets its contract.
-use Prim.Native.Nat.{◌-◌}
-use lib.ListN.{length}
-use Rattle.wire.proofs.Runs.{Wiping, wiping}
+use Rattle.wire.proofs.Runs.{wiping}
 use Rattle.wire.proofs.wipe.Goals as goal
 
 pub loop-i-init : goal.loop-i-init

@@ -1,7 +1,7 @@
 -- `wire::wipe` meets its contract.
 use Prim.Native.Nat.{◌-◌}
 use lib.ListN.{length}
-use Rattle.wire.proofs.Runs.{Wiping, wiping}
+use Rattle.wire.proofs.Runs.{Wiping}
 use Rattle.wire.proofs.wipe.Given as goal
 
 abbrev pub invariant-loop-i : goal.invariant-loop-i

@@ -1,6 +1,5 @@
 -- `wire::zero_4` meets its contract.
 use Rattle.wire.proofs.Loads.{loads}
-use borrow.Author.Rules.{rules}
 use Rattle.wire.proofs.zero_4.Goals as goal
 
 pub returns : goal.returns

@@ -1,6 +1,5 @@
 -- `wire::zero_blocks` meets its contract.
-use Prim.Native.Nat.{◌-◌}
-use Rattle.wire.proofs.Blocks.{Zeros, zeros}
+use Rattle.wire.proofs.Blocks.{zeros}
 use Rattle.wire.proofs.zero_blocks.Goals as goal
 
 pub overflow_sub-last : goal.overflow_sub-last

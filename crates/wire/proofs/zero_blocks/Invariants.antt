@@ -1,6 +1,6 @@
 -- `wire::zero_blocks` meets its contract.
 use Prim.Native.Nat.{◌-◌}
-use Rattle.wire.proofs.Blocks.{Zeros, zeros}
+use Rattle.wire.proofs.Blocks.{Zeros}
 use Rattle.wire.proofs.zero_blocks.Given as goal
 
 abbrev pub invariant-loop-i : goal.invariant-loop-i

@@ -1,6 +1,5 @@
 -- `wire::zero_run` meets its contract.
-use Prim.Native.Nat.{◌-◌}
-use Rattle.wire.proofs.Blocks.{Seen, zeros}
+use Rattle.wire.proofs.Blocks.{zeros}
 use Rattle.wire.proofs.zero_run.Goals as goal
 
 pub loop-i-init : goal.loop-i-init

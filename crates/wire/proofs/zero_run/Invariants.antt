@@ -1,6 +1,6 @@
 -- `wire::zero_run` meets its contract.
 use Prim.Native.Nat.{◌-◌}
-use Rattle.wire.proofs.Blocks.{Seen, zeros}
+use Rattle.wire.proofs.Blocks.{Seen}
 use Rattle.wire.proofs.zero_run.Given as goal
 
 abbrev pub invariant-loop-i : goal.invariant-loop-i

@@ -1,6 +1,5 @@
 -- `wire::zero_short` meets its contract.
 use Rattle.wire.proofs.Blocks.{zeros}
-use borrow.Author.Rules.{rules}
 use Rattle.wire.proofs.zero_short.Goals as goal
 
 pub returns : goal.returns

@@ -1,6 +1,5 @@
 -- `wire::zero_words` meets its contract.
-use Prim.Native.Nat.{◌-◌}
-use Rattle.wire.proofs.Blocks.{Zeros, zeros}
+use Rattle.wire.proofs.Blocks.{zeros}
 use Rattle.wire.proofs.zero_words.Goals as goal
 
 pub overflow_sub-to : goal.overflow_sub-to

@@ -1,5 +1,4 @@
 -- `names::classes::class` meets its contract.
-use borrow.Author.Rules.{rules}
 use Rattle.names.proofs.Lookup.{lent}
 use Rattle.names.proofs.classes.class.Goals as goal
 

@@ -1,6 +1,5 @@
 -- `names::scan::gather` meets its contract.
-use Prim.Native.Nat.{◌-◌}
-use Rattle.names.proofs.Runs.{Gathering, gathering}
+use Rattle.names.proofs.Runs.{gathering}
 use Rattle.names.proofs.scan.gather.Goals as goal
 
 pub loop-i-init : goal.loop-i-init

@@ -1,6 +1,6 @@
 -- `names::scan::gather` meets its contract.
 use Prim.Native.Nat.{◌-◌}
-use Rattle.names.proofs.Runs.{Gathering, gathering}
+use Rattle.names.proofs.Runs.{Gathering}
 use Rattle.names.proofs.scan.gather.Given as goal
 
 abbrev pub invariant-loop-i : goal.invariant-loop-i

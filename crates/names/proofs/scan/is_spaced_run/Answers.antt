@@ -1,6 +1,5 @@
 -- `names::scan::is_spaced_run` meets its contract.
-use Prim.Native.Nat.{◌-◌}
-use Rattle.names.proofs.Runs.{Pairs, pairing}
+use Rattle.names.proofs.Runs.{pairing}
 use Rattle.names.proofs.scan.is_spaced_run.Goals as goal
 
 pub loop-i-init : goal.loop-i-init

@@ -1,6 +1,6 @@
 -- `names::scan::is_spaced_run` meets its contract.
 use Prim.Native.Nat.{◌-◌}
-use Rattle.names.proofs.Runs.{Pairs, pairing}
+use Rattle.names.proofs.Runs.{Pairs}
 use Rattle.names.proofs.scan.is_spaced_run.Given as goal
 
 abbrev pub invariant-loop-i : goal.invariant-loop-i

@@ -1,5 +1,4 @@
 -- `names::scan::walk` meets its contract.
-use borrow.Author.Rules.{rules}
 use Rattle.names.proofs.Walk.{lone}
 use Rattle.names.proofs.scan.walk.Goals as goal
 

@@ -1,7 +1,5 @@
 -- `names::scan::walk_blocks` meets its contract.
-use Prim.Native.Nat.{◌-◌}
-use lib.ListN.{length}
-use Rattle.names.proofs.Walk.{Strides, blocks}
+use Rattle.names.proofs.Walk.{blocks}
 use Rattle.names.proofs.scan.walk_blocks.Goals as goal
 
 pub overflow_sub-last : goal.overflow_sub-last

@@ -1,7 +1,7 @@
 -- `names::scan::walk_blocks` meets its contract.
 use Prim.Native.Nat.{◌-◌}
 use lib.ListN.{length}
-use Rattle.names.proofs.Walk.{Strides, blocks}
+use Rattle.names.proofs.Walk.{Strides}
 use Rattle.names.proofs.scan.walk_blocks.Given as goal
 
 abbrev pub invariant-loop-i : goal.invariant-loop-i

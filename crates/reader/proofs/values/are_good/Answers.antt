@@ -1,5 +1,5 @@
 -- `reader::values::are_good` meets its contract.
-use Rattle.reader.proofs.Checks.{Checking, checking}
+use Rattle.reader.proofs.Checks.{checking}
 use Rattle.reader.proofs.values.are_good.Goals as goal
 
 pub class_table-table-requires : goal.class_table-table-requires

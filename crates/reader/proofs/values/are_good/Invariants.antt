@@ -1,5 +1,5 @@
 -- `reader::values::are_good` meets its contract.
-use Rattle.reader.proofs.Checks.{Checking, checking}
+use Rattle.reader.proofs.Checks.{Checking}
 use Rattle.reader.proofs.values.are_good.Given as goal
 
 abbrev pub invariant-loop-code : goal.invariant-loop-code

@@ -1,5 +1,4 @@
 -- `stream::Stream::advance` meets its contract: up to 16 bytes are stored, and then the fixed part is read.
-use borrow.Author.Rules.{rules}
 use Rattle.stream.proofs.Beginning.{begun_fixed, begun_open, few, from_fixed, from_open, room_fixed}
 use Rattle.stream.proofs.Stream.advance.Goals as goal
 

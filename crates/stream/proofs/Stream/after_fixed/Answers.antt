@@ -1,5 +1,4 @@
 -- `stream::Stream::after_fixed` meets its contract: the fixed part is broken, or says where the head and the message end.
-use borrow.Author.Rules.{rules}
 use Rattle.stream.proofs.Beginning.{long_fixed, broken_fixed, sizes_fixed}
 use Rattle.stream.proofs.Stream.after_fixed.Goals as goal
 

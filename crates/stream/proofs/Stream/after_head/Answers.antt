@@ -1,5 +1,4 @@
 -- `stream::Stream::after_head` meets its contract: a whole head is broken, or its body is counted to the message's end.
-use borrow.Author.Rules.{rules}
 use Rattle.stream.proofs.Onward.{broken_end, more_end, never_short, whole_end}
 use Rattle.stream.proofs.Stream.after_head.Goals as goal
 

@@ -1,5 +1,4 @@
 -- `stream::Stream::in_body` meets its contract: bytes of the body are counted.
-use borrow.Author.Rules.{rules}
 use Rattle.stream.proofs.Onward.{end_body, more_body}
 use Rattle.stream.proofs.Stream.in_body.Goals as goal
 

@@ -1,5 +1,4 @@
 -- `stream::Stream::in_head` meets its contract: bytes are stored up to the head's end.
-use borrow.Author.Rules.{rules}
 use Rattle.stream.proofs.Onward.{end_head, from_head, more_head, past_head, room_head}
 use Rattle.stream.proofs.Stream.in_head.Goals as goal
 

@@ -1,5 +1,4 @@
 -- `stream::Stream::is_closed` meets its contract: a good stream is closed where its head is broken.
-use borrow.Author.Rules.{rules}
 use Rattle.stream.proofs.Tests.{closed_body, closed_broken, closed_few, closed_short, closed_whole}
 use Rattle.stream.proofs.Stream.is_closed.Goals as goal
 

@@ -1,5 +1,4 @@
 -- `stream::Stream::is_good` meets its contract: by how much of the head has come.
-use borrow.Author.Rules.{rules}
 use Rattle.stream.proofs.Tests.{good_below, good_fault, good_few, good_part, good_past, good_whole, long_head}
 use Rattle.stream.proofs.Stream.is_good.Goals as goal
 

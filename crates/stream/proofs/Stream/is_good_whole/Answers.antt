@@ -1,5 +1,4 @@
 -- `stream::Stream::is_good_whole` meets its contract: by what the whole head reads as.
-use borrow.Author.Rules.{rules}
 use Rattle.stream.proofs.Tests.{whole_body, whole_broken, whole_short}
 use Rattle.stream.proofs.Stream.is_good_whole.Goals as goal
 
