@@ -21,6 +21,5 @@ struct job {
 // A job more, of which all else is set by the caller.
 struct job *add(const char *work, const char *who, uint64_t (*run)(const struct job *), uint64_t expect);
 
-// The jobs of ticks, and of conversions.
+// The jobs of ticks.
 void all_ticks(void);
-void all_conversions(void);

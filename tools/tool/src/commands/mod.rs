@@ -8,7 +8,6 @@ pub mod explain;
 pub mod head;
 pub mod import;
 pub mod policy;
-mod retire;
 pub mod script;
 
 /// A command: its name, what it is for in a line, its help, and what it does.
@@ -34,7 +33,7 @@ const COMMANDS: [Command; 7] = [
     },
     Command {
         name: "policy",
-        about: "policies: text to image and back, rules that never decide, questions, prefixes retired",
+        about: "policies: text to image and back, rules that never decide, questions",
         help: policy::HELP,
         run: policy::run,
     },
