@@ -7,13 +7,16 @@ use crate::policy::{
 };
 
 const HEADER_LENGTH: usize = 32;
-const MAX_LENGTH: usize = 65_536;
+
+/// The most bytes of an image, and the bytes of an own rule.
+pub const MAX_LENGTH: usize = 65_536;
+pub const OWN_RULE_LENGTH: usize = 16;
 
 /// How many rules a section may have, and how many bytes each of them has.
 fn limits(section: Section) -> (usize, usize) {
     match section {
         Section::Connect => (256, 8),
-        Section::Own => (256, 16),
+        Section::Own => (256, OWN_RULE_LENGTH),
         Section::Transaction => (512, 40),
     }
 }

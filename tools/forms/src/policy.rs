@@ -124,4 +124,10 @@ impl Policy {
             Section::Transaction => self.transaction.len(),
         }
     }
+
+    /// The own rules for a prefix, by their positions.
+    pub fn prefix_rules(&self) -> Vec<usize> {
+        let is_prefix = |rule: &OwnRule| matches!(rule.name, NameMatcher::Prefix(_));
+        (0..self.own.len()).filter(|&position| is_prefix(&self.own[position])).collect()
+    }
 }

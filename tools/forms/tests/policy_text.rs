@@ -181,3 +181,19 @@ fn words_in_complaints() {
         assert!(what(&line).len() < 200, "{line}");
     }
 }
+
+/// A rule for a gid has the same number in an image as one for a prefix, and is none.
+#[test]
+fn rules_for_prefixes_are_found_by_their_positions() {
+    let text = "connect default allow gid 2
+        own default allow prefix a.b
+        own default allow name a.b
+        own default allow any
+        own user 2 deny prefix c.d";
+    let policy = parse(text).expect("good text").policy;
+    assert_eq!(policy.prefix_rules(), [0, 3]);
+    assert_eq!(
+        parse("connect default allow gid 2\nown default allow any").expect("good text").policy.prefix_rules(),
+        [0; 0]
+    );
+}

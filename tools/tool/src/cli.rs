@@ -57,11 +57,21 @@ pub fn read_file(path: &str, most: u64) -> Result<Vec<u8>, Fault> {
 
 /// A text file; one that is no UTF-8 is refused with the line of the first such byte.
 pub fn read_text(path: &str) -> Result<String, Fault> {
-    String::from_utf8(read_file(path, MOST_TEXT)?).map_err(|fault| {
+    text_of(path, read_file(path, MOST_TEXT)?)
+}
+
+/// The text that a file's bytes are.
+pub fn text_of(path: &str, bytes: Vec<u8>) -> Result<String, Fault> {
+    String::from_utf8(bytes).map_err(|fault| {
         let good = fault.utf8_error().valid_up_to();
         let line = fault.as_bytes()[..good].iter().filter(|&&byte| byte == b'\n').count() + 1;
         Fault::input(format!("{path}:{line}: this is no text"))
     })
+}
+
+/// Says on standard error what a person has to know beside the output; where that is closed, the output is there all the same.
+pub fn say(lines: &str) {
+    let _ = writeln!(std::io::stderr(), "{lines}");
 }
 
 /// Writes a file that was asked for.

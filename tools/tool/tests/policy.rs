@@ -66,14 +66,19 @@ fn what_cannot_be_read() {
 fn wrong_use_and_help() {
     let folder = folder("policy_use");
     let wanted = [
-        (&[][..], "policy wants the word compile, show, lint or ask"),
-        (&["print", "a"], "policy wants the word compile, show, lint or ask"),
+        (&[][..], "policy wants the word compile, show, lint, ask or retire"),
+        (&["print", "a"], "policy wants the word compile, show, lint, ask or retire"),
         (&["compile", "a.policy"], "policy compile wants FILE.policy and OUT.image"),
         (&["compile", "a", "b", "c"], "policy compile wants FILE.policy and OUT.image"),
         (&["show"], "policy show wants one FILE.image"),
         (&["show", "a", "b"], "policy show wants one FILE.image"),
         (&["lint"], "policy lint wants at least one FILE.policy"),
         (&["ask"], "policy ask wants FILE.policy and a question"),
+        (&["retire", "a", "b"], "policy retire wants OLD, NAMES and NEW"),
+        (
+            &["retire", "-", "-", "b"],
+            "policy retire reads one of OLD and NAMES from standard input, not both",
+        ),
         (&["show", "--all", "a"], "there is no option --all"),
     ];
     for (words, what) in wanted {
@@ -83,7 +88,7 @@ fn wrong_use_and_help() {
     for words in [&["--help"][..], &["ask", "--help"], &["lint", "-h"]] {
         let (status, help, fault) = ended(&command(&folder, words));
         assert_eq!((status, fault.as_str()), (Some(0), ""));
-        for word in ["compile", "show", "lint", "ask"] {
+        for word in ["compile", "show", "lint", "ask", "retire"] {
             assert!(help.contains(&format!("aygeshunt policy {word} ")), "{word}");
         }
     }

@@ -8,6 +8,7 @@ pub mod explain;
 pub mod head;
 pub mod import;
 pub mod policy;
+mod retire;
 pub mod script;
 
 /// A command: its name, what it is for in a line, its help, and what it does.

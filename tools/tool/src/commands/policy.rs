@@ -1,5 +1,6 @@
 //! The command `policy`: texts to images and back, rules that never decide, and questions.
 
+use super::retire;
 use crate::cli::{read_file, read_text, write_file, Done, Fault, Out, Words, MOST_TEXT};
 use crate::policy::lint::{lint, Finding};
 use crate::policy::{ask, question};
@@ -11,6 +12,7 @@ usage: aygeshunt policy compile FILE.policy OUT.image
        aygeshunt policy show FILE.image
        aygeshunt policy lint FILE.policy..
        aygeshunt policy ask FILE.policy QUESTION..
+       aygeshunt policy retire OLD NAMES NEW
 
 A policy is a text with one rule on a line; an image is what the guard is lent. A FILE of - is standard input, an OUT of -
 standard output. Faults of a text are told as FILE:LINE: what, with status 1.
@@ -48,6 +50,18 @@ ask      answers a question with the proved guard and says which rule decides. T
            aygeshunt policy ask examples/theatre/theatre.policy uid 1003 gid 30 send call org.theatre.Fans.GetSpeed \\
              at /org/theatre/Fans to org.theatre.Fans of uid 1002 gid 20 7
 
+retire   makes of a policy with own rules for prefixes one without: each such rule becomes an exact rule for every name of the
+         list that it covers, in its place. OLD is a text or an image, and NEW gets the same form; of a text all other lines stay. NEW may be OLD. NAMES is a text with a well-known name on each line, and # begins
+         a comment: every name that a service may own. The proved library converts. What became of each own rule is told, and
+         which names no prefix covers; on standard error where NEW is -. A refusal has status 1 and writes nothing:
+
+           50  OLD is a bad image
+           54  a line of NAMES is no well-known name, or says one again
+           53  more than 256 own rules or 65536 bytes would result
+
+           aygeshunt policy retire old.policy services.names new.policy
+           aygeshunt policy retire stored.image services.names stored.image
+
 tools/README.md describes policies as text, docs/ANSWERS.md the answers.
 ";
 
@@ -62,11 +76,13 @@ pub fn run(words: &[String], out: &mut Out) -> Done {
         ("show", [from]) => show(from, out),
         ("lint", [_, ..]) => lint_all(rest, out),
         ("ask", [from, question @ ..]) => answer(from, question, out),
+        ("retire", [old, names, new]) => retire::run(old, names, new, out),
         ("compile", _) => Err(Fault::usage("policy compile wants FILE.policy and OUT.image")),
         ("show", _) => Err(Fault::usage("policy show wants one FILE.image")),
         ("lint", _) => Err(Fault::usage("policy lint wants at least one FILE.policy")),
         ("ask", _) => Err(Fault::usage("policy ask wants FILE.policy and a question")),
-        _ => Err(Fault::usage("policy wants the word compile, show, lint or ask")),
+        ("retire", _) => Err(Fault::usage("policy retire wants OLD, NAMES and NEW")),
+        _ => Err(Fault::usage("policy wants the word compile, show, lint, ask or retire")),
     }
 }
 
