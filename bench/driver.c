@@ -334,6 +334,7 @@ static void all_jobs(void) {
     guarded("own, a name of its own, 16 rules, 16 peers", own_again, BY(0), passing, served(PEERS), call, 0);
     guarded("start", start, 0, passing, started(0), call, 0);
     all_ticks();
+    all_conversions();
     all_batches(quiet, signal);
     growth(long_head);
 }

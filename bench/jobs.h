@@ -21,5 +21,6 @@ struct job {
 // A job more, of which all else is set by the caller.
 struct job *add(const char *work, const char *who, uint64_t (*run)(const struct job *), uint64_t expect);
 
-// The jobs of ticks.
+// The jobs of ticks, and of conversions.
 void all_ticks(void);
+void all_conversions(void);

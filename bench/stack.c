@@ -1,4 +1,4 @@
-// How many bytes of stack one reading takes: runs it on a painted stack of its own, for heads that open 64 things in each other.
+// How many bytes of stack one reading takes: runs it on a painted stack of its own, for heads that open 64 things in each other. And what a conversion takes.
 #include <stdbool.h>
 #include <stdio.h>
 #include <stdlib.h>
@@ -7,6 +7,7 @@
 
 #include "calls.h"
 #include "guard.h"
+#include "prefixes.h"
 
 enum { STACK = 1 << 20, PAINT = 0xa5 };
 
@@ -33,6 +34,13 @@ static uint64_t batch(struct bytes b) {
 
 // A tick, behind the head: the test of the memory reads it.
 static uint64_t tick(struct bytes b) { return guard_tick(memory, b.len, UINT64_MAX) % 256; }
+
+// A conversion of the image by a list.
+static uint64_t retire(struct bytes names) {
+    static unsigned char room[65536];
+    size_t length;
+    return aygeshunt_retire(image.at, image.len, names.at, names.len, room, sizeof room, &length);
+}
 
 // The body's one byte, behind the head: the test of the memory reads the head, and so does the end of the message.
 static uint64_t last_byte(struct bytes b) { return piece((struct bytes){b.at + b.len, 1}); }
@@ -155,6 +163,11 @@ static void show(const char *name, struct bytes b, size_t none) {
     printf("| %s | %zu | %zu | %zu | %zu |\n", name, read, piece_takes, batch_takes, tick_takes);
 }
 
+static void show_conversion(const char *name, struct conversion c, size_t none) {
+    image = c.image;
+    printf("| %s | %zu |\n", name, depth(retire, c.names, 0, name) - none);
+}
+
 int main(void) {
     image = image_of(PASSING, 16);
     size_t none = depth(nothing, image, 0, "nothing");
@@ -175,5 +188,8 @@ int main(void) {
     show("62 variants and aag", nested("v", 61, "aag", deep, deep_n, 1), none);
     show("63 variants and (g)", nested("v", 62, "(g)", deep, deep_n, 1), none);
     show("63 variants and ag", nested("v", 62, "ag", deep, deep_n, 1), none);
+    printf("\n| conversion | stack, bytes |\n|-|-:|\n");
+    show_conversion("16 own rules, 16 names", plain_conversion(), none);
+    show_conversion("256 own rules, 256 names", long_conversion(DEAREST), none);
     return 0;
 }

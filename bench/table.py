@@ -81,6 +81,8 @@ def goal(work, items):
         return "≤ 2 memory tests", lambda by, k: by["ours"][k] <= 2 * test[k]
     if work.startswith("image test, 512"):
         return below(150000)
+    if work.startswith("retire, 256 own rules, 256 names"):
+        return at_most(40000000)
     if work.startswith("decision, 512"):
         return below(500) if "mandatory" in work else below(80000)
     if work.startswith("piece, 176-byte call, 16 rules"):
