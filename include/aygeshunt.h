@@ -203,9 +203,9 @@ size_t aygeshunt_disconnect(uint8_t *memory, size_t memory_len, uint32_t peer, u
  * In this order: 51; 41 the tick is lower than the last, and an equal one is good; 0. */
 size_t aygeshunt_tick(uint8_t *memory, size_t memory_len, uint64_t tick, uint64_t limit, uint8_t *place, size_t place_len);
 
-/* Makes an image without prefix rules of one that may have some, for the names of a list (PREFIXES IN STORED IMAGES). It returns the answer, and wants neither memory
- * nor a place. *length is told how many bytes the new image has: the first ones of the room, and those behind them keep what they held. Where it is refused,
- * *length is 0 and the whole room keeps what it held.
+/* Makes an image without prefix rules of one that may have some, for the names of a list (PREFIXES IN STORED IMAGES). It returns the answer, and wants
+ * neither memory nor a place. *length is told how many bytes the new image has: the first ones of the room, and those behind them keep what they held.
+ * Where it is refused, *length is 0 and the whole room keeps what it held.
  * In this order: 50; 54 a name of the list is cut, empty, not well-known, or there twice, also where no rule has a prefix; 53 the new image would have more
  * than 256 own rules or more than 65,536 bytes, or is longer than the room; 0. The list may be empty and may have the bus's own name. Without prefix rules
  * the new image is the old one.
