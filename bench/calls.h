@@ -1,4 +1,4 @@
-// The inner parts of the guard, proved, as rt staticlib bench_calls exports them: a slice is a pointer and a length. The guard's own calls are those of guard.h.
+// The inner parts of the guard, proved, as the static library bench_calls exports them: a slice is a pointer and a length. The guard's own calls are those of guard.h.
 #pragma once
 #include <stdbool.h>
 #include <stddef.h>

@@ -236,7 +236,6 @@ static void all_policy(void) {
         image(work, image_of(OTHERS, sizes[i]));
     }
     image("image test, 512 rules of four strings", image_of(NEARLY, 512));
-    image("image test, 256 own rules", image_with_own(OTHERS, 0, 256));
     for (int i = 0; i < 3; i++) {
         sprintf(work, "decision, %d rules, none fits", sizes[i]);
         decision(work, decide, image_of(OTHERS, sizes[i]), 0);
@@ -326,7 +325,6 @@ static void all_jobs(void) {
     guarded("piece, 176-byte call, 16 rules, 2 peers", piece, BY(1) + 256 * 176, passing, served(2), quiet, 0);
     guarded("piece, 176-byte call, 16 rules, 16 peers", piece, BY(1) + 256 * 176, passing, served(PEERS), quiet, 0);
     guarded("piece, 176-byte call, 512 rules, 16 peers", piece, BY(1) + 256 * 176, image_of(PASSING, 512), served(PEERS), quiet, 0);
-    guarded("piece, 176-byte call, 256 own rules, 16 peers", piece, BY(1) + 256 * 176, image_with_own(PASSING, 16, 256), served(PEERS), quiet, 0);
     guarded("piece, signal to 16 peers, 16 rules", piece, 256 * signal.len, passing, served(PEERS), signal, 0);
     guarded("piece, 2,048-byte head, 16 rules, 16 peers", piece, BY(1) + 256 * 2048, passing, served(PEERS), long_head, 0);
     struct bytes dear = dearest_head(1), byte = {cells, 1};

@@ -298,27 +298,12 @@ static struct rule rule_of(enum rules rules, int i, int n, char *space) {
     return r;
 }
 
-// Own rules behind the first, which lets everybody own anything: each keeps a name of its own from everybody.
-static size_t put_owned(unsigned char *b, size_t own, int n, size_t strings) {
-    size_t end = strings;
-    for (int i = 1; i < n; i++) {
-        char name[32];
-        sprintf(name, "org.example.Owned%03d.Name", i);
-        b[own + 16 * i + 2] = 1;
-        end = cite(b, own + 16 * i + 8, name, strings, end);
-    }
-    return end;
-}
-
-struct bytes image_of(enum rules rules, int n) { return image_with_own(rules, n, 1); }
-
-struct bytes image_with_own(enum rules rules, int n, int owned) {
+struct bytes image_of(enum rules rules, int n) {
     unsigned char *b = calloc(1, 65536);
-    size_t own = 32 + 8, transactions = own + 16 * owned, strings = transactions + 40 * n;
-    uint32_t head[8] = {0, 1, 32, owned, own, n, transactions, strings};
+    size_t own = 32 + 8, transactions = own + 16, strings = transactions + 40 * n, end = strings;
+    uint32_t head[8] = {0, 1, 32, 1, own, n, transactions, strings};
     b[33] = 1;
     b[own + 1] = 1;
-    size_t end = put_owned(b, own, owned, strings);
     for (int i = 0; i < n; i++) {
         char space[128];
         struct rule r = rule_of(rules, i, n, space);

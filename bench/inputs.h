@@ -58,9 +58,6 @@ enum rules { OTHERS, NEARLY, NEARLY_ANY, MANDATORY, PASSING };
 // An image of one connect rule, one own rule, and n transaction rules. Everybody may connect and own.
 struct bytes image_of(enum rules rules, int n);
 
-// The same with so many own rules. Those behind the first are about names that nobody asks for.
-struct bytes image_with_own(enum rules rules, int n, int owned);
-
 // The fields of the message that is judged.
 #define PATH "/org/example/Service/Objects/On"
 #define INTERFACE "org.example.Service.Interface1"

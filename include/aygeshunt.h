@@ -18,9 +18,9 @@
  *     disconnect   answer  0      0     bytes             0        0          0
  *     tick         answer  0      0     waits ended       0        0          0
  *
- * Each of the eight returns how many places it wrote. Each writes one; a batch as many as it needs and has. The bytes behind the places written keep
- * what they held. Where the room lent for places has less than 28 bytes, a call returns 0 and has tested nothing, not even the image, and changed
- * nothing. Numbers that do not apply are 0.
+ * Each of the eight returns how many places it wrote. Each writes one; a batch as many as it needs and has. The bytes behind the
+ * places written keep what they held. Where the room lent for places has less than 28 bytes, a call returns 0 and has tested nothing, not even
+ * the image, and changed nothing. Numbers that do not apply are 0.
  *
  * TIME. The guard has no clock; it knows the last tick that aygeshunt_tick told it, and 0 from a start on. A call that awaits its reply keeps the tick that
  * was the last when it passed, and waits until a reply comes, a peer leaves, or a tick finds it as old as that tick's limit. A host that makes no
@@ -36,9 +36,8 @@
  *   memory stayed, the host adds the last tick to every further one, or starts the guard anew. The last tick is the last one that was answered 0;
  * - nobody else is told: not the caller that its wait has ended, and the host only how many have.
  *
- * RETIRED PREFIXES. No call goes by an own rule with a prefix any more (matcher 2). Connect, own, piece and batch answer 52 where the image is good and
- * has one, be it to allow or to deny, and change nothing. Matcher 2 of a connect rule is a gid and stays. A host that has stored images converts each of
- * them once, by aygeshunt_retire, and lends the new one from then on:
+ * PREFIXES IN STORED IMAGES. An own rule may be about all names under a prefix (matcher 2; of a connect rule that is a gid). A host that wants an image with
+ * exact rules instead converts a stored one once, by aygeshunt_retire, and lends the new one from then on:
  *
  * - it lists the names that its services own, in a row, each behind a byte with its length: 05 6f 72 67 2e 61 is org.a. In the new image each prefix rule is
  *   one exact rule for each listed name that it covers, which is the prefix itself and what begins with it and a dot. All other rules stay;
@@ -110,7 +109,7 @@ enum aygeshunt_decider {
     AYGESHUNT_NO_RULE = 2       /* no rule matched, so it is denied */
 };
 
-/* All answers. 1 to 9 close the peer's stream until it is disconnected; 20 to 26 drop one message, which is consumed; 30 to 52 change nothing. 53 and 54
+/* All answers. 1 to 9 close the peer's stream until it is disconnected; 20 to 26 drop one message, which is consumed; 30 to 51 change nothing. 53 and 54
  * come from aygeshunt_retire alone. */
 enum aygeshunt_answer {
     AYGESHUNT_DONE = 0,                 /* done; of a piece: passed to the receiver reported */
@@ -145,7 +144,6 @@ enum aygeshunt_answer {
     AYGESHUNT_TICK_TOO_LOW = 41,        /* tick lower than the last */
     AYGESHUNT_BAD_IMAGE = 50,           /* bad policy image */
     AYGESHUNT_BAD_MEMORY = 51,          /* bad guard memory */
-    AYGESHUNT_PREFIX_RULE = 52,         /* image has a prefix rule */
     AYGESHUNT_TOO_LARGE = 53,           /* conversion too large */
     AYGESHUNT_BAD_LIST = 54             /* bad list of names */
 };
@@ -164,12 +162,12 @@ size_t aygeshunt_memory_length(void);
 size_t aygeshunt_start(uint8_t *memory, size_t memory_len, uint8_t *place, size_t place_len);
 
 /* A new peer. Number and slot are in the place.
- * In this order: 50; 52; 51; 37 more than 16 gids, repeated ones counted; 36 denied; 38 no slot is free; 39 no number is left; 0. */
+ * In this order: 50; 51; 37 more than 16 gids, repeated ones counted; 36 denied; 38 no slot is free; 39 no number is left; 0. */
 size_t aygeshunt_connect(const uint8_t *image, size_t image_len, uint8_t *memory, size_t memory_len, uint32_t uid,
                          const uint32_t *gids, size_t gids_count, uint8_t *place, size_t place_len);
 
 /* A peer asks to own a name, which needs no zero behind it.
- * In this order: 50; 52; 51; 30 no such peer; 31 not well-known, or the bus's own; 32 denied; 0 where the name is the peer's already, and nothing
+ * In this order: 50; 51; 30 no such peer; 31 not well-known, or the bus's own; 32 denied; 0 where the name is the peer's already, and nothing
  * changes; 33 another peer's; 34 the peer has 4 names; 0. */
 size_t aygeshunt_own(const uint8_t *image, size_t image_len, uint8_t *memory, size_t memory_len, uint32_t peer,
                      const uint8_t *name, size_t name_len, uint8_t *place, size_t place_len);
@@ -180,17 +178,17 @@ size_t aygeshunt_release(uint8_t *memory, size_t memory_len, uint32_t peer, cons
                          uint8_t *place, size_t place_len);
 
 /* Bytes of a peer's stream: at most one message of them is taken, and judged at its last byte.
- * In this order: 50; 52; 51; 30 no such peer; 40 its stream is closed; then, at the first byte that breaks a head or ends a message, 1 to 9 or the
+ * In this order: 50; 51; 30 no such peer; 40 its stream is closed; then, at the first byte that breaks a head or ends a message, 1 to 9 or the
  * judgement, 0 or 20 to 26; 10 where no byte does either. Where less was taken than offered, and the answer is 0 or 20 to 26, the rest is to be
  * offered again. */
 size_t aygeshunt_piece(const uint8_t *image, size_t image_len, uint8_t *memory, size_t memory_len, uint32_t peer,
                        const uint8_t *bytes, size_t bytes_len, uint8_t *place, size_t place_len);
 
 /* Bytes of a peer's stream, offered as by aygeshunt_piece again and again, what is left of them each time, with a place for each call, until nothing is
- * left, all whole places of the room are written, or one of 1 to 9 or 30 to 52 comes, which has its place too. Answers, bytes taken and memory are
- * those of the single calls, but image and memory are tested once, before the first. *taken is told how many bytes were taken in all, 0 where no place
- * is written. No bytes at all make one place of 10.
- * Where *taken is less than bytes_len, the last answer says why: 1 to 9 or 30 to 52 ended it; after 0 or 20 to 26 there was no place left, and the
+ * left, all whole places of the room are written, or one of 1 to 9 or 30 to 51 comes, which has its place too. Answers, bytes taken and memory are
+ * those of the single calls, but image and memory are tested once. *taken is told how many bytes were taken in all, 0 where no place is written. No
+ * bytes at all make one place of 10.
+ * Where *taken is less than bytes_len, the last answer says why: 1 to 9 or 30 to 51 ended it; after 0 or 20 to 26 there was no place left, and the
  * rest is to be offered again. */
 size_t aygeshunt_batch(const uint8_t *image, size_t image_len, uint8_t *memory, size_t memory_len, uint32_t peer,
                        const uint8_t *bytes, size_t bytes_len, uint8_t *places, size_t places_len, size_t *taken);
@@ -205,9 +203,9 @@ size_t aygeshunt_disconnect(uint8_t *memory, size_t memory_len, uint32_t peer, u
  * In this order: 51; 41 the tick is lower than the last, and an equal one is good; 0. */
 size_t aygeshunt_tick(uint8_t *memory, size_t memory_len, uint64_t tick, uint64_t limit, uint8_t *place, size_t place_len);
 
-/* Makes an image without prefix rules of one that may have some, for the names of a list (RETIRED PREFIXES). It returns the answer, and wants neither memory
- * nor a place. *length is told how many bytes the new image has: the first ones of the room, and those behind them keep what they held. Where it is refused,
- * *length is 0 and the whole room keeps what it held.
+/* Makes an image without prefix rules of one that may have some, for the names of a list (PREFIXES IN STORED IMAGES). It returns the answer, and wants
+ * neither memory nor a place. *length is told how many bytes the new image has: the first ones of the room, and those behind them keep what they held.
+ * Where it is refused, *length is 0 and the whole room keeps what it held.
  * In this order: 50; 54 a name of the list is cut, empty, not well-known, or there twice, also where no rule has a prefix; 53 the new image would have more
  * than 256 own rules or more than 65,536 bytes, or is longer than the room; 0. The list may be empty and may have the bus's own name. Without prefix rules
  * the new image is the old one.

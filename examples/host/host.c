@@ -114,7 +114,7 @@ static void piece(struct host *host, uint32_t peer, struct bytes bytes) {
 }
 
 /* Whether what a batch left is to be offered again. It is where the last message was passed or dropped and there was no place for the next.
- * A broken head (1 to 9) closed the stream, so that its rest is nobody's; and 30 to 52 would only come again. */
+ * A broken head (1 to 9) closed the stream, so that its rest is nobody's; and 30 to 51 would only come again. */
 static bool goes_on(const struct host *host, size_t written) {
     if (written == 0) return false;
     uint32_t answer = aygeshunt_word(place_at(host, written - 1), AYGESHUNT_ANSWER);

@@ -5,7 +5,7 @@
 
 #include "cases.h"
 #include "check.h"
-#include "policies.h"
+#include "inputs.h"
 #include "rooms.h"
 #include "states.h"
 
@@ -127,7 +127,6 @@ void cut_cases(void) {
     cut_everywhere("broken messages", open_image, fresh, 1, all_of(&broken));
     cut_everywhere("no such peer", open_image, fresh, 3, (slice){mixed.at, 50});
     cut_everywhere("bad image", bad_image, fresh, 1, (slice){mixed.at, 50});
-    cut_everywhere("prefix rule", bare_image((own_rule[]){{0, 1, PREFIX, 0, 0, 3}}, 1, text("a.b")), fresh, 1, (slice){mixed.at, 50});
     slice bad = copied();
     bad.at[PENDING_AT] = 1;
     cut_everywhere("bad memory", open_image, bad.at, 1, (slice){mixed.at, 50});

@@ -1,9 +1,9 @@
-// Faults, one at a time, between the cases and the library: what BREAK of the environment names is done wrong, and a case has to find it. The linker's --wrap puts
-// them in.
-#include "breaks.h"
+// Faults, one at a time, between the cases and the library: what BREAK names is done wrong, and a case has to find it. The linker's --wrap puts them in.
+#include <aygeshunt.h>
 
-#include <stdlib.h>
 #include <string.h>
+
+enum { PLACE = AYGESHUNT_PLACE_LENGTH };
 
 size_t __real_aygeshunt_memory_length(void);
 size_t __real_aygeshunt_start(uint8_t *memory, size_t m, uint8_t *place, size_t p);
@@ -15,13 +15,8 @@ size_t __real_aygeshunt_batch(const uint8_t *image, size_t i, uint8_t *memory, s
 size_t __real_aygeshunt_disconnect(uint8_t *memory, size_t m, uint32_t peer, uint8_t *place, size_t p);
 size_t __real_aygeshunt_tick(uint8_t *memory, size_t m, uint64_t tick, uint64_t limit, uint8_t *place, size_t p);
 
-volatile uint8_t seen;
-
-int is(const char *fault) {
-    static const char *named;
-    if (!named) named = getenv("BREAK");
-    return named && !strcmp(fault, named);
-}
+static int is(const char *fault) { return !strcmp(fault, BREAK); }
+static volatile uint8_t seen;
 
 size_t __wrap_aygeshunt_memory_length(void) { return __real_aygeshunt_memory_length() - is("memory_length: one less"); }
 
@@ -37,11 +32,8 @@ size_t __wrap_aygeshunt_start(uint8_t *memory, size_t m, uint8_t *place, size_t 
 size_t __wrap_aygeshunt_connect(const uint8_t *image, size_t i, uint8_t *memory, size_t m, uint32_t uid, const uint32_t *gids, size_t g, uint8_t *place, size_t p) {
     if (is("connect: at most 16 gids are looked at") && g > 16) g = 16;
     if (is("connect: reads a gid more") && p >= PLACE) seen = (uint8_t)((const volatile uint32_t *)gids)[g];
-    if (is("connect: a prefix rule is let be")) image = without_prefixes(image, &i);
     size_t wrote = __real_aygeshunt_connect(image, i, memory, m, uid, gids, g, place, p);
     if (is("connect: memory comes first") && wrote && place[0] == 50 && m != AYGESHUNT_MEMORY_LENGTH) place[0] = 51;
-    if (is("connect: memory comes before prefix rules") && wrote && place[0] == 52 && m != AYGESHUNT_MEMORY_LENGTH) place[0] = 51;
-    if (is("connect: 52 is told as 50") && wrote && place[0] == 52) place[0] = 50;
     if (is("connect: no slot") && wrote) place[16] = 0;
     if (is("connect: forgets the last tick") && wrote && place[0] == 0) memset(memory + 4, 0, 8);
     return wrote;
@@ -51,9 +43,6 @@ size_t __wrap_aygeshunt_own(const uint8_t *image, size_t i, uint8_t *memory, siz
     if (is("own: a longer name is cut") && n > 255) n = 255;
     if (is("own: reads behind the name") && p >= PLACE) seen = ((const volatile uint8_t *)name)[n];
     if (is("own: looks at the image first") && i) seen = ((const volatile uint8_t *)image)[0];
-    if (is("own: a prefix rule is let be")) image = without_prefixes(image, &i);
-    if (is("own: prefix rules that deny are let be") && !prefix_rule(image, i, 1)) image = without_prefixes(image, &i);
-    if (is("own: only the first rule is looked at") && i > 32 && image[32 + 8 * image[4] + 2] != 2) image = without_prefixes(image, &i);
     return __real_aygeshunt_own(image, i, memory, m, peer, name, n, place, p);
 }
 
@@ -67,17 +56,12 @@ size_t __wrap_aygeshunt_release(uint8_t *memory, size_t m, uint32_t peer, const 
 size_t __wrap_aygeshunt_piece(const uint8_t *image, size_t i, uint8_t *memory, size_t m, uint32_t peer, const uint8_t *bytes, size_t n, uint8_t *place, size_t p) {
     if (is("piece: reads behind the bytes") && p >= PLACE) seen = ((const volatile uint8_t *)bytes)[n];
     if (is("piece: reads before the image") && p >= PLACE) seen = ((const volatile uint8_t *)image)[-1];
-    if (is("piece: a prefix rule is let be")) image = without_prefixes(image, &i);
     if (is("piece: writes behind memory") && p >= PLACE) ((volatile uint8_t *)memory)[m] = 0;
     if (is("piece: writes behind the room") && p >= PLACE) ((volatile uint8_t *)place)[p] = 0;
     size_t wrote = __real_aygeshunt_piece(image, i, memory, m, peer, bytes, n, place, p);
     if (is("piece: needs an aligned place") && wrote && (uintptr_t)place % 4) place[1] = 1;
     if (is("piece: one peer is counted") && wrote && place[8] == 2) place[16] = 1;
     if (is("piece: who decided is not shown") && wrote) memset(place + 20, 0, 8);
-    if (is("piece: a prefix rule is shown") && wrote && place[0] == 52) place[20] = 1;
-    if (is("piece: 52 takes bytes") && wrote && place[0] == 52) place[4] = (uint8_t)n;
-    if (is("piece: 52 closes the stream") && wrote && place[0] == 52 && m) memory[m - 1] ^= 1;
-    if (is("piece: a rule about a gid is a prefix rule") && wrote && place[0] != 50 && i > 47 && image[4] == 2 && image[42] == 2) place[0] = 52;
     if (is("piece: a wait begins at 0") && wrote && place[8] == 2 && peer == 2) memset(memory + 12 + 3420 + 80 + 16 * (memory[12 + 3420 + 76] - 1) + 8, 0, 8);
     return wrote;
 }
@@ -98,8 +82,6 @@ static size_t batch_after(size_t wrote, uint8_t *memory, size_t n, uint8_t *plac
     if (is("batch: goes on after a broken head") && more && last[0] == 1) put(next, 40), wrote++;
     if (is("batch: goes on after 30") && more && last[0] == 30) put(next, 30), wrote++;
     if (is("batch: goes on after 50") && more && last[0] == 50) put(next, 50), wrote++;
-    if (is("batch: goes on after 52") && more && last[0] == 52) put(next, 52), wrote++;
-    if (is("batch: 52 takes bytes") && last[0] == 52) *taken = n;
     if (is("batch: who decided is shown first only") && wrote > 1) memset(last + 20, 0, 8);
     if (is("batch: memory of the first call only") && wrote > 5) memory[12 + 76] ^= 1;
     if (is("batch: counts a place too few") && wrote > 2) wrote--;
@@ -112,11 +94,9 @@ size_t __wrap_aygeshunt_batch(const uint8_t *image, size_t i, uint8_t *memory, s
     if (is("batch: one place at most") && p > PLACE) p = PLACE;
     if (is("batch: the last place stays empty") && p >= 4 * PLACE) p -= PLACE;
     if (is("batch: an empty piece fills nothing") && n == 0 && p >= PLACE) return *taken = 0, 0;
-    if (is("batch: a prefix rule is let be") && p >= PLACE) image = without_prefixes(image, &i);
     size_t before = *taken, wrote = __real_aygeshunt_batch(image, i, memory, m, peer, bytes, n, places, p, taken);
     if (is("batch: taken is not told without a place") && p < PLACE) *taken = before;
     if (is("batch: a bad image fills nothing") && wrote && places[0] == 50) return 0;
-    if (is("batch: a prefix rule fills nothing") && wrote && places[0] == 52) return 0;
     return wrote ? batch_after(wrote, memory, n, places, p, taken) : 0;
 }
 

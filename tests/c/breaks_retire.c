@@ -1,5 +1,5 @@
 // Faults of aygeshunt_retire, one at a time, as in breaks.c.
-#include "breaks.h"
+#include <aygeshunt.h>
 
 #include <string.h>
 
@@ -7,27 +7,19 @@ uint8_t __real_aygeshunt_retire(const uint8_t *image, size_t i, const uint8_t *n
 
 enum { MOST = 65536 };
 
+static int is(const char *fault) { return !strcmp(fault, BREAK); }
+static volatile uint8_t seen;
+
 static uint32_t word(const uint8_t *image, int index) { return aygeshunt_word(image, (size_t)index); }
 
-const uint8_t *without_prefixes(const uint8_t *image, size_t *len) {
-    static uint8_t room[MOST];
-    size_t length;
-    if (__real_aygeshunt_retire(image, *len, image, 0, room, sizeof room, &length)) return image;
-    *len = length;
-    return room;
-}
-
-int prefix_rule(const uint8_t *image, size_t len, uint8_t verdict) {
+// Whether a good image has a prefix rule.
+static int has_prefixes(const uint8_t *image, size_t len) {
     size_t length;
     if (__real_aygeshunt_retire(image, len, image, 0, (uint8_t[]){0}, 0, &length) == 50) return 0;
-    for (uint32_t k = 0; k < word(image, 3); k++) {
-        const uint8_t *rule = image + word(image, 4) + 16 * k;
-        if (rule[2] == 2 && rule[1] == verdict) return 1;
-    }
+    for (uint32_t k = 0; k < word(image, 3); k++)
+        if (image[word(image, 4) + 16 * k + 2] == 2) return 1;
     return 0;
 }
-
-static int has_prefixes(const uint8_t *image, size_t len) { return prefix_rule(image, len, 0) || prefix_rule(image, len, 1); }
 
 // ---- the new image
 

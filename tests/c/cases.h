@@ -15,8 +15,7 @@ void tick_cases(void);
 void expiry_cases(void);
 void damage_cases(void);
 
-// prefixes.c
-void prefix_cases(void);
+// converted.c
 void converted_cases(void);
 
 // retire.c

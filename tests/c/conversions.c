@@ -18,6 +18,33 @@ typedef struct {
 // Rooms are longer than any image by this at most.
 enum { BEYOND = 64 };
 
+// What a room holds before a call, by a salt. A byte that is written without need is found by one of the two salts at least, which differ in all bits.
+static const uint8_t salts[2] = {0x35, 0xca};
+
+// The first bytes of a room; they come again and again, so that long rooms are filled and looked at by many bytes at once.
+enum { PERIOD = 256 };
+static const uint8_t *filling(uint8_t salt) {
+    static uint8_t bytes[PERIOD];
+    for (size_t i = 0; i < PERIOD; i++) bytes[i] = (uint8_t)(i * 29 ^ salt);
+    return bytes;
+}
+
+static size_t least(size_t a, size_t b) { return a < b ? a : b; }
+
+static void fill(uint8_t *at, size_t len, uint8_t salt) {
+    const uint8_t *bytes = filling(salt);
+    for (size_t i = 0; i < len; i += PERIOD) memcpy(at + i, bytes, least(PERIOD, len - i));
+}
+
+static int is_filled(const uint8_t *at, size_t from, size_t to, uint8_t salt) {
+    const uint8_t *bytes = filling(salt);
+    for (size_t i = from, n; i < to; i += n) {
+        n = least(PERIOD - i % PERIOD, to - i);
+        if (memcmp(at + i, bytes + i % PERIOD, n)) return 0;
+    }
+    return 1;
+}
+
 static int same(slice one, slice two) { return one.len == two.len && (one.len == 0 || !memcmp(one.at, two.at, one.len)); }
 
 // The answer, the length that is told, the new image in the room, and the bytes behind it, which are all of them where it is refused.

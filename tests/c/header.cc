@@ -21,7 +21,7 @@ int main() {
     std::vector<uint8_t> converted(65536);
     size_t length;
     if (aygeshunt_connect(image.data(), image.size(), memory.data(), memory.size(), 0, &gid, 0, room.data(), AYGESHUNT_PLACE_LENGTH) != 1) return 10;
-    if (aygeshunt_word(room.data(), AYGESHUNT_ANSWER) != AYGESHUNT_PREFIX_RULE) return 11;
+    if (aygeshunt_word(room.data(), AYGESHUNT_ANSWER) != AYGESHUNT_CONNECT_DENIED) return 11;
     if (aygeshunt_retire(image.data(), image.size(), names.data(), 3, converted.data(), converted.size(), &length) != AYGESHUNT_BAD_LIST) return 12;
     if (aygeshunt_retire(image.data(), image.size(), names.data(), names.size(), converted.data(), 53, &length) != AYGESHUNT_TOO_LARGE) return 13;
     if (aygeshunt_retire(image.data(), image.size(), names.data(), names.size(), converted.data(), converted.size(), &length) != AYGESHUNT_DONE) return 14;

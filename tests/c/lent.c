@@ -37,32 +37,6 @@ lent lend(slice from, int which, int placement, size_t step) {
     return l;
 }
 
-const uint8_t salts[2] = {0x35, 0xca};
-
-// The first bytes of a room; they come again and again, so that long rooms are filled and looked at by many bytes at once.
-enum { PERIOD = 256 };
-static const uint8_t *filling(uint8_t salt) {
-    static uint8_t bytes[PERIOD];
-    for (size_t i = 0; i < PERIOD; i++) bytes[i] = (uint8_t)(i * 29 ^ salt);
-    return bytes;
-}
-
-static size_t least(size_t a, size_t b) { return a < b ? a : b; }
-
-void fill(uint8_t *at, size_t len, uint8_t salt) {
-    const uint8_t *bytes = filling(salt);
-    for (size_t i = 0; i < len; i += PERIOD) memcpy(at + i, bytes, least(PERIOD, len - i));
-}
-
-int is_filled(const uint8_t *at, size_t from, size_t to, uint8_t salt) {
-    const uint8_t *bytes = filling(salt);
-    for (size_t i = from, n; i < to; i += n) {
-        n = least(PERIOD - i % PERIOD, to - i);
-        if (memcmp(at + i, bytes + i % PERIOD, n)) return 0;
-    }
-    return 1;
-}
-
 uint8_t *unreadable(void) {
     static uint8_t *at;
     if (!at) at = mmap(NULL, pages, PROT_NONE, MAP_PRIVATE | MAP_ANONYMOUS, -1, 0);

@@ -23,10 +23,5 @@ typedef struct {
 // A copy of some bytes in a placement; `step` is what an offset is a multiple of.
 lent lend(slice from, int which, int placement, size_t step);
 
-// What a room holds before a call, by a salt. A byte that is written without need is found by one of the two salts at least, which differ in all bits.
-extern const uint8_t salts[2];
-void fill(uint8_t *at, size_t len, uint8_t salt);
-int is_filled(const uint8_t *at, size_t from, size_t to, uint8_t salt);
-
 // Pages that nobody may read: what stands there cannot have been looked at.
 uint8_t *unreadable(void);

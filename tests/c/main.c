@@ -22,7 +22,6 @@ int main(void) {
     tick_cases();
     expiry_cases();
     damage_cases();
-    prefix_cases();
     retire_cases();
     same_image_cases();
     limit_cases();

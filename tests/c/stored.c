@@ -1,5 +1,4 @@
-// A daemon that has a stored policy with prefix rules, as examples/host/README.md shows it: what it lends is refused before the policy is converted, and taken
-// behind it.
+// A daemon that has a stored policy with prefix rules, as examples/host/README.md shows it, and converts it.
 #include <aygeshunt.h>
 #include <stdbool.h>
 #include <stdio.h>
@@ -54,7 +53,7 @@ int main(void) {
     size_t length;
     memset(too_long, 'a', sizeof too_long - 1);
     aygeshunt_start(memory, sizeof memory, place, sizeof place);
-    if (connects(image, sizeof image) != AYGESHUNT_PREFIX_RULE) return 1;
+    if (connects(image, sizeof image) != AYGESHUNT_DONE) return 1;
     for (size_t i = 0; i < sizeof services / sizeof *services; i++)
         if (!add_name(&names, services[i])) return 2;
     if (add_name(&names, too_long)) return 3;

@@ -10,8 +10,6 @@ from pathlib import Path
 HERE = Path(__file__).resolve().parent / "busconfig"
 SCRIPT = HERE.parent.parent.parent / "tools" / "busconfig"
 
-PREFIX = "own_prefix: the guard answers 52 to this policy; aygeshunt policy retire makes exact rules of it"
-
 
 def run(*words, folder=HERE, stdin=b""):
     """The status, the lines on standard output and those on standard error."""
@@ -29,7 +27,7 @@ class Stored(unittest.TestCase):
 
     def test_good_files(self):
         found = run("--users", "cabinet.users", "--ignore-includes", "cabinet.conf", "service.conf")
-        self.assertEqual(found, (0, self.stored("cabinet.policy"), [f"cabinet.conf:42: {PREFIX}"]))
+        self.assertEqual(found, (0, self.stored("cabinet.policy"), []))
 
     def test_owner_comes_first_and_options_may_stand_anywhere(self):
         found = run("service.conf", "--owner", "fans", "--users=cabinet.users", "service.conf")
@@ -67,14 +65,6 @@ class Made(unittest.TestCase):
             self.assertEqual(self.rules(policy(f'<deny own="{name}"/>')), [f"own default deny name {name}  # -:2"])
         for name in ("a", "a..b", ".a.b", "a.b.", "a.9b", "a b.c", "a.b#c", "a.b\u00e4", "*.a", "a.*"):
             self.assertEqual(len(self.refused(policy(f'<deny own="{name}"/>'))), 1, name)
-
-    def test_every_prefix_is_told_and_becomes_a_rule(self):
-        rules = '<allow own_prefix="a.b"/>\n<allow own="a.b"/>\n<deny own="*"/>\n<deny own_prefix="a.prefix"/>'
-        status, out, err = run("-", stdin=policy(rules, 'user="5"'))
-        wanted = ["own user 5 allow prefix a.b  # -:2", "own user 5 allow name a.b  # -:3", "own user 5 deny any  # -:4",
-                  "own user 5 deny prefix a.prefix  # -:5"]
-        self.assertEqual((status, [line for line in out if not line.startswith("#")]), (0, wanted))
-        self.assertEqual(err, [f"-:2: {PREFIX}", f"-:5: {PREFIX}"])
 
     def test_ids_at_their_highest(self):
         self.assertEqual(self.rules(policy('<allow user="4294967295"/>')), ["connect default allow uid 4294967295  # -:2"])

@@ -1,6 +1,6 @@
 //! The answer numbers of the paper, and who receives a passed message.
 
-/// Every answer that a call or the converter can give, with the paper's number as its value.
+/// Every answer a call can give, with the paper's number as its value.
 /// Number 51 is left out: it speaks of guard memory, and there is none here.
 #[derive(Clone, Copy, Debug, PartialEq, Eq, PartialOrd, Ord)]
 pub enum Answer {
@@ -35,18 +35,18 @@ pub enum Answer {
     StreamClosed = 40,
     TickTooLow = 41,
     BadImage = 50,
-    PrefixRule = 52,
+    /// The last two come from the converter alone.
     TooLarge = 53,
     BadList = 54,
 }
 
-/// The answers that each call can give. The last two are the converter's alone.
+/// The answers that each call can give.
 pub const ANSWERS_OF_CALLS: [(&str, &[u32]); 7] = [
     ("start", &[0]),
-    ("connect", &[0, 36, 37, 38, 39, 50, 52]),
-    ("own", &[0, 30, 31, 32, 33, 34, 50, 52]),
+    ("connect", &[0, 36, 37, 38, 39, 50]),
+    ("own", &[0, 30, 31, 32, 33, 34, 50]),
     ("release", &[0, 30, 31, 35]),
-    ("piece", &[0, 1, 2, 3, 4, 5, 6, 7, 8, 9, 10, 20, 21, 22, 23, 24, 25, 26, 30, 40, 50, 52]),
+    ("piece", &[0, 1, 2, 3, 4, 5, 6, 7, 8, 9, 10, 20, 21, 22, 23, 24, 25, 26, 30, 40, 50]),
     ("disconnect", &[0, 30]),
     ("tick", &[0, 41]),
 ];
@@ -63,7 +63,7 @@ impl Answer {
 
 /// Offering a piece goes on after every answer but these.
 pub fn ends_an_offer(number: u32) -> bool {
-    matches!(number, 1..=9 | 30..=52)
+    matches!(number, 1..=9 | 30..=51)
 }
 
 /// Who gets a message that passed.

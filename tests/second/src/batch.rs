@@ -1,8 +1,7 @@
 //! Many messages in one call: a piece is offered for as long as a lent list has places.
 
 use crate::answer::ends_an_offer;
-use crate::guard::Guard;
-use crate::lent::LentPolicy;
+use crate::guard::{Guard, LentPolicy};
 use crate::replay::piece_numbers;
 
 /// Seven little-endian numbers of four bytes.

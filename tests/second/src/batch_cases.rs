@@ -14,10 +14,10 @@ const PASSED: [&str; 5] =
     ["0 to the bus", "0 to a peer", "0 for a reply", "0 to a mask", "0 to an empty mask"];
 
 /// Answers that end an offer.
-const ENDS: [u32; 13] = [1, 2, 3, 4, 5, 6, 7, 8, 9, 30, 40, 50, 52];
+const ENDS: [u32; 12] = [1, 2, 3, 4, 5, 6, 7, 8, 9, 30, 40, 50];
 
 const FILLED: [&str; 2] = ["filled with nothing left", "filled with bytes left"];
-const ENDED: [&str; 5] = ["ended by 1 to 9", "ended by 30", "ended by 40", "ended by 50", "ended by 52"];
+const ENDED: [&str; 4] = ["ended by 1 to 9", "ended by 30", "ended by 40", "ended by 50"];
 const NOT_FILLED: [&str; 2] =
     ["not filled, the last message whole", "not filled, the last message unfinished"];
 const TOGETHER: [&str; 2] =
@@ -39,7 +39,7 @@ pub fn cases() -> Vec<String> {
         }
     }
     cases.extend(ENDS.map(|answer| format!("batches, {answer} with places and bytes left")));
-    cases.extend([10, 30, 40, 50, 52].map(|answer| format!("batches, {answer} for an empty piece")));
+    cases.extend([10, 30, 40, 50].map(|answer| format!("batches, {answer} for an empty piece")));
     cases
 }
 
@@ -73,7 +73,7 @@ pub fn of_batch(list: usize, sender: u32, offered: &Offered) -> Vec<String> {
     let mut add = |what: &str| cases.push(format!("batches of {list}, {what}"));
     match (answer, is_full, offered.left) {
         (1..=9, ..) => add(ENDED[0]),
-        (30..=52, ..) => add(&format!("ended by {answer}")),
+        (30..=51, ..) => add(&format!("ended by {answer}")),
         (_, true, 0) => add(FILLED[0]),
         (_, true, _) => add(FILLED[1]),
         (10, false, _) if is_empty => {}

@@ -1,20 +1,18 @@
 //! Counting what a set of captures reaches: answers by call, the cases of 7, 8, 9 and 50, what
 //! names were refused for, what unknown header fields held, what rules that name an interface
 //! did, what became of waiting calls, what ticks did to them, what was shown of the rules that
-//! decided, what own rules about prefixes were refused, and what batches came to.
+//! decided, and what batches came to.
 
 use crate::answer::{Answer, Receiver, ANSWERS_OF_CALLS};
 use crate::batch_cases;
 use crate::capture::{self, Call};
 use crate::decider_cases;
-use crate::guard::Guard;
+use crate::guard::{Guard, LentPolicy};
 use crate::header::{self, required_fields, HeadFault, Header, Malformed};
 use crate::image::{self, Breach};
 use crate::interface_cases;
-use crate::lent::LentPolicy;
 use crate::name_cases;
 use crate::name_forms::Form;
-use crate::prefix_cases;
 use crate::replay::{run, Outcome};
 use crate::stream::Step;
 use crate::tick_cases::{self, Before, TickCases};
@@ -71,7 +69,6 @@ fn wanted_cases() -> Vec<String> {
     wanted.extend(wait_cases::CASES.iter().map(|case| case.to_string()));
     wanted.extend(tick_cases::CASES.iter().map(|case| case.to_string()));
     wanted.extend(decider_cases::cases());
-    wanted.extend(prefix_cases::CASES.iter().map(|case| case.to_string()));
     wanted.extend(batch_cases::cases());
     wanted
 }
@@ -148,7 +145,6 @@ impl Coverage {
             self.count_cases(case_of_name(&guard, call, outcome));
             self.count_cases(case_of_unknown(&guard, call, outcome));
             let lent = policy.as_ref().ok();
-            self.count_cases(prefix_cases::of_call(&reading.capture.image, lent, call, &outcome));
             self.count_cases(TickCases::under_bad_image(&outcome).filter(|_| lent.is_none()));
             self.count_cases(decider_cases::of_call(lent, &guard, call, &outcome, message.as_ref()));
             self.count_cases(decider_cases::of_held(&outcome).filter(|_| is_held));
@@ -225,13 +221,6 @@ impl Coverage {
         never
     }
 
-    /// How many of 100 calls have that answer.
-    pub fn share(&self, answer: Answer) -> f64 {
-        let of_answer = self.answers.iter().filter(|((number, _), _)| *number == answer.number());
-        let count: u64 = of_answer.map(|(_, count)| count).sum();
-        100.0 * count as f64 / self.calls.max(1) as f64
-    }
-
     pub fn report(&self) -> String {
         let mut text = format!("{} captures, {} calls\n", self.captures, self.calls);
         let mut totals: BTreeMap<u32, (u64, String)> = BTreeMap::new();
@@ -243,7 +232,6 @@ impl Coverage {
         for (answer, (total, calls)) in totals {
             text += &format!("answer {answer}: {total} ({})\n", calls.trim_start());
         }
-        text += &format!("share of answer 52: {:.2} %\n", self.share(Answer::PrefixRule));
         for (case, count) in &self.cases {
             text += &format!("case {case}: {count}\n");
         }

@@ -5,10 +5,9 @@
 
 use crate::answer::{Answer, Receiver};
 use crate::capture::Call;
-use crate::guard::{Guard, Judged, Peer};
+use crate::guard::{Guard, Judged, LentPolicy, Peer};
 use crate::header::{Header, METHOD_CALL, SIGNAL};
 use crate::interface_cases::questions;
-use crate::lent::LentPolicy;
 use crate::names::BUS_NAME;
 use crate::policy::{
     ConnectRule, Context, Credentials, Decision, Direction, OwnRule, Policy, Question, TransactionRule,
@@ -56,9 +55,9 @@ const SHOWN: [(&str, &str, &[u32]); 9] = [
     ("none matched", "connect", &[36]),
     ("none matched", "own", &[32]),
     ("none matched", "piece", &[22, 23]),
-    ("nothing", "connect", &[37, 50, 52]),
-    ("nothing", "own", &[30, 31, 50, 52]),
-    ("nothing", "piece", &[0, 1, 2, 3, 4, 5, 6, 7, 8, 9, 10, 20, 21, 24, 30, 40, 50, 52]),
+    ("nothing", "connect", &[37, 50]),
+    ("nothing", "own", &[30, 31, 50]),
+    ("nothing", "piece", &[0, 1, 2, 3, 4, 5, 6, 7, 8, 9, 10, 20, 21, 24, 30, 40, 50]),
 ];
 
 /// Messages to a peer where the two sides came to different rules, by what became of them.

@@ -2,7 +2,6 @@
 
 use crate::answer::{Answer, Receiver};
 use crate::header::{HeadFault, Header, ERROR, METHOD_CALL, METHOD_RETURN, SIGNAL};
-use crate::lent::{accepted, LentPolicy};
 use crate::names::{is_well_known, unique_name_of, BUS_NAME};
 use crate::policy::{Credentials, Decision, Gid, Policy, Uid};
 use crate::stream::{Step, Stream};
@@ -86,6 +85,9 @@ enum Resolved<'a> {
     Peer(&'a str),
 }
 
+/// A policy is lent to each call that needs one; `None` stands for a bad image.
+pub type LentPolicy<'a> = Option<&'a Policy>;
+
 /// A refusal leaves everything as it was, apart from the bytes taken.
 struct Refusal {
     answer: Answer,
@@ -161,7 +163,7 @@ impl Guard {
     }
 
     fn try_connect(&mut self, policy: LentPolicy, uid: Uid, gids: &[Gid]) -> Result<Connected, Refusal> {
-        let policy = accepted(policy)?;
+        let policy = policy.ok_or(Answer::BadImage)?;
         if gids.len() > MAX_GIDS {
             return Err(Answer::TooManyGids.into());
         }
@@ -184,7 +186,7 @@ impl Guard {
     }
 
     fn try_own(&mut self, policy: LentPolicy, number: u32, name: &[u8]) -> Result<Owned, Refusal> {
-        let policy = accepted(policy)?;
+        let policy = policy.ok_or(Answer::BadImage)?;
         let peer = self.peer(number).ok_or(Answer::NoSuchPeer)?;
         let name = ownable(name).ok_or(Answer::NotAName)?;
         let decision = policy.own(peer.credentials(), &name);
@@ -240,9 +242,8 @@ impl Guard {
 
     /// Takes bytes up to the first that breaks a head or ends a message, or all.
     pub fn piece(&mut self, policy: LentPolicy, number: u32, bytes: &[u8]) -> Judged {
-        let policy = match accepted(policy) {
-            Ok(policy) => policy,
-            Err(answer) => return Judged::refused(answer, 0),
+        let Some(policy) = policy else {
+            return Judged::refused(Answer::BadImage, 0);
         };
         let Some(peer) = self.peer_mut(number) else {
             return Judged::refused(Answer::NoSuchPeer, 0);

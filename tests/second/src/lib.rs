@@ -3,7 +3,7 @@
 //! The guard's state is kept in ordinary structs, so nothing here knows how the
 //! guard proper lays out its memory. The modules follow the paper: what stands on
 //! the wire, the name rules, the message head, the policy image, the rules of
-//! precedence, the guard's seven calls, batches of them, and the converter of stored images.
+//! precedence, the guard's seven calls, and batches of them.
 
 pub mod answer;
 pub mod batch;
@@ -20,13 +20,11 @@ pub mod header;
 pub mod image;
 pub mod image_write;
 pub mod interface_cases;
-pub mod lent;
 pub mod message;
 pub mod name_cases;
 pub mod name_forms;
 pub mod names;
 pub mod policy;
-pub mod prefix_cases;
 pub mod reckoning;
 pub mod replay;
 pub mod signature;

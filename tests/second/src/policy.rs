@@ -195,7 +195,7 @@ impl OwnRule {
         self.context.fits(who) && self.name.matches(name)
     }
 
-    /// Such a rule is still read and asked, but no call accepts it any more.
+    /// The converter makes exact rules of such a rule.
     pub fn is_about_a_prefix(&self) -> bool {
         matches!(self.name, NameMatcher::Prefix(_))
     }

@@ -3,9 +3,8 @@
 use crate::answer::{Answer, Receiver};
 use crate::batch::{self, Offered};
 use crate::capture::{self, Call};
-use crate::guard::{Connected, Disconnected, Guard, Judged, Owned, Ticked};
+use crate::guard::{Connected, Disconnected, Guard, Judged, LentPolicy, Owned, Ticked};
 use crate::image;
-use crate::lent::LentPolicy;
 use crate::policy::{Decision, Policy};
 use crate::tally::{Counts, Tally};
 

@@ -4,9 +4,8 @@ mod common;
 
 use common::{five, Bench, OPEN};
 use second::batch::{batch, offer, Batch};
-use second::guard::Guard;
+use second::guard::{Guard, LentPolicy};
 use second::header::{HeadFault, Malformed, PATH};
-use second::lent::LentPolicy;
 use second::message::Message;
 
 /// What nobody wrote.

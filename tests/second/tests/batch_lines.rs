@@ -25,7 +25,7 @@ fn by_single_calls(file: &[u8]) -> Vec<String> {
             let (Call::Piece { bytes, .. }, Outcome::Piece(judged)) = (&mut call, outcome) else { break };
             bytes.drain(..judged.taken);
             let ends =
-                [(1, 9), (30, 52)].iter().any(|(low, high)| (*low..=*high).contains(&judged.answer.number()));
+                [(1, 9), (30, 51)].iter().any(|(low, high)| (*low..=*high).contains(&judged.answer.number()));
             if ends || bytes.is_empty() {
                 break;
             }

@@ -79,12 +79,10 @@ fn t9() {
     assert!(matcher.matches("org.foo"));
     assert!(matcher.matches("org.foo.bar"));
     assert!(!matcher.matches("org.foobar"));
-    // The rule still reads so, and no call accepts it.
-    let mut bench = Bench::new("connect default allow any\nown default allow prefix org.foo");
-    assert_eq!(bench.connect_line(1000, &[5]), "connect 52 0 0 0 0");
-    for name in ["org.foo", "org.foo.bar", "org.foobar"] {
-        assert_eq!(bench.own_line(1, name), "own 52 0 0");
-    }
+    let mut bench = Bench::with_peers("connect default allow any\nown default allow prefix org.foo", 1);
+    assert_eq!(bench.own_line(1, "org.foo"), "own 0 1 0");
+    assert_eq!(bench.own_line(1, "org.foo.bar"), "own 0 1 0");
+    assert_eq!(bench.own_line(1, "org.foobar"), "own 32 2 0");
 }
 
 #[test]

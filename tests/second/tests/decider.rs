@@ -15,11 +15,7 @@ const RULES: &str = "connect default allow uid 1
     connect default allow uid 2
     connect default deny uid 3
     own default deny name org.no
-    own default allow name org.yes
-    own default allow name org.yes.b
-    own default allow name org.yes.c
-    own default allow name org.yes.d
-    own default allow name org.yes.e
+    own default allow prefix org.yes
     transaction default deny receive any path=/deaf
     transaction default deny send any path=/mute
     transaction default allow receive call path=/call
@@ -79,10 +75,10 @@ fn own() {
     assert_eq!(bench.own_line(2, "org.yes"), "own 33 1 1");
     assert_eq!(bench.own_line(1, "org.no"), "own 32 1 0");
     assert_eq!(bench.own_line(1, "org.yesno"), "own 32 2 0");
-    for (name, position) in [("org.yes.b", 2), ("org.yes.c", 3), ("org.yes.d", 4)] {
-        assert_eq!(bench.own_line(1, name), format!("own 0 1 {position}"));
+    for name in ["org.yes.b", "org.yes.c", "org.yes.d"] {
+        assert_eq!(bench.own_line(1, name), "own 0 1 1");
     }
-    assert_eq!(bench.own_line(1, "org.yes.e"), "own 34 1 5");
+    assert_eq!(bench.own_line(1, "org.yes.e"), "own 34 1 1");
     assert_eq!(bench.own_line(1, "org"), "own 31 0 0");
     assert_eq!(bench.own_line(1, "org.freedesktop.DBus"), "own 31 0 0");
     assert_eq!(bench.own_line(3, "org.yes"), "own 30 0 0");

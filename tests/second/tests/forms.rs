@@ -10,7 +10,7 @@ use second::{capture, image, names};
 #[test]
 fn captures_and_images() {
     let (mut broken, mut bad) = (0, 0);
-    for mode in [Mode::Mixed, Mode::BadImage, Mode::Prefix, Mode::BadLayout] {
+    for mode in [Mode::Mixed, Mode::BadImage, Mode::BadLayout] {
         for seed in 1..=100 {
             let file = generate(seed, 40, mode);
             let (ours, theirs) = (capture::read(&file), forms::capture::read(&file));

@@ -12,7 +12,7 @@ use second::unknown_cases;
 
 #[test]
 fn a_seed_means_one_capture() {
-    for mode in [Mode::Mixed, Mode::Full, Mode::BadImage, Mode::Prefix, Mode::BadLayout, Mode::Batches] {
+    for mode in [Mode::Mixed, Mode::Full, Mode::BadImage, Mode::BadLayout, Mode::Batches] {
         for seed in 0..20 {
             assert!(generate(seed, 100, mode) == generate(seed, 100, mode));
         }
@@ -146,7 +146,7 @@ fn pairs_show_rules() {
     }
     let is_shown = |case: &String| case.starts_with("shown ") && case.contains(", piece ");
     let never: Vec<String> = coverage.never().into_iter().filter(is_shown).collect();
-    assert_eq!(never, ["shown nothing, piece 50", "shown nothing, piece 52"]);
+    assert_eq!(never, ["shown nothing, piece 50"]);
 }
 
 #[test]
@@ -157,9 +157,6 @@ fn every_answer_is_reached() {
     }
     for seed in 1..=500 {
         coverage.add(&generate(seed, 20, Mode::BadImage));
-    }
-    for seed in 1..=150 {
-        coverage.add(&generate(seed, 20, Mode::Prefix));
     }
     coverage.add(&generate(1, 100, Mode::BadLayout));
     for seed in 1..=60 {

@@ -66,7 +66,7 @@ fn last_number() {
 
 #[test]
 fn own_order_of_answers() {
-    let rules = "connect default allow any\nown default allow any\nown mandatory deny name org.no.way";
+    let rules = "connect default allow any\nown default allow any\nown mandatory deny prefix org.no";
     let mut bench = Bench::with_peers(rules, 2);
     assert_eq!(bench.guard.own(None, 9, b"").answer.number(), 50);
     assert_eq!(bench.own(0, ""), 30);

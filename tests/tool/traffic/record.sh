@@ -1,6 +1,6 @@
 #!/usr/bin/env bash
-# Records an evening on a private bus anew: evening.pcap by dbus-monitor and evening.pcapng by busctl, with evening.map,
-# prefixes.policy and evening.policy. Needs root, for the packages and to be several users.
+# Records an evening on a private bus anew: evening.pcap by dbus-monitor and evening.pcapng by busctl, with evening.map and
+# evening.policy. Needs root, for the packages and to be several users.
 set -euo pipefail
 cd "$(dirname "$0")"
 work=$(mktemp -d)
@@ -97,7 +97,5 @@ sleep 0.5
 kill "$monitor" "$capture"
 wait "$monitor" "$capture" 2>/dev/null || true
 cp "$work/evening.pcap" "$work/evening.pcapng" "$work/evening.map" .
-../../../tools/busconfig --users evening.users evening.conf >prefixes.policy
-# The guard takes no rule for a prefix, so the policy is converted for the names of evening.names.
-../../../aygeshunt policy retire prefixes.policy evening.names evening.policy
+../../../tools/busconfig --users evening.users evening.conf >evening.policy
 ls -l .

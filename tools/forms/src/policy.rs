@@ -125,7 +125,7 @@ impl Policy {
         }
     }
 
-    /// The own rules for a prefix, by their positions. The guard takes no image that has one (rule 5.10).
+    /// The own rules for a prefix, by their positions.
     pub fn prefix_rules(&self) -> Vec<usize> {
         let is_prefix = |rule: &OwnRule| matches!(rule.name, NameMatcher::Prefix(_));
         (0..self.own.len()).filter(|&position| is_prefix(&self.own[position])).collect()

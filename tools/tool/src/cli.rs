@@ -76,11 +76,12 @@ pub fn say(lines: &str) {
 
 /// Writes a file that was asked for.
 pub fn write_file(path: &str, bytes: &[u8]) -> Done {
+    let told = |fault: std::io::Error| Fault::input(format!("{path}: {fault}"));
     if path == "-" {
         let mut out = std::io::stdout().lock();
         return out.write_all(bytes).and_then(|()| out.flush()).map_err(told);
     }
-    std::fs::write(path, bytes).map_err(|fault| Fault::input(format!("{path}: {fault}")))
+    std::fs::write(path, bytes).map_err(told)
 }
 
 /// How text is shown.

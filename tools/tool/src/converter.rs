@@ -1,4 +1,4 @@
-//! The proved converter: of an image whose own rules may be for prefixes it makes one for the guard, as
+//! The proved converter: of an image whose own rules may be for prefixes it makes one without such rules, as
 //! `include/aygeshunt.h` declares it.
 
 /// The longest image that there is, so a room that is long enough for every result.

@@ -1,7 +1,6 @@
 //! The policy of a capture: its rules, and the lines of the text that it was made from where that text is there.
 
 use crate::cli::{read_file, read_text, Fault};
-use crate::retire;
 use forms::policy::{Policy, Section};
 use forms::policy_text::{self, named, PolicyText};
 use forms::{image, policy_text::without_comment};
@@ -38,7 +37,7 @@ pub struct Named {
 }
 
 impl Named {
-    /// "transaction rule 8, theatre.policy line 38".
+    /// "transaction rule 8, theatre.policy line 37".
     pub fn place(&self) -> String {
         let rule = format!("{} rule {}", self.section.word(), self.position);
         match &self.line {
@@ -96,18 +95,6 @@ impl Rules {
         }
         let source = policies_beside(Path::new(capture)).into_iter().find(|source| source.is_of(lent));
         Rules { source, ..rules }
-    }
-
-    /// What is said of a policy that the guard does not take, with the line of the first rule for a prefix where the text is
-    /// there; none where it takes it.
-    pub fn warning(&self, path: &str) -> Option<String> {
-        let policy = self.policy.as_ref().ok()?;
-        let what = retire::warning(policy)?;
-        let first = policy.prefix_rules().first().and_then(|position| self.named(Section::Own, *position));
-        Some(match first.and_then(|rule| rule.line) {
-            Some((_, line)) => format!("{path}:{line}: {what}"),
-            None => format!("{path}: {what}"),
-        })
     }
 
     pub fn named(&self, section: Section, position: usize) -> Option<Named> {

@@ -5,9 +5,13 @@ use tool::answers;
 #[test]
 fn the_page_has_all_answers_once() {
     let numbers: Vec<u32> = answers::all().iter().map(|answer| answer.number).collect();
-    let refused = (30..=41).chain(50..=52);
-    let wanted: Vec<u32> =
-        [0, 10].into_iter().chain(1..=9).chain(20..=26).chain(refused).chain([53, 54, 67, 68]).collect();
+    let wanted: Vec<u32> = [0, 10]
+        .into_iter()
+        .chain(1..=9)
+        .chain(20..=26)
+        .chain(30..=41)
+        .chain([50, 51, 53, 54, 67, 68])
+        .collect();
     assert_eq!(numbers, wanted);
     for answer in answers::all() {
         assert!(

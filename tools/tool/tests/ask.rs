@@ -44,7 +44,7 @@ fn connect_and_own() {
     assert_eq!(said(&policy, "uid 0 gid 20 connect"), no);
     assert_eq!(said("", "uid 0 connect"), "no: no connect rule matches, so connect is denied");
     let yes =
-        "yes: own is allowed by own rule 1, p line 16\n    own user 1001 allow name org.theatre.Panel.Left";
+        "yes: own is allowed by own rule 0, p line 15\n    own user 1001 allow prefix org.theatre.Panel";
     assert_eq!(said(&policy, "uid 1001 own org.theatre.Panel.Left"), yes);
     assert_eq!(said(&policy, "uid 1001 own org.theatre.Panels"), "no: no own rule matches, so own is denied");
     let no = "no: own is denied by own rule 0, p line 1\n    own default deny any";
@@ -64,7 +64,7 @@ fn the_theatre() {
             .join("\n"),
         format!(
             "may uid 7 send call org.a.B.Stop at / to org.theatre.Fans?
-no: send is denied by transaction rule 8, p line 38
+no: send is denied by transaction rule 8, p line 37
     transaction mandatory deny send call name=org.theatre.Fans member=Stop
 {NO_PATH}
 {TO_WHOM}"
@@ -74,7 +74,7 @@ no: send is denied by transaction rule 8, p line 38
         said(&policy, "uid 1001 gid 20 send call Calibrate at /x to org.theatre.Sensor of uid 1004"),
         format!(
             "no: the guard answers 23, receive denied
-yes: send is allowed by transaction rule 2, p line 23
+yes: send is allowed by transaction rule 2, p line 22
     transaction group 20 allow send call name=org.theatre.Sensor
 no: no transaction rule matches, so receive is denied
 {BARE}"
@@ -83,14 +83,14 @@ no: no transaction rule matches, so receive is denied
     assert_eq!(
         said(&policy, "uid 1002 receive signal org.theatre.Sensor.Overheat at /org/theatre/Sensor from org.theatre.Sensor of uid 1004"),
         "yes: the guard answers 0, passed
-yes: send is allowed by transaction rule 5, p line 32
+yes: send is allowed by transaction rule 5, p line 31
     transaction user 1004 allow send signal path=/org/theatre/Sensor interface=org.theatre.Sensor member=Overheat
-yes: receive is allowed by transaction rule 7, p line 34
+yes: receive is allowed by transaction rule 7, p line 33
     transaction user 1002 allow receive signal name=org.theatre.Sensor"
     );
     assert_eq!(
         said(&policy, "uid 7 send call org.a.B.Hello at / to the bus"),
-        "yes: send is allowed by transaction rule 0, p line 21
+        "yes: send is allowed by transaction rule 0, p line 20
     transaction default allow send call name=org.freedesktop.DBus"
     );
 }

@@ -78,12 +78,12 @@ fn own_and_what_comes_of_it_are_told() {
     let calls = format!(
         "connect 1\nconnect 2\nown 2 a.b\npiece 1 {CALL} destination=a.b serial=3\nrelease 2 a.b\nown 2 a.b\n"
     );
-    let new = with("own user 2 deny name a.b");
+    let new = with("own user 2 deny prefix a.b");
     let (told, differing) = compared(ALL, &calls, ALL, &new);
     assert_eq!(differing, 4);
     assert_eq!(lines(&told[0])[0], "#4   peer 2 (:1.2, uid 2) asks for the name a.b");
     assert_eq!(lines(&told[0])[1], "old: 0, granted, by own rule 0: own default allow any");
-    assert_eq!(lines(&told[0])[2], "new: 32, own denied, by own rule 1: own user 2 deny name a.b");
+    assert_eq!(lines(&told[0])[2], "new: 32, own denied, by own rule 1: own user 2 deny prefix a.b");
     assert_eq!(
         lines(&told[1])[3],
         "new: 21, destination is nobody's, because peer 2 did not get that name in #4"

@@ -2,19 +2,14 @@
 //! are those that can decide.
 
 mod numbers;
-mod origins;
 
 use forms::message::{self, Message};
 use forms::policy::{Gid, Policy, Section, Uid};
 use forms::{image, policy_text};
 use numbers::Numbers;
-use origins::origins;
 use std::collections::BTreeSet;
-use tool::converter;
 use tool::guard::{Guard, Place, BY_RULE};
 use tool::policy::covering::covering;
-use tool::retire::names::{self, Listed};
-use tool::retire::plan::plan;
 
 fn policy_of(text: &str) -> Policy {
     policy_text::parse(text).expect("good text").policy
@@ -111,14 +106,11 @@ fn connect_deciders(policy: &Policy) -> BTreeSet<usize> {
     asked.filter_map(shown).collect()
 }
 
-/// The guard takes no rules for prefixes, so it is asked about the exact rules that they become for these names.
 fn own_deciders(policy: &Policy, guards: &[Guard]) -> BTreeSet<usize> {
+    let image = image_of(policy);
     let names = ["a.b", "a.b.c", "a.b.c.d", "a.bc", "x.y"];
-    let list = names.map(|name| Listed { line: 1, name: name.to_string() });
-    let image = converter::retire(&image_of(policy), &names::bytes(&list)).expect("it is converted");
     let ask = |guard: &Guard| names.map(|name| guard.clone().own(&image, 1, name.as_bytes()));
-    let made_of = origins(&plan(policy, &list));
-    guards.iter().flat_map(ask).filter_map(shown).map(|position| made_of[position]).collect()
+    guards.iter().flat_map(ask).filter_map(shown).collect()
 }
 
 /// Of two rules alone, one never decides exactly where the other one covers it.

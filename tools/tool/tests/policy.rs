@@ -23,7 +23,7 @@ fn ended(output: &Output) -> (Option<i32>, String, String) {
 #[test]
 fn to_an_image_and_back() {
     let folder = folder("policy_both_ways");
-    let rules = "connect default allow any\nown user 5 deny name org.a\ntransaction mandatory deny send call member=Stop\n";
+    let rules = "connect default allow any\nown user 5 deny prefix org.a\ntransaction mandatory deny send call member=Stop\n";
     std::fs::write(folder.join("a.policy"), format!("# a comment\n\n{rules}")).expect("a file");
     let nothing = (Some(0), String::new(), String::new());
     assert_eq!(ended(&command(&folder, &["compile", "a.policy", "a.image"])), nothing);
@@ -32,36 +32,6 @@ fn to_an_image_and_back() {
     let policy = forms::policy_text::parse(rules).expect("good text").policy;
     assert_eq!(forms::image::read(&image), Ok(policy));
     assert_eq!(command(&folder, &["compile", "a.policy", "-"]).stdout, image);
-}
-
-/// Images with rules for prefixes are stored still: they are made and shown, and the guard's answer is told beside.
-#[test]
-fn rules_for_prefixes_are_told() {
-    let folder = folder("policy_prefixes");
-    let no = "the guard answers 52, image has a prefix rule; aygeshunt policy retire makes exact rules of it";
-    let cases = [
-        ("own user 5 deny prefix org.a\n", "own rule 0 is for a prefix"),
-        (
-            "own user 5 allow prefix org.a\nown default allow any\nown user 5 deny prefix org.b\n",
-            "own rules 0 and 2 are for prefixes",
-        ),
-        (
-            "own user 5 allow prefix org.a\nown user 5 deny prefix org.b\nown user 6 deny prefix org.b\n",
-            "own rule 0 and 2 more are for prefixes",
-        ),
-    ];
-    for (rules, which) in cases {
-        std::fs::write(folder.join("a.policy"), format!("# a comment\n\n{rules}")).expect("a file");
-        let told = format!("aygeshunt: a.policy:3: {which}: {no}\n");
-        let compiled = ended(&command(&folder, &["compile", "a.policy", "a.image"]));
-        assert_eq!(compiled, (Some(0), String::new(), told));
-        let told = format!("aygeshunt: a.image: {which}: {no}\n");
-        assert_eq!(ended(&command(&folder, &["show", "a.image"])), (Some(0), rules.to_string(), told));
-    }
-    // A rule for a gid has the same number in an image, and is none.
-    std::fs::write(folder.join("a.policy"), "connect default allow gid 2\n").expect("a file");
-    let nothing = (Some(0), String::new(), String::new());
-    assert_eq!(ended(&command(&folder, &["compile", "a.policy", "a.image"])), nothing);
 }
 
 #[test]

@@ -1,6 +1,6 @@
 //! What becomes of rules for prefixes, in words and texts: hand-written lists, policies and refusals.
 
-use forms::policy::{NameMatcher, Policy};
+use forms::policy::Policy;
 use forms::{image, policy_text};
 use tool::cli::Fault;
 use tool::retire::names::{self, Listed};
@@ -8,7 +8,7 @@ use tool::retire::old::Old;
 use tool::retire::outcome::{outcome, Asked};
 use tool::retire::plan::{check, plan, size, Fate, Size};
 use tool::retire::refusal::refusal;
-use tool::retire::{text, warning};
+use tool::retire::text;
 
 fn policy_of(text: &str) -> Policy {
     policy_text::parse(text).expect("good text").policy
@@ -187,16 +187,6 @@ fn refusals_that_the_tool_does_not_understand() {
         assert!(fault.message.starts_with(&format!("refused with {answer}, ")), "{}", fault.message);
         assert!(fault.message.ends_with(", and this tool finds nothing wrong"), "{}", fault.message);
     }
-}
-
-#[test]
-fn only_rules_for_prefixes_are_warned_of() {
-    let plain = policy_of("connect default allow gid 2\nown default allow name a.b\nown default allow any");
-    assert_eq!(warning(&plain), None);
-    let mut prefix = plain.clone();
-    prefix.own[1].name = NameMatcher::Prefix("a.b".to_string());
-    let told = "own rule 1 is for a prefix: the guard answers 52, image has a prefix rule; aygeshunt policy retire makes exact rules of it";
-    assert_eq!(warning(&prefix).as_deref(), Some(told));
 }
 
 /// A library that made something else would be found out, and nothing written.

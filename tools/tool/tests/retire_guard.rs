@@ -3,7 +3,6 @@
 mod numbers;
 mod origins;
 
-use forms::capture::Call;
 use forms::names::is_under;
 use forms::policy::{Context, Gid, NameMatcher, OwnRule, Policy, Uid, Verdict};
 use forms::{image, policy_text};
@@ -69,7 +68,7 @@ fn decider(policy: &Policy, uid: u32, gids: &[u32], name: &str) -> Option<usize>
     matching.max_by_key(|&position| (policy.own[position].context.rank(), position))
 }
 
-/// The guard's answer under a new image, and the old rule behind it.
+/// The guard's answer under an image, and the old rule behind it.
 fn asked(image: &[u8], origins: &[usize], (uid, gids): (u32, &[u32]), name: &str) -> (bool, Option<usize>) {
     let mut guard = Guard::new();
     let gids: Vec<Gid> = gids.iter().map(|&gid| Gid(gid)).collect();
@@ -95,6 +94,8 @@ fn verdicts_of_listed_names_stay() {
             for (uid, gids) in ACCOUNTS {
                 let by = decider(&old, uid, gids, name);
                 let wanted = by.is_some_and(|position| old.own[position].verdict == Verdict::Allow);
+                let before = asked(&image_of(&old), &[0, 1, 2, 3, 4, 5], (uid, gids), name);
+                assert_eq!(before, (wanted, by), "{name} of {uid} {gids:?}\n{}", policy_text::show(&old));
                 let found = asked(&new, &origins, (uid, gids), name);
                 assert_eq!(found, (wanted, by), "{name} of {uid} {gids:?}\n{}", policy_text::show(&old));
                 became += usize::from(by.is_some_and(|by| matches!(plan.fates[by], Fate::Becomes(..))));
@@ -142,36 +143,4 @@ fn limits() {
     assert_eq!(sized(&full(last)).bytes, 65_536);
     assert_eq!(bytes_of(&full(last)).map(|new| new.len()), Ok(65_536));
     assert_eq!((sized(&full(last + 1)).bytes, bytes_of(&full(last + 1))), (65_537, Err(53)));
-}
-
-/// Every call that is lent the image answers 52, and the others do not.
-#[test]
-fn the_guard_takes_no_rule_for_a_prefix() {
-    let open = image_of(&policy_of("connect default allow any\nown default allow any"));
-    for rule in ["own user 7 deny prefix a.b", "own default allow name a.b\nown default allow prefix a.b"] {
-        let old = image_of(&policy_of(&format!("connect default allow any\n{rule}")));
-        let mut guard = Guard::new();
-        let peer = guard.connect(&open, Uid(7), &[]).value;
-        let name = b"a.b".to_vec();
-        let lent = [
-            Call::Connect { uid: Uid(7), gids: Vec::new() },
-            Call::Own { peer, name: name.clone() },
-            Call::Piece { peer, bytes: vec![b'x'; 20] },
-            Call::Own { peer: 99, name: Vec::new() },
-        ];
-        for call in &lent {
-            let place = guard.make(&old, call);
-            assert_eq!((place.answer, place.taken, place.decider, place.position), (52, 0, 0, 0), "{call:?}");
-        }
-        assert_eq!(guard.make(&old, &Call::Tick { tick: 0, limit: 0 }).answer, 0);
-        assert_eq!(guard.make(&old, &Call::Release { peer, name }).answer, 35);
-        assert_eq!(guard.make(&old, &Call::Disconnect { peer }).answer, 0);
-        assert_eq!(guard.make(&old, &Call::Start).answer, 0);
-        let cut = &old[..old.len() - 1];
-        assert_eq!(guard.connect(cut, Uid(7), &[]).answer, 50);
-        let new = retire(&old, b"\x03a.b").expect("it is converted");
-        assert_eq!(guard.connect(&new, Uid(7), &[]).answer, 0);
-    }
-    let gid = image_of(&policy_of("connect default allow gid 2"));
-    assert_eq!(Guard::new().connect(&gid, Uid(7), &[Gid(2)]).answer, 0);
 }

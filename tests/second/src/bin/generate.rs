@@ -3,7 +3,7 @@
 use second::generate::{conversions, generate, generate_pair, Mode};
 use std::process::ExitCode;
 
-const USAGE: &str = "usage: generate SEED CALLS OUT.capture [mixed|full|image|prefix|layout|batches|split]
+const USAGE: &str = "usage: generate SEED CALLS OUT.capture [mixed|full|image|layout|batches|split]
        generate SEED COUNT OUT.conversions conversions
 Mode split writes OUT.whole.capture and OUT.split.capture.";
 

@@ -2,10 +2,9 @@
 
 use super::random::Random;
 use super::world::World;
-use super::{faults, images, messages, policies, prefixes};
+use super::{faults, images, messages, policies};
 use crate::capture::Call;
 use crate::header::{DESTINATION, SIGNAL};
-use crate::lent::accepted;
 use crate::message::Message;
 use crate::names::unique_name_of;
 use crate::policy::Policy;
@@ -14,16 +13,14 @@ use crate::replay::lent_policy;
 /// The most messages that a piece is meant to have.
 const MOST: usize = 80;
 
-/// Mostly random policies; some let everything pass, and a few images are bad or have rules about
-/// prefixes.
+/// Mostly random policies; some let everything pass, and a few images are bad.
 pub fn policy_and_image(random: &mut Random) -> (Option<Policy>, Vec<u8>) {
     match random.below(20) {
         0..=1 => {
             let image = images::broken(random);
             (lent_policy(&image), image)
         }
-        2..=3 => prefixes::policy_and_image(random),
-        4..=7 => {
+        2..=5 => {
             let (policy, image) = policies::open_image(random);
             (Some(policy), image)
         }
@@ -34,10 +31,10 @@ pub fn policy_and_image(random: &mut Random) -> (Option<Policy>, Vec<u8>) {
     }
 }
 
-/// A step of the world in which a peer that sends something sends a lot. Under an image that is
-/// refused there are only strangers.
+/// A step of the world in which a peer that sends something sends a lot. Under a bad image there
+/// are only strangers.
 pub fn step(world: &mut World) {
-    let stranger = if accepted(world.policy.as_ref()).is_err() { 50 } else { 5 };
+    let stranger = if world.policy.is_none() { 50 } else { 5 };
     if world.random.chance(stranger) {
         let given = world.guard.last_number();
         let peer = world.random.pick(&[0, given.wrapping_add(1), u32::MAX, given.saturating_sub(17)]);

@@ -26,10 +26,8 @@ pub fn half_open(random: &mut Random) -> Policy {
         policy.connect = ids[..4].iter().map(connect).collect();
     }
     if random.chance(50) {
-        let mut names = vocabulary::NAMES;
-        random.shuffle(&mut names);
-        let own = |name: &&str| OwnRule { context, verdict, name: NameMatcher::Name(name.to_string()) };
-        policy.own = names[..5].iter().map(own).collect();
+        let name = NameMatcher::Prefix(random.pick(&["org.foo", "org.a.x", "org.foo.bar"]).to_string());
+        policy.own = vec![OwnRule { context, verdict, name }];
     }
     // What send has no rule for never comes to receive, so only one of them leaves a gap.
     let gap = if random.chance(75) { Direction::Receive } else { Direction::Send };

@@ -9,9 +9,9 @@ use crate::message::Message;
 use crate::names::unique_name_of;
 use crate::policy::{Gid, Uid};
 
-/// Fills each limit and tries one beyond it, and of peers two.
+/// Fills each limit and tries one beyond it.
 pub fn fill(world: &mut World) {
-    for _ in world.guard.peers().count()..SLOTS + 2 {
+    for _ in world.guard.peers().count()..=SLOTS {
         let gids = (0..MAX_GIDS).map(|_| Gid(vocabulary::id(&mut world.random))).collect();
         let uid = Uid(vocabulary::id(&mut world.random));
         world.call(Call::Connect { uid, gids });

@@ -1,7 +1,7 @@
 //! Breaking good images, in every way that answer 50 knows.
 
 use super::random::Random;
-use super::{prefixes, vocabulary};
+use super::{stored, vocabulary};
 use crate::header::{INTERFACE, MEMBER, PATH};
 use crate::image::{self, CONNECT_SIZE, HEADER_LENGTH, MAX_LENGTH, OWN_SIZE, TRANSACTION_SIZE};
 use crate::image_write;
@@ -38,8 +38,8 @@ fn put(image: &mut [u8], at: usize, value: u32) {
 
 /// An image with an own rule about a prefix that breaks another rule.
 pub fn broken_with_prefix(random: &mut Random) -> Vec<u8> {
-    let mut policy = sample_policy(random);
-    policy.own.push(prefixes::rule(random));
+    let mut policy = image::read(&sample(random)).unwrap_or_default();
+    policy.own.push(stored::prefix_rule(random));
     let good = image_write::write(&policy).unwrap_or_default();
     match random.chance(30) {
         true => break_header(random, good),
@@ -47,19 +47,15 @@ pub fn broken_with_prefix(random: &mut Random) -> Vec<u8> {
     }
 }
 
+/// A good image with rules in every section and a literal in every place.
 fn sample(random: &mut Random) -> Vec<u8> {
-    image_write::write(&sample_policy(random)).unwrap_or_default()
-}
-
-/// A policy with rules in every section and a literal in every place.
-fn sample_policy(random: &mut Random) -> Policy {
     let mut policy = super::policies::open();
     for _ in 0..random.between(1, 3) {
         let name = NameMatcher::Name(vocabulary::name(random));
         policy.own.push(OwnRule { context: Context::Group(Gid(5)), verdict: Verdict::Allow, name });
         policy.transaction.push(full_rule(random));
     }
-    policy
+    image_write::write(&policy).unwrap_or_default()
 }
 
 fn full_rule(random: &mut Random) -> TransactionRule {

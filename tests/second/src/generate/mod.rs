@@ -9,7 +9,6 @@ mod images;
 mod interfaces;
 mod messages;
 mod policies;
-mod prefixes;
 pub mod random;
 pub mod spelling;
 mod split;
@@ -37,8 +36,6 @@ pub enum Mode {
     Full,
     /// A policy image that breaks a rule.
     BadImage,
-    /// A policy image with own rules about prefixes.
-    Prefix,
     /// A capture whose layout is broken.
     BadLayout,
     /// Pieces of many messages.
@@ -51,7 +48,6 @@ impl Mode {
             "mixed" => Some(Mode::Mixed),
             "full" => Some(Mode::Full),
             "image" => Some(Mode::BadImage),
-            "prefix" => Some(Mode::Prefix),
             "layout" => Some(Mode::BadLayout),
             "batches" => Some(Mode::Batches),
             _ => None,
@@ -67,7 +63,6 @@ fn policy_and_image(random: &mut Random, mode: Mode) -> (Option<Policy>, Vec<u8>
             let image = images::broken(random);
             (lent_policy(&image), image)
         }
-        Mode::Prefix => prefixes::policy_and_image(random),
         Mode::Full => good(policies::open_image(random)),
         Mode::Mixed | Mode::BadLayout => good(policies::policy_and_image(random)),
         Mode::Batches => batches::policy_and_image(random),
@@ -93,10 +88,6 @@ pub fn generate(seed: u64, calls: usize, mode: Mode) -> Vec<u8> {
             batches::step(&mut world);
             continue;
         }
-        if mode == Mode::Prefix {
-            prefixes::step(&mut world);
-            continue;
-        }
         if let Some(peer) = world.step() {
             world.send_piece(peer);
         }
@@ -107,7 +98,7 @@ pub fn generate(seed: u64, calls: usize, mode: Mode) -> Vec<u8> {
     let file = capture::write(&Capture { image, calls: world.calls });
     match mode {
         Mode::BadLayout => with_broken_layout(&mut world.random, &file),
-        Mode::Mixed | Mode::Full | Mode::BadImage | Mode::Prefix | Mode::Batches => file,
+        Mode::Mixed | Mode::Full | Mode::BadImage | Mode::Batches => file,
     }
 }
 

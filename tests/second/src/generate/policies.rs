@@ -44,19 +44,10 @@ fn policy(random: &mut Random) -> Policy {
     policy.connect.extend((0..connect).map(|_| connect_rule(random)));
     policy.own.extend((0..own).map(|_| own_rule(random)));
     policy.transaction.extend((0..transaction).map(|_| transaction_rule(random)));
-    // A policy that is open for some has more than one rule of a kind to begin with.
+    // A policy that is open for some has more than one rule about connecting to begin with.
     policy.connect.truncate(MAX_CONNECT);
-    policy.own.truncate(MAX_OWN);
     add_interface_rules(random, &mut policy);
     deciders::rearrange(random, &mut policy);
-    policy
-}
-
-/// A policy that is open apart from a few rules.
-pub fn small(random: &mut Random) -> Policy {
-    let mut policy = open();
-    policy.own.extend((0..random.below(4)).map(|_| own_rule(random)));
-    policy.transaction.extend((0..random.below(3)).map(|_| transaction_rule(random)));
     policy
 }
 
@@ -137,10 +128,10 @@ fn connect_rule(random: &mut Random) -> ConnectRule {
 }
 
 fn own_rule(random: &mut Random) -> OwnRule {
-    // Rules about prefixes would have nearly every call refused; captures of their own hold them.
     let name = match random.below(10) {
         0 => NameMatcher::Any,
-        _ => NameMatcher::Name(vocabulary::name(random)),
+        1..=5 => NameMatcher::Name(vocabulary::name(random)),
+        _ => NameMatcher::Prefix(vocabulary::name(random)),
     };
     OwnRule { context: context(random), verdict: verdict(random), name }
 }

@@ -63,6 +63,13 @@ fn context(random: &mut Random) -> Context {
     random.pick(&[Context::Default, Context::Group(Gid(id)), Context::User(Uid(id)), Context::Mandatory])
 }
 
+/// A rule about a prefix that is among the names of captures.
+pub fn prefix_rule(random: &mut Random) -> OwnRule {
+    let verdict = verdict(random);
+    let name = NameMatcher::Prefix(vocabulary::name(random));
+    OwnRule { context: context(random), verdict, name }
+}
+
 fn own_rule(random: &mut Random, prefixes: usize) -> OwnRule {
     let name = match random.chance(prefixes) {
         true => NameMatcher::Prefix(name(random)),

@@ -9,7 +9,7 @@ use crate::names::BUS_NAME;
 /// Users and groups share their numbers on purpose: they must not be mixed up.
 pub const IDS: [u32; 6] = [0, 5, 6, 1000, 1001, u32::MAX];
 
-pub const NAMES: [&str; 9] = [
+const NAMES: [&str; 9] = [
     "org.a.x",
     "org.b.y",
     "org.foo",

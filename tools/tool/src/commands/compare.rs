@@ -1,7 +1,7 @@
 //! The command `compare`.
 
-use crate::cli::{read_file, say, Done, Fault, Out, Words, MOST_CAPTURE};
-use crate::compare::{Comparison, Ruled};
+use crate::cli::{read_file, Done, Fault, Out, Words, MOST_CAPTURE};
+use crate::compare::Comparison;
 use crate::progress::Progress;
 use crate::rules::Rules;
 use forms::capture;
@@ -15,7 +15,7 @@ The peers' numbers are those that the capture's own policy gave. Where OLD or NE
 there; where one lets a peer in that the capture does not have, nothing more is known of it. A refusal that comes of an earlier one says
 so: 30 of a peer that was not let connect, 21 of a name that was not given, 24 of a reply whose call was not passed or whose wait expired. A
 signal to everybody differs where it reaches other peers, and of those the rules are told; a tick where it ends other waits. Rules that
-decide alike are no difference. A policy with own rules for prefixes has 52 everywhere, which standard error says too. CAPTURE may be -.
+decide alike are no difference. CAPTURE may be -.
 
   aygeshunt compare examples/theatre/theatre.capture examples/theatre/theatre.policy new.policy
   aygeshunt busconfig new.conf > new.policy && aygeshunt compare evening.capture theatre.policy new.policy
@@ -26,7 +26,7 @@ pub fn run(words: &[String], out: &mut Out) -> Done {
     let [path, old, new] = words.rest.as_slice() else {
         return Err(Fault::usage("a capture and two policies are wanted"));
     };
-    let (old, new) = (ruled(old)?, ruled(new)?);
+    let (old, new) = (Rules::of_text(old)?, Rules::of_text(new)?);
     let reading = capture::read(&read_file(path, MOST_CAPTURE)?);
     let own = Rules::of_image(&reading.capture.image);
     // A layout that is broken in its image has no calls, and is told as what it is.
@@ -46,13 +46,4 @@ pub fn run(words: &[String], out: &mut Out) -> Done {
     drop(progress);
     out.line(&format!("{} of {} calls differ", comparison.differing, comparison.made))?;
     told.map_or(Ok(()), Err)
-}
-
-/// A policy that the guard does not take is told once; its calls are all 52 then.
-fn ruled(path: &str) -> Result<Ruled, Fault> {
-    let ruled = Rules::of_text(path)?;
-    if let Some(warning) = ruled.0.warning(path) {
-        say(&format!("aygeshunt: {warning}"));
-    }
-    Ok(ruled)
 }

@@ -1,12 +1,13 @@
 //! The command `import`.
 
-use crate::cli::{read_file, read_text, say, write_file, Done, Fault, Out, Words, MOST_CAPTURE};
+use crate::cli::{read_file, read_text, write_file, Done, Fault, Out, Words, MOST_CAPTURE};
 use crate::import::pcap::PcapFault;
 use crate::import::peers::{parse_map, Peer, Peers};
 use crate::import::{counted, import, Imported};
 use crate::rules::Rules;
 use forms::capture;
 use forms::policy_text::TextFault;
+use std::io::Write;
 use std::path::Path;
 
 pub const HELP: &str = "usage: aygeshunt import PCAP --policy FILE [--peers MAP] [-o CAPTURE]
@@ -15,7 +16,7 @@ pub const HELP: &str = "usage: aygeshunt import PCAP --policy FILE [--peers MAP]
 Turns traffic of a real bus, as `dbus-monitor --pcap` and `busctl capture` record it, into a capture: the calls that a host would have made
 on the guard under a policy. `explain`, `compare` and `replay` take it then. PCAP may be - for standard input.
 
-  --policy FILE  the policy's text, without own rules for prefixes
+  --policy FILE  the policy's text
   --peers MAP    who the peers are, where the recording does not say it; a line of the map says all of its peer
   --list         only prints the map of what is known, ready to be edited
   -o CAPTURE     where the capture goes; else PCAP with the ending .capture, which must not be there yet
@@ -79,9 +80,6 @@ impl Target {
             None => beside(path)?,
         };
         let (rules, image) = Rules::of_text(policy)?;
-        if let Some(warning) = rules.warning(policy) {
-            return Err(Fault::input(format!("{warning}. Nobody would connect, so nothing is imported")));
-        }
         Ok(Target { file, rules, image })
     }
 }
@@ -105,7 +103,7 @@ fn read_map(path: &str) -> Result<Vec<Peer>, Fault> {
     })
 }
 
-/// What a person has to know goes to standard error.
+/// What a person has to know goes to standard error; where that is closed, the capture is there all the same.
 fn tell(imported: &Imported, file: &str) {
     let mut lines = imported.told.clone();
     lines.push(format!(
@@ -118,5 +116,5 @@ fn tell(imported: &Imported, file: &str) {
     for (why, count) in &imported.left_out {
         lines.push(format!("left out: {count} {}", why.words()));
     }
-    say(&lines.join("\n"));
+    let _ = writeln!(std::io::stderr(), "{}", lines.join("\n"));
 }

@@ -34,7 +34,7 @@ const COMMANDS: [Command; 7] = [
     },
     Command {
         name: "policy",
-        about: "policies: text to image and back, rules that never decide, questions, prefixes retired",
+        about: "policies: text to image and back, rules that never decide, questions",
         help: policy::HELP,
         run: policy::run,
     },

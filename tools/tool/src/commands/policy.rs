@@ -1,11 +1,11 @@
-//! The command `policy`: texts to images and back, rules that never decide, questions, and rules that are retired.
+//! The command `policy`: texts to images and back, rules that never decide, and questions.
 
 use super::retire;
-use crate::cli::{read_file, read_text, say, write_file, Done, Fault, Out, Words, MOST_TEXT};
+use crate::cli::{read_file, read_text, write_file, Done, Fault, Out, Words, MOST_TEXT};
 use crate::policy::lint::{lint, Finding};
 use crate::policy::{ask, question};
-use crate::rules::Rules;
-use forms::policy_text::{self, PolicyText};
+use forms::policy_text::PolicyText;
+use forms::{image, policy_text};
 
 pub const HELP: &str = "\
 usage: aygeshunt policy compile FILE.policy OUT.image
@@ -17,8 +17,7 @@ usage: aygeshunt policy compile FILE.policy OUT.image
 A policy is a text with one rule on a line; an image is what the guard is lent. A FILE of - is standard input, an OUT of -
 standard output. Faults of a text are told as FILE:LINE: what, with status 1.
 
-compile  writes the image of a policy. Where an own rule is for a prefix it says on standard error that the guard takes no such
-         image (52); so does show.
+compile  writes the image of a policy.
 
            aygeshunt policy compile examples/theatre/theatre.policy /tmp/theatre.image
 
@@ -29,8 +28,7 @@ show     writes the rules of an image, so that compiling them gives the same rul
 
 lint     tells every fault of a text, and every rule that never decides because one of higher precedence matches whatever
          it matches. Mandatory rules go before those for a user, these before those for a group, and default rules come
-         last; within one context the later rule goes first. Own rules for prefixes are told too. Status 1 where
-         anything was found.
+         last; within one context the later rule goes first. Status 1 where anything was found.
 
            aygeshunt policy lint examples/theatre/theatre.policy
 
@@ -52,9 +50,8 @@ ask      answers a question with the proved guard and says which rule decides. T
            aygeshunt policy ask examples/theatre/theatre.policy uid 1003 gid 30 send call org.theatre.Fans.GetSpeed \\
              at /org/theatre/Fans to org.theatre.Fans of uid 1002 gid 20 7
 
-retire   makes of a policy with own rules for prefixes, to which the guard answers 52, one without: each such rule becomes an
-         exact rule for every name of the list that it covers, in its place. OLD is a text or an image, and NEW gets the same
-         form; of a text all other lines stay. NEW may be OLD. NAMES is a text with a well-known name on each line, and # begins
+retire   makes of a policy with own rules for prefixes one without: each such rule becomes an exact rule for every name of the
+         list that it covers, in its place. OLD is a text or an image, and NEW gets the same form; of a text all other lines stay. NEW may be OLD. NAMES is a text with a well-known name on each line, and # begins
          a comment: every name that a service may own. The proved library converts. What became of each own rule is told, and
          which names no prefix covers; on standard error where NEW is -. A refusal has status 1 and writes nothing:
 
@@ -95,27 +92,15 @@ fn parsed(from: &str) -> Result<PolicyText, Fault> {
 }
 
 fn compile(from: &str, to: &str) -> Done {
-    let (rules, image) = Rules::of_text(from)?;
-    write_file(to, &image)?;
-    warn(&rules, from);
-    Ok(())
+    let image =
+        image::write(&parsed(from)?.policy).map_err(|what| Fault::input(format!("{from}: {what}")))?;
+    write_file(to, &image)
 }
 
 fn show(from: &str, out: &mut Out) -> Done {
-    let rules = Rules::of_image(&read_file(from, MOST_TEXT)?);
-    let policy =
-        rules.policy.as_ref().map_err(|breach| Fault::input(format!("{from}: bad image: {breach}")))?;
-    out.text(&policy_text::show(policy))?;
-    out.flush()?;
-    warn(&rules, from);
-    Ok(())
-}
-
-/// Images with rules for prefixes are stored still, so they are made and shown; that the guard takes none is told.
-fn warn(rules: &Rules, from: &str) {
-    if let Some(warning) = rules.warning(from) {
-        say(&format!("aygeshunt: {warning}"));
-    }
+    let policy = image::read(&read_file(from, MOST_TEXT)?)
+        .map_err(|breach| Fault::input(format!("{from}: bad image: {breach}")))?;
+    out.text(&policy_text::show(&policy))
 }
 
 /// Every file is told about; one that cannot be read ends it.

@@ -1,4 +1,4 @@
-//! `policy retire`: a policy whose own rules are for prefixes becomes one that the guard takes.
+//! `policy retire`: a policy whose own rules are for prefixes becomes one without such rules.
 
 use crate::cli::{read_file, say, text_of, write_file, Done, Fault, Out};
 use crate::converter;

@@ -1,7 +1,6 @@
 //! The command `script`: the text of captures, to captures and back.
 
-use crate::cli::{read_file, read_text, say, write_file, Done, Fault, Out, Words, MOST_CAPTURE};
-use crate::rules::Rules;
+use crate::cli::{read_file, read_text, write_file, Done, Fault, Out, Words, MOST_CAPTURE};
 use crate::script_show;
 use forms::{capture, script};
 use std::path::Path;
@@ -14,7 +13,7 @@ A script is a capture as text: a policy, and the calls that are made on the guar
 input, an OUT of - standard output.
 
 compile  writes the capture of a script. Files that the script names count from its folder. A fault is told as
-         FILE:LINE: what, with status 1. Rules to which the guard answers 52 are told on standard error.
+         FILE:LINE: what, with status 1.
 
            aygeshunt script compile examples/theatre/theatre.script /tmp/theatre.capture
 
@@ -60,11 +59,7 @@ fn compile(from: &str, to: &str) -> Done {
     let text = read_text(from)?;
     let compiled = script::parse(&text, &files)
         .map_err(|fault| Fault::input(format!("{from}:{}: {}", fault.line, fault.what)))?;
-    write_file(to, &capture::write(&compiled))?;
-    if let Some(warning) = Rules::of_image(&compiled.image).warning(from) {
-        say(&format!("aygeshunt: {warning}"));
-    }
-    Ok(())
+    write_file(to, &capture::write(&compiled))
 }
 
 fn show(from: &str, out: &mut Out) -> Done {

@@ -6,7 +6,6 @@ pub mod world;
 use crate::cli::{Fault, Style};
 use crate::explain::story::Story;
 use crate::explain::Teller;
-use crate::retire;
 use crate::rules::Rules;
 use forms::capture::{Call, Capture};
 use world::{Made, World};
@@ -25,19 +24,15 @@ pub struct Comparison<'a> {
 }
 
 impl<'a> Comparison<'a> {
-    /// `own` are the rules of the capture's own image, which has to be one that the guard takes: under another nobody has a number.
+    /// `own` are the rules of the capture's own image, which has to be a good one: under a bad one nobody has a number.
     pub fn new(
         capture: &'a Capture,
         own: &'a Rules,
         old: &'a Ruled,
         new: &'a Ruled,
     ) -> Result<Comparison<'a>, Fault> {
-        let refused = match &own.policy {
-            Err(what) => Some(format!("the capture's own image is bad: {what}")),
-            Ok(policy) => retire::warning(policy).map(|what| format!("the capture's own image: {what}")),
-        };
-        if let Some(message) = refused {
-            return Err(Fault::input(message));
+        if let Err(what) = &own.policy {
+            return Err(Fault::input(format!("the capture's own image is bad: {what}")));
         }
         Ok(Comparison {
             own: Teller::new(capture, own),

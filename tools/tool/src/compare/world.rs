@@ -215,7 +215,7 @@ fn destination_peer(story: &Story) -> Option<u32> {
     }
 }
 
-/// "transaction rule 8, theatre.policy line 38: transaction mandatory deny ..".
+/// "transaction rule 8, theatre.policy line 37: transaction mandatory deny ..".
 fn rule_words(rule: &Named) -> String {
     format!("{}: {}", rule.place(), rule.text)
 }

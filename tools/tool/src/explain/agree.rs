@@ -4,9 +4,7 @@ use super::story::{Receiver, Story};
 use super::Teller;
 use crate::answers::{is_broken, is_dropped};
 use crate::book::{awaits, is_reply, Destination, Wait};
-use crate::converter::BAD_IMAGE;
 use crate::head::{Head, Outcome};
-use crate::retire::PREFIX_RULE;
 use forms::capture::Call;
 use forms::message::{ByteOrder, METHOD_CALL};
 use forms::names::{self, Form};
@@ -14,14 +12,13 @@ use forms::names::{self, Form};
 /// What the tool would have said instead, where that is not what the guard said.
 pub fn difference(teller: &Teller, story: &Story) -> Option<String> {
     let answer = story.place.answer;
-    let by_image = Some(answer).filter(|answer| matches!(*answer, BAD_IMAGE | PREFIX_RULE));
-    if by_image != image_answer(teller, story.call) {
+    if (answer == 50) != (teller.rules.policy.is_err() && takes_image(story.call)) {
         return Some(format!(
             "the guard says {answer}, this tool reads the image as {}",
             image_words(teller)
         ));
     }
-    if by_image.is_some() {
+    if answer == 50 {
         return None;
     }
     if (answer == 30) != (story.peer.is_none() && story.call.peer().is_some()) {
@@ -41,21 +38,11 @@ fn takes_image(call: &Call) -> bool {
     matches!(call, Call::Connect { .. } | Call::Own { .. } | Call::Piece { .. })
 }
 
-/// What a call answers before all else for the image that it takes, as the tool reads it.
-fn image_answer(teller: &Teller, call: &Call) -> Option<u32> {
-    match &teller.rules.policy {
-        _ if !takes_image(call) => None,
-        Err(_) => Some(BAD_IMAGE),
-        Ok(policy) if !policy.prefix_rules().is_empty() => Some(PREFIX_RULE),
-        Ok(_) => None,
-    }
-}
-
 fn image_words(teller: &Teller) -> &'static str {
-    match &teller.rules.policy {
-        Err(_) => "bad",
-        Ok(policy) if !policy.prefix_rules().is_empty() => "good, with a rule for a prefix",
-        Ok(_) => "good, without a rule for a prefix",
+    if teller.rules.policy.is_ok() {
+        "good"
+    } else {
+        "bad"
     }
 }
 

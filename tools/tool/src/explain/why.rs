@@ -6,11 +6,10 @@ use super::Teller;
 use crate::book::{awaits, is_reply, Book, Destination, Ending, Expiry, Peer, Pending, Wait, BUS_NAME};
 use crate::guard::TO_SLOTS;
 use crate::head::Head;
-use crate::retire::PREFIX_RULE;
 use crate::rules::Named;
 use forms::capture::Call;
 use forms::names::{self, Form};
-use forms::policy::{Policy, Section};
+use forms::policy::Section;
 use forms::policy_text::named;
 
 /// "peer 2 (:1.2, uid 1002, owns org.theatre.Fans)".
@@ -25,7 +24,6 @@ pub fn peer_words(peer: &Peer) -> String {
 pub fn sentences(teller: &Teller, story: &Story) -> Vec<String> {
     match (story.call, story.place.answer) {
         (_, 50) => bad_image(teller),
-        (_, PREFIX_RULE) => prefix_rules(teller),
         (call, 30) => vec![no_peer(&teller.book, call.peer().unwrap_or(0))],
         (Call::Connect { gids, .. }, 37) => {
             vec![format!("{} gids were given, and 16 are the most", gids.len())]
@@ -47,23 +45,6 @@ fn bad_image(teller: &Teller) -> Vec<String> {
         Err(what) => vec![format!("the policy image is bad: {what}")],
         Ok(_) => Vec::new(),
     }
-}
-
-/// The first rule for a prefix, how many more there are, and the way out.
-fn prefix_rules(teller: &Teller) -> Vec<String> {
-    let positions = teller.rules.policy.as_ref().map(Policy::prefix_rules).unwrap_or_default();
-    let first = positions.first().and_then(|position| teller.rules.named(Section::Own, *position));
-    let Some(rule) = first else { return Vec::new() };
-    let more = match positions.len() {
-        1 => "",
-        2 => ", as is one more",
-        count => &format!(", as are {} more", count - 1),
-    };
-    vec![
-        format!("for a prefix is {}{more}", rule.place()),
-        format!("  {}", rule.text),
-        "aygeshunt policy retire makes exact rules of it".to_string(),
-    ]
 }
 
 fn no_peer(book: &Book, number: u32) -> String {

@@ -118,7 +118,7 @@ fn advice(story: &Story) -> Option<String> {
     Some(format!("rule {}; look at: {}", answer.rule, answer.look_at))
 }
 
-/// "22, send denied, by transaction rule 8, theatre.policy line 38; 128 bytes taken".
+/// "22, send denied, by transaction rule 8, theatre.policy line 37; 128 bytes taken".
 fn answer_line(story: &Story) -> String {
     let mut line = format!("{}, {}", story.place.answer, done_words(story));
     line += &match &story.decided {

@@ -8,7 +8,6 @@ use super::turned::all_sends_denied;
 use crate::answers::meaning;
 use crate::cli::Fault;
 use crate::guard::{Guard, Place, BY_RULE};
-use crate::retire::{what_to_do, PREFIX_RULE};
 use forms::image;
 use forms::message::{self, Message};
 use forms::policy::{Context, Direction, MessageType, Policy, Section, TransactionRule, Uid, Verdict};
@@ -46,7 +45,6 @@ pub fn ask(file: &str, text: &PolicyText, question: &Question) -> Result<Vec<Str
     let asked = Asked { file, text, image };
     let mut lines = vec![question.to_string()];
     lines.extend(match question {
-        _ if asked.is_refused() => asked.refused(),
         Question::Connect(who) => asked.connect(who),
         Question::Own(who, name) => asked.own(who, name)?,
         Question::Transfer(transfer) => asked.transfer(transfer)?,
@@ -55,34 +53,6 @@ pub fn ask(file: &str, text: &PolicyText, question: &Question) -> Result<Vec<Str
 }
 
 impl Asked<'_> {
-    /// Whether the guard takes no image of this policy, whatever the call: a rule of it is for a prefix.
-    fn is_refused(&self) -> bool {
-        Guard::new().connect(&self.image, Uid(0), &[]).answer == PREFIX_RULE
-    }
-
-    /// The first rule for a prefix, and what to do.
-    fn refused(&self) -> Vec<String> {
-        let no = format!("no: {}", what_to_do());
-        let first = self.text.policy.prefix_rules().first().copied();
-        let told = first.and_then(|position| {
-            let rule = show_rule(&self.text.policy, Section::Own, position);
-            let line = self.text.line(Section::Own, position)?;
-            Some([
-                format!("own rule {position}, {} line {line}, is for a prefix", self.file_words()),
-                format!("    {rule}"),
-            ])
-        });
-        [no].into_iter().chain(told.into_iter().flatten()).collect()
-    }
-
-    fn file_words(&self) -> &str {
-        if self.file == "-" {
-            "standard input"
-        } else {
-            self.file
-        }
-    }
-
     fn connect(&self, who: &Account) -> Vec<String> {
         let place = Guard::new().connect(&self.image, who.uid, &who.gids);
         self.plain("connect", Section::Connect, CONNECT_DENIED, place)
@@ -111,7 +81,7 @@ impl Asked<'_> {
         let Some((position, line)) = place else {
             return vec![format!("{answer}: no {kind} rule matches, so {what} is {verdict}")];
         };
-        let file = self.file_words();
+        let file = if self.file == "-" { "standard input" } else { self.file };
         vec![
             format!("{answer}: {what} is {verdict} by {kind} rule {position}, {file} line {line}"),
             format!("    {}", show_rule(&self.text.policy, section, position)),

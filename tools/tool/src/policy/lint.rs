@@ -1,7 +1,6 @@
-//! What is wrong with a policy's text, which of its rules never decide, and which the guard takes no more.
+//! What is wrong with a policy's text, and which of its rules never decide.
 
 use super::covering::covering;
-use crate::retire::what_to_do;
 use forms::image;
 use forms::policy::Section;
 use forms::policy_text::{parse_all, show_rule, PolicyText};
@@ -26,7 +25,6 @@ pub fn lint(text: &str) -> Linted {
     let mut findings: Vec<Finding> =
         faults.into_iter().map(|fault| Finding { line: Some(fault.line), what: fault.what }).collect();
     findings.extend(too_large(&read));
-    findings.extend(prefix_rules(&read));
     for section in Section::ALL {
         findings.extend(never_deciding(&read, section));
     }
@@ -52,15 +50,6 @@ fn too_large(read: &PolicyText) -> Vec<Finding> {
         Err(what) if found.is_empty() => vec![Finding { line: None, what }],
         _ => found,
     }
-}
-
-/// Each own rule for a prefix: the guard takes no policy that has one.
-fn prefix_rules(read: &PolicyText) -> Vec<Finding> {
-    let told = |position| Finding {
-        line: read.line(Section::Own, position),
-        what: format!("own rule {position} is for a prefix: {}", what_to_do()),
-    };
-    read.policy.prefix_rules().into_iter().map(told).collect()
 }
 
 /// Every rule is held to every other, so a section that is too long is left alone.
