@@ -92,11 +92,10 @@ fn changed(rt: &impl Print, what: &[u8], big: bool, at: usize, byte: u8) -> io::
 // The call with another array length.
 fn resized(rt: &impl Print, what: &[u8], big: bool, array: u8) -> io::Result<()> {
     if big {
-        changed(rt, what, big, 15, array)?;
+        changed(rt, what, big, 15, array)
     } else {
-        changed(rt, what, big, 12, array)?;
+        changed(rt, what, big, 12, array)
     }
-    Ok(())
 }
 
 fn fixed_parts(rt: &impl Print, big: bool) -> io::Result<()> {

@@ -16,7 +16,7 @@ fn show(rt: &impl Print, label: &[u8], image: &[u8], n: usize) -> io::Result<()>
         match image::check(&image[0..n]) {
             image::Outcome::Good => rt.print(": 0\n")?,
             image::Outcome::Bad => rt.print(": 50\n")?,
-        };
+        }
     }
     Ok(())
 }
