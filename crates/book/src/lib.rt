@@ -1,1 +1,2 @@
 // The model of every list of calls. There is no code here.
+#![tactic(auto)]

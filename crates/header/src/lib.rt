@@ -1,8 +1,7 @@
 // The head of a D-Bus message: what a reader of it hands back. The definitions of specs/ say which head is which; the crate `reader` reads them.
-
-// Where the parts of the fixed part stand; behind it begins the array of fields.
 #![tactic(auto)]
 
+// Where the parts of the fixed part stand; behind it begins the array of fields.
 pub const KIND_BYTE: usize = 1;
 
 pub const FLAGS_BYTE: usize = 2;

@@ -1,5 +1,5 @@
-// A thin layer over the array of header fields: a struct that holds the lent head and a position. The borrow checker covers no function
-// over such a struct, so `new`, `next` and `field_at` are proved by hand; `element_in` does the work.
+// A thin layer over the array of header fields: a struct that holds the lent head and a position. `new`, `next` and `field_at` take it apart; `element_in`
+// does the work.
 ghost use Rattle.std.specs.Prelude.{◌≡◌};
 ghost use Rattle.reader.specs.Promises.{Inside, element_in};
 
