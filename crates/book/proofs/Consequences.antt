@@ -44,7 +44,7 @@ use Rattle.book.proofs.Runs.{reached_holds, held_state, held_slot}
 use Rattle.book.proofs.Messages.{parted, tail_behind, good_broken}
 use Rattle.rules.specs.Places.{is_judged}
 use Rattle.book.proofs.Never.{book_faults}
-use Rattle.sound.proofs.Answers.{offer_faults}
+use Rattle.sound.proofs.Pieces.{offer_faults}
 use Rattle.book.proofs.Expiry.{one_young, ended_fewer, tick_peer, tick_resolve}
 use Rattle.book.proofs.Waiting.{piece_other, piece_full}
 use Rattle.book.proofs.Counted.{one_slot}

@@ -14,7 +14,8 @@ use Rattle.rules.specs.declared.Owned.{Owned}
 use Rattle.rules.specs.declared.Taken.{Taken}
 use Rattle.wire.proofs.Tests.{choice}
 use Rattle.sound.proofs.Numbers.{broken_number}
-use Rattle.sound.proofs.Answers.{connect_modest, own_modest, release_modest, piece_modest, disconnect_modest, tick_modest}
+use Rattle.sound.proofs.Answers.{connect_modest, own_modest, release_modest, disconnect_modest, tick_modest}
+use Rattle.sound.proofs.Pieces.{piece_modest}
 use Rattle.book.specs.Book.{current, books}
 use Rattle.book.specs.Lists.{Call, starts, connects, claims, releases, offers, leaves, ticks, model_step, answers, number_of, Never51}
 use Rattle.book.proofs.Images.{image_refuses}

@@ -1,6 +1,6 @@
 -- What a call answers on good memory, over any streams whose faults are 1 to 9: at most 41; and from 30 on it leaves the state as it was and reports its
 -- answer and who decided alone (rules 8.1 and 8.10).
-use mathlib.Core.Path.{◌≡◌, refl, ap}
+use mathlib.Core.Path.{◌≡◌, ap}
 use mathlib.Core.Bool.{cond}
 use mathlib.Core.List.{List}
 use Prim.Native.Nat.{ℕ, ◌≤◌, ◌<◌}
@@ -8,30 +8,25 @@ use native.Mathlib.Omega.{arith}
 use lib.Dec.{ltb}
 use lib.ListN.{length}
 use borrow.Author.Tests.{leb-true}
-use Rattle.wire.proofs.Texts.{impossible}
 use Rattle.policy.specs.Names.{owns}
 use Rattle.policy.specs.Decisions.{connect_decision, own_decision}
-use Rattle.stream.specs.Stream.{Verdict, more, broken, whole, Streams, offer}
-use Rattle.rules.specs.State.{Slot, free, peer, Peer, State, is_free, is_peer, first_by}
+use Rattle.stream.specs.Stream.{Streams}
+use Rattle.rules.specs.State.{Slot, free, peer, State, is_free, is_peer, first_by}
 use Rattle.rules.specs.Addresses.{ownable}
-use Rattle.rules.specs.Judge.{judged}
 use Rattle.rules.specs.Calls.{Step, stays, no_connect, connect_by, connect_at, connect, own_by, own_new, own, own_at, slot_at, release, release_at}
-use Rattle.rules.specs.Calls.{no_piece, offered, piece_at, piece, no_gone, disconnect, disconnect_at, no_tick, tick}
+use Rattle.rules.specs.Calls.{no_gone, disconnect, disconnect_at, no_tick, tick}
 use Rattle.rules.specs.declared.Connected.{Connected}
 use Rattle.rules.specs.declared.Owned.{Owned}
-use Rattle.rules.specs.declared.Taken.{Taken}
 use Rattle.rules.specs.declared.Gone.{Gone}
 use Rattle.rules.specs.declared.Ticked.{Ticked}
 use Rattle.wire.proofs.Tests.{choice}
-use Rattle.sound.proofs.Octets.{offer_judged}
-use Rattle.sound.proofs.Numbers.{judged_few, judged_proper}
 
 -- `say` is the answer of a report, `bare` what is left of it where nothing but its answer and who decided may stand in it
 pub record Modest {S R : Type 0} (say : R → ℕ) (bare : R → R) (s : State S) (z : Step S R) : Type 0 where
   pub most : say z.result ≤ 41
   pub still : 30 ≤ say z.result → z ≡ stays s (bare z.result)
 
-low : {S R : Type 0} {say : R → ℕ} {bare : R → R} {s : State S} (z : Step S R) → say z.result < 30 → Modest say bare s z
+pub low : {S R : Type 0} {say : R → ℕ} {bare : R → R} {s : State S} (z : Step S R) → say z.result < 30 → Modest say bare s z
 low z h = record { most = omega (arith, h); still = λ k. absurd (omega (arith, h, k)) }
 
 -- ---- connect and disconnect
@@ -106,31 +101,3 @@ module _ {S : Type 0} (s : State S) where
   pub release_modest : (n : ℕ) (name : List ℕ) → Modest (λ (x : ℕ). x) (λ (x : ℕ). x) s (release s n name)
   unfolding release
   release_modest n name = let i = first_by (is_peer n) s.slots in release_at_lem i (slot_at s i) name
-
--- ---- piece, whose refusals from 30 on show nobody
-
-abbrev pub bare_taken : Taken → Taken
-bare_taken r = no_piece r.judgement.answer
-
-module _ {S : Type 0} (O : Streams S) (faults : (t : S) (a : ℕ) → O.judge t ≡ broken a → (1 ≤ a) × (a ≤ 9)) where
-  pub offer_faults : (t : S) (p : List ℕ) (a : ℕ) → (offer O t p).verdict ≡ broken a → (1 ≤ a) × (a ≤ 9)
-  offer_faults t p a e = faults (offer O t p).stream a (offer_judged O (broken a) (λ q. impossible cc) t p e)
-
-  module _ (s : State S) where
-    abbrev Takes : Step S Taken → Type 0
-    Takes = Modest (λ r. r.judgement.answer) bare_taken s
-
-    offered_modest : (image : List ℕ) (z : State S) (i : ℕ) (p : Peer S) (n : ℕ) (v : Verdict)
-        → ((a : ℕ) → v ≡ broken a → (1 ≤ a) × (a ≤ 9)) → Takes (offered image z i p n v)
-    offered_modest image z i p n more f = low (offered image z i p n more) (omega arith)
-    offered_modest image z i p n (broken a) f = low (offered image z i p n (broken a)) (omega (arith, (f a refl).1))
-    offered_modest image z i p n (whole h x) f =
-        low (offered image z i p n (whole h x)) (omega (arith, judged_few (judged image z i p h x).judgement.answer (judged_proper image z i p x h)))
-
-    piece_at_lem : (image : List ℕ) (i : ℕ) (y : Slot S) (bytes : List ℕ) → Takes (piece_at O image s i y bytes)
-    piece_at_lem image i free bytes = search leb-true
-    piece_at_lem image i (peer p) bytes = search (choice Takes, offered_modest, offer_faults p.stream bytes, leb-true)
-
-    pub piece_modest : (image : List ℕ) (n : ℕ) (bytes : List ℕ) → Modest (λ (r : Taken). r.judgement.answer) bare_taken s (piece O image s n bytes)
-    unfolding piece
-    piece_modest image n bytes = let i = first_by (is_peer n) s.slots in piece_at_lem image i (slot_at s i) bytes

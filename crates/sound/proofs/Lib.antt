@@ -10,5 +10,6 @@ pub mod Keep
 pub mod Numbers
 pub mod Octets
 pub mod Answers
+pub mod Pieces
 pub mod Refusals
 pub mod Goodness

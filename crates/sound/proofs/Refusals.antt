@@ -26,8 +26,9 @@ use Rattle.memory.specs.Good.{good}
 use Rattle.memory.specs.Calls.{MemoryStep, Did, stored, unchanged, on_memory, on_image, start_on, connect_on, own_on, release_on, piece_on, disconnect_on, tick_on}
 use Rattle.memory.proofs.Good.{good_is}
 use Rattle.sound.proofs.Numbers.{broken_number}
-use Rattle.sound.proofs.Answers.{Modest, bare_connected, bare_taken, bare_gone, bare_ticked, connect_modest, own_modest, release_modest}
-use Rattle.sound.proofs.Answers.{piece_modest, disconnect_modest, tick_modest}
+use Rattle.sound.proofs.Answers.{Modest, bare_connected, bare_gone, bare_ticked, connect_modest, own_modest, release_modest}
+use Rattle.sound.proofs.Answers.{disconnect_modest, tick_modest}
+use Rattle.sound.proofs.Pieces.{bare_taken, piece_modest}
 
 -- ---- any call
 
