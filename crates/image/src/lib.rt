@@ -4,7 +4,6 @@
 ghost use Rattle.std.specs.Prelude.{◌≡◌, ◌+◌, ◌*◌, ◌≤◌, ◌<◌, length};
 ghost use Rattle.wire.specs.Words.{word_at};
 ghost use Rattle.wire.specs.declared.Order.TheVariants.{Little};
-ghost use Rattle.names.specs.Classes.{class_table};
 ghost use Rattle.image.specs.Image.{sections_at, rule_count_at, subject_word, span_width, name_span, rule_size};
 ghost use Rattle.image.specs.Rules.{span_at, text_of, rule_from};
 ghost use Rattle.image.specs.Good.{good_counts, good_sections, good_header, good_string, good_or_any, good_owned, good_strings, good_subject, good_matcher};
@@ -128,8 +127,8 @@ fn has_header(image: &[u8]) -> bool
 // ---- strings
 
 // The string whose offset and length stand at `at` lies inside the string area, which starts at `strings`, and is a name of the form.
-fn is_string(table: &[u8; 256], form: Form, image: &[u8], strings: usize, at: usize) -> bool
-    requires { (at + span_width ≤ length image.now) × Strings image.now strings × (table.now ≡ class_table) }
+fn is_string(form: Form, image: &[u8], strings: usize, at: usize) -> bool
+    requires { (at + span_width ≤ length image.now) × Strings image.now strings }
     ensures { result ≡ good_string form image.now (span_at image.now at) }
 {
     let from = strings + word(image, at);
@@ -137,29 +136,29 @@ fn is_string(table: &[u8; 256], form: Form, image: &[u8], strings: usize, at: us
     if image.len() < to {
         return false;
     }
-    names::is_valid_by(table, form, &image[from..to])
+    names::is_valid(form, &image[from..to])
 }
 
-fn is_string_or_any(table: &[u8; 256], form: Form, image: &[u8], strings: usize, at: usize) -> bool
-    requires { (at + span_width ≤ length image.now) × Strings image.now strings × (table.now ≡ class_table) }
+fn is_string_or_any(form: Form, image: &[u8], strings: usize, at: usize) -> bool
+    requires { (at + span_width ≤ length image.now) × Strings image.now strings }
     ensures { result ≡ good_or_any form image.now (span_at image.now at) }
 {
     if word(image, at + LEN_OFFSET) == 0 {
         return word(image, at) == 0;
     }
-    is_string(table, form, image, strings, at)
+    is_string(form, image, strings, at)
 }
 
 // The own rule at `at` is about any name, or cites a name.
-fn is_owned(table: &[u8; 256], image: &[u8], strings: usize, at: usize) -> bool
-    requires { (at + rule_size Own ≤ length image.now) × Strings image.now strings × (table.now ≡ class_table) }
+fn is_owned(image: &[u8], strings: usize, at: usize) -> bool
+    requires { (at + rule_size Own ≤ length image.now) × Strings image.now strings }
     ensures { result ≡ good_owned image.now (rule_from image.now at) }
 {
     let name = at + NAME_SPAN;
     if image[at + MATCHER_BYTE] == 0 {
         return (word(image, name) == 0) & (word(image, name + LEN_OFFSET) == 0);
     }
-    is_string(table, Form::WellKnown, image, strings, name)
+    is_string(Form::WellKnown, image, strings, name)
 }
 
 // ---- rules
@@ -194,27 +193,27 @@ fn is_connect(image: &[u8], from: usize, i: usize) -> bool
         & ((1 <= image[at + MATCHER_BYTE]) | (word(image, at + SUBJECT_WORD) == 0))
 }
 
-fn is_own(table: &[u8; 256], image: &[u8], strings: usize, from: usize, i: usize) -> bool
-    requires { RuleAt image.now Own from i × Strings image.now strings × (table.now ≡ class_table) }
+fn is_own(image: &[u8], strings: usize, from: usize, i: usize) -> bool
+    requires { RuleAt image.now Own from i × Strings image.now strings }
     ensures { result ≡ good_rule Own image.now i }
 {
     let at = from + OWN_SIZE * i;
-    is_subject(image, at) & is_matcher(image, at) & is_owned(table, image, strings, at)
+    is_subject(image, at) & is_matcher(image, at) & is_owned(image, strings, at)
 }
 
 // The four strings of the transaction rule at `at`: each means any, or is a name of its form.
-fn has_strings(table: &[u8; 256], image: &[u8], strings: usize, at: usize) -> bool
-    requires { (at + rule_size Transaction ≤ length image.now) × Strings image.now strings × (table.now ≡ class_table) }
+fn has_strings(image: &[u8], strings: usize, at: usize) -> bool
+    requires { (at + rule_size Transaction ≤ length image.now) × Strings image.now strings }
     ensures { result ≡ good_strings image.now (rule_from image.now at) }
 {
-    is_string_or_any(table, Form::WellKnown, image, strings, at + NAME_SPAN)
-        & is_string_or_any(table, Form::Path, image, strings, at + PATH_SPAN)
-        & is_string_or_any(table, Form::Interface, image, strings, at + INTERFACE_SPAN)
-        & is_string_or_any(table, Form::Member, image, strings, at + MEMBER_SPAN)
+    is_string_or_any(Form::WellKnown, image, strings, at + NAME_SPAN)
+        & is_string_or_any(Form::Path, image, strings, at + PATH_SPAN)
+        & is_string_or_any(Form::Interface, image, strings, at + INTERFACE_SPAN)
+        & is_string_or_any(Form::Member, image, strings, at + MEMBER_SPAN)
 }
 
-fn is_transaction(table: &[u8; 256], image: &[u8], strings: usize, from: usize, i: usize) -> bool
-    requires { RuleAt image.now Transaction from i × Strings image.now strings × (table.now ≡ class_table) }
+fn is_transaction(image: &[u8], strings: usize, from: usize, i: usize) -> bool
+    requires { RuleAt image.now Transaction from i × Strings image.now strings }
     ensures { result ≡ good_rule Transaction image.now i }
 {
     let at = from + TRANSACTION_SIZE * i;
@@ -224,28 +223,21 @@ fn is_transaction(table: &[u8; 256], image: &[u8], strings: usize, from: usize, 
         & (image[at + DIRECTION_BYTE] <= 1)
         & ((of == 0) | (of == 1) | (of == 4))
     {
-        has_strings(table, image, strings, at)
+        has_strings(image, strings, at)
     } else {
         false
     }
 }
 
 // Rule i of the section, whose rules stand from `from` on.
-fn is_rule(
-    table: &[u8; 256],
-    section: Section,
-    image: &[u8],
-    strings: usize,
-    from: usize,
-    i: usize,
-) -> bool
-    requires { RuleAt image.now section from i × Strings image.now strings × (table.now ≡ class_table) }
+fn is_rule(section: Section, image: &[u8], strings: usize, from: usize, i: usize) -> bool
+    requires { RuleAt image.now section from i × Strings image.now strings }
     ensures { result ≡ good_rule section image.now i }
 {
     match section {
         Section::Connect => is_connect(image, from, i),
-        Section::Own => is_own(table, image, strings, from, i),
-        Section::Transaction => is_transaction(table, image, strings, from, i),
+        Section::Own => is_own(image, strings, from, i),
+        Section::Transaction => is_transaction(image, strings, from, i),
     }
 }
 
@@ -273,8 +265,8 @@ fn count_at(section: Section) -> usize
 }
 
 // Every rule of the section.
-fn are_rules(table: &[u8; 256], section: Section, image: &[u8]) -> bool
-    requires { GoodImageHeader image.now × (table.now ≡ class_table) }
+fn are_rules(section: Section, image: &[u8]) -> bool
+    requires { GoodImageHeader image.now }
     ensures { result ≡ good_section section image.now }
 {
     let strings = word(image, STRING_OFFSET);
@@ -283,24 +275,23 @@ fn are_rules(table: &[u8; 256], section: Section, image: &[u8]) -> bool
     let mut i = word(image, at);
     while 0 < i {
         i -= 1;
-        if !is_rule(table, section, image, strings, from, i) {
+        if !is_rule(section, image, strings, from, i) {
             return false;
         }
     }
     true
 }
 
-// The whole image is tested, whatever its caller goes on to read. The table of classes is built once and lent for each string.
+// The whole image is tested, whatever its caller goes on to read.
 pub fn check(image: &[u8]) -> Outcome
     ensures { result ≡ outcome_of image.now }
 {
     if !has_header(image) {
         return Outcome::Bad;
     }
-    let table = names::class_table();
-    if are_rules(&table, Section::Connect, image)
-        & are_rules(&table, Section::Own, image)
-        & are_rules(&table, Section::Transaction, image)
+    if are_rules(Section::Connect, image)
+        & are_rules(Section::Own, image)
+        & are_rules(Section::Transaction, image)
     {
         Outcome::Good
     } else {

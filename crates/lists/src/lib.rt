@@ -22,14 +22,13 @@ pub fn name_at(list: &[u8], at: usize) -> &[u8]
 fn are_names(list: &[u8]) -> bool
     ensures { result ≡ good_names list.now }
 {
-    let table = names::class_table();
     let mut at = 0;
     while at < list.len() {
         let to = at + 1 + list[at] as usize;
         if list.len() < to {
             return false;
         }
-        if !names::is_valid_by(&table, Form::WellKnown, &list[at + 1..to]) {
+        if !names::is_valid(Form::WellKnown, &list[at + 1..to]) {
             return false;
         }
         at = to;

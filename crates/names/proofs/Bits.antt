@@ -1,12 +1,7 @@
 -- The bits of two numbers together.
-use mathlib.Core.Path.{◌≡◌, refl, sym, ap₂, ◌∙◌}
-use mathlib.Core.Bool.{Bool, true, false, ◌&&◌}
-use Prim.Native.Nat.{ℕ, zero, suc, ◌+◌, ◌*◌, ◌/◌, ◌%◌, ◌≤◌, ◌<◌, min}
-use native.Mathlib.Omega.{arith}
-use native.Mathlib.Nat.{mod-lt}
-use lib.Dec.{eqb}
-use lib.Bits.{bit_and, bit_or, and_step, and_zero_r, or_shr, or_mod}
-use borrow.Author.Tests.{ne_eqb}
+use Rattle.std.proofs.Common.{◌≡◌, refl, sym, ap₂, ◌∙◌, Bool, true, false, ◌&&◌, ℕ, zero, suc, ◌+◌, ◌*◌, ◌/◌, ◌%◌, ◌≤◌, ◌<◌, min, arith, mod-lt, eqb}
+use Rattle.std.proofs.Common.{bit_and, bit_or, ne_eqb}
+use lib.Bits.{and_step, and_zero_r, or_shr, or_mod}
 use Rattle.names.specs.Scan.{clear}
 
 -- what holds of both digits holds of each

@@ -1,8 +1,6 @@
 -- Which byte may follow which, by the classes that a scan looks up and by what it asks of a byte behind a separator.
-use mathlib.Core.Path.{◌≡◌, refl, ◌∙◌}
-use mathlib.Core.Bool.{Bool, true, false, cond, not, ◌&&◌, ◌||◌, beq, false≢true}
-use Prim.Native.Nat.{ℕ, ◌+◌}
-use lib.Dec.{leb, eqb}
+use Rattle.std.proofs.Common.{◌≡◌, refl, ◌∙◌, Bool, true, false, cond, not, ◌&&◌, ◌||◌, ℕ, ◌+◌, leb, eqb}
+use mathlib.Core.Bool.{beq, false≢true}
 use Rattle.wire.specs.Lists.{every}
 use Rattle.wire.specs.Bytes.{byte}
 use Rattle.names.specs.declared.Form.{Form}

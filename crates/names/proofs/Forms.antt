@@ -1,14 +1,8 @@
 -- Form by form, the tests that the code makes are those of the definition.
-use mathlib.Core.Path.{◌≡◌, refl, sym, ◌∙◌}
-use mathlib.Core.Bool.{Bool, true, false, not, ◌&&◌, and-true, and-false, and_assoc, or-false, false≢true}
-use mathlib.Core.List.{List, [], ◌∷◌}
-use Prim.Native.Nat.{ℕ, suc, ◌+◌, ◌-◌, ◌≤◌, ◌<◌}
-use native.Mathlib.Omega.{arith}
-use lib.Dec.{eqb}
-use lib.Bits.{bit_and, bit_or}
-use lib.ListN.{length, drop, get_or}
-use borrow.Author.Rules.{rules}
-use borrow.Author.Tests.{le-leb, lt-leb, eq-eqb, ne_eqb, eqb-true}
+use Rattle.std.proofs.Common.{◌≡◌, refl, sym, ◌∙◌, Bool, true, false, not, ◌&&◌, List, [], ◌∷◌, ℕ, suc, ◌+◌, ◌-◌, ◌≤◌, ◌<◌, arith, eqb, bit_and}
+use Rattle.std.proofs.Common.{bit_or, length, drop, get_or, rules, le-leb, eq-eqb, ne_eqb, eqb-true}
+use mathlib.Core.Bool.{and-true, and-false, and_assoc, or-false, false≢true}
+use borrow.Author.Tests.{lt-leb}
 use Rattle.wire.specs.Lists.{every}
 use Rattle.wire.specs.Bytes.{byte}
 use Rattle.wire.proofs.Texts.{both_first}

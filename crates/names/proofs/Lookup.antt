@@ -1,13 +1,8 @@
 -- The table of classes, held to the name rules: a test that antt computes over every form and kind of byte, and the law that makes it a rule of every byte.
-use mathlib.Core.Path.{◌≡◌, refl, ◌∙◌}
-use mathlib.Core.Bool.{Bool, true, false, ◌&&◌, ◌||◌, beq, false≢true}
-use mathlib.Core.List.{List, [], ◌∷◌}
-use Prim.Native.Nat.{ℕ, zero, suc, ◌+◌, ◌<◌}
-use native.Mathlib.Omega.{arith}
-use native.Mathlib.Nat.{add-zero, zero-add, suc-add, add-suc}
-use lib.ListN.{length, get_or}
+use Rattle.std.proofs.Common.{◌≡◌, refl, ◌∙◌, Bool, true, false, ◌&&◌, ◌||◌, List, [], ◌∷◌, ℕ, zero, suc, ◌+◌, ◌<◌, arith, add-zero, zero-add}
+use Rattle.std.proofs.Common.{suc-add, add-suc, length, get_or}
+use mathlib.Core.Bool.{beq, false≢true}
 use Rattle.wire.specs.Lists.{every}
-use Rattle.wire.specs.Bytes.{byte}
 use Rattle.wire.proofs.Texts.{both_first, both_second}
 use Rattle.names.specs.declared.Form.{Form}
 use Rattle.names.specs.declared.Form.TheVariants.{Interface, WellKnown, Unique, BusName, Member, Path}
@@ -83,6 +78,6 @@ class_right form b h =
     rw (looked b h, character_told form (told b))
     (agreed (λ f k. clear (no_character f) (kind_class k)) character_kind refl form (byte_kind b))
 
--- the table that a caller lends
-pub lent : (t : List ℕ) (b : ℕ) → t ≡ class_table → b < 256 → get_or t b 0 ≡ class_of b
-lent t b e h = rw e (looked b h)
+-- what is looked up in a table of the classes
+pub looked_up : (t : List ℕ) (b : ℕ) → t ≡ class_table → b < 256 → get_or t b 0 ≡ class_of b
+looked_up t b e h = rw e (looked b h)

@@ -1,14 +1,8 @@
 -- A name and a prefix: the same length, or a dot after the prefix.
-use mathlib.Core.Path.{◌≡◌, refl, sym, ◌∙◌}
-use mathlib.Core.Bool.{Bool, false, ◌&&◌, and-true, and-false, and_assoc, or-false}
-use mathlib.Core.List.{List, [], ◌∷◌, ◌++◌}
-use Prim.Native.Nat.{ℕ, ◌-◌, ◌≤◌, ◌<◌}
-use native.Mathlib.Omega.{arith}
+use Rattle.std.proofs.Common.{◌≡◌, refl, sym, ◌∙◌, Bool, false, ◌&&◌, List, [], ◌∷◌, ◌++◌, ℕ, ◌-◌, ◌≤◌, ◌<◌, arith, eqb, length, take, drop, get_or}
+use Rattle.std.proofs.Common.{rules, eq-eqb, ne_eqb}
+use mathlib.Core.Bool.{and-true, and-false, and_assoc, or-false}
 use native.Mathlib.Nat.{sub-zero}
-use lib.Dec.{eqb}
-use lib.ListN.{length, take, drop, get_or}
-use borrow.Author.Rules.{rules}
-use borrow.Author.Tests.{eq-eqb, ne_eqb}
 use Rattle.wire.specs.Bytes.{byte, bytes, same}
 use Rattle.wire.proofs.Texts.{same_length}
 use Rattle.names.specs.Namespace.{is_prefix, in_namespace}

@@ -1,12 +1,7 @@
 -- The rule of elements, as a rule of neighbours and as what a scan asks: once for every form.
-use mathlib.Core.Path.{◌≡◌, refl, sym, ◌∙◌}
-use mathlib.Core.Bool.{Bool, true, false, cond, not, ◌&&◌, ◌||◌, and-false, or-false}
-use mathlib.Core.List.{List, [], ◌∷◌}
-use Prim.Native.Nat.{ℕ, suc}
-use native.Mathlib.Omega.{arith}
-use lib.Dec.{eqb}
-use lib.ListN.{length}
-use borrow.Author.Tests.{eq-eqb, eqb-true, ne_eqb}
+use Rattle.std.proofs.Common.{◌≡◌, refl, sym, ◌∙◌, Bool, true, false, cond, not, ◌&&◌, ◌||◌, List, [], ◌∷◌, ℕ, suc, arith, eqb, length, eq-eqb}
+use Rattle.std.proofs.Common.{eqb-true, ne_eqb}
+use mathlib.Core.Bool.{and-false, or-false}
 use Rattle.wire.specs.Lists.{every}
 use Rattle.names.specs.declared.Form.{Form}
 use Rattle.names.specs.Names.{digit, leads, separator, character, cut, pieces, element, elements}

@@ -1,14 +1,8 @@
 -- Runs of a text: a test of a range of indexes, the classes of a run of bytes together, and the pairs of a run.
-use mathlib.Core.Path.{◌≡◌, refl, sym, ap₂, ◌∙◌}
-use mathlib.Core.Bool.{Bool, true, ◌&&◌, and-true, and_assoc}
-use mathlib.Core.List.{List}
-use Prim.Native.Nat.{ℕ, zero, suc, ◌+◌, ◌-◌, ◌≤◌, ◌<◌}
-use native.Mathlib.Omega.{arith}
-use native.Mathlib.Nat.{add-sub_cancel_left, add-zero, zero-add, suc-add, add-suc}
-use native.Mathlib.Numerals.{add-one}
-use lib.Bits.{bit_or}
-use lib.ListN.{length, get_or}
-use borrow.Author.Rules.{rules}
+use Rattle.std.proofs.Common.{◌≡◌, refl, sym, ap₂, ◌∙◌, Bool, true, ◌&&◌, List, ℕ, zero, suc, ◌+◌, ◌-◌, ◌≤◌, ◌<◌, arith, add-zero, zero-add, suc-add}
+use Rattle.std.proofs.Common.{add-suc, add-one, bit_or, length, get_or, rules}
+use mathlib.Core.Bool.{and-true, and_assoc}
+use native.Mathlib.Nat.{add-sub_cancel_left}
 use Rattle.wire.proofs.Ranges.{Divides, range_twice}
 use Rattle.names.specs.Classes.{class_of}
 use Rattle.names.specs.Scan.{clear, ranged, spaced, spaced_run, Gathers}
@@ -61,46 +55,18 @@ pub gathers_twice : {s : List ℕ} {a k m n p q : ℕ} → Gathers s a k p → G
 gathers_twice {s} {a} {k} {m} {n} {p} {q} g h x y z =
     record { none = λ j. clear_both j p q ∙ rw (g.none j, h.none j) (twice (λ i. clear j (class_of (get_or s i 0))) a m k n x y z) }
 
-pub record Gathering (s : List ℕ) (at n i seen : ℕ) : Type 0 where
-  pub high : i ≤ n
-  pub inside : at + n ≤ length s
-  pub so_far : Gathers s at i seen
-
-module _ {s : List ℕ} {at n : ℕ} where
-  pub gathering_begin : at + n ≤ length s → Gathering s at n 0 0
-  gathering_begin h = record { high = omega arith; inside = h; so_far = gathers_none }
-
-  module _ {i seen : ℕ} (z : Gathering s at n i seen) where
-    pub gathering_more : i < n → {k : ℕ} → k ≡ class_of (get_or s (at + i) 0) → Gathering s at n (i + 1) (bit_or seen k)
-    gathering_more h e = record { high = omega arith; inside = z.inside; so_far = gathers_more z.so_far e }
-
-    pub gathering_end : n ≤ i → Gathers s at n seen
-    gathering_end h = let e : i ≡ n = omega arith in rw (← e) z.so_far
-
-pub ruleset gathering = (gathering_begin, gathering_more, gathering_end, rules)
+pub ruleset gathering = (gathers_none, gathers_more, rules)
 
 -- ---- the pairs of a run, with no exit
 
-pub record Pairs (high : ℕ) (s : List ℕ) (at n i : ℕ) (good : Bool) : Type 0 where
-  pub low : i ≤ n
-  pub inside : at + n < length s
-  pub so_far : good ≡ spaced_run high s at i
-
-module _ {high : ℕ} {s : List ℕ} {at n : ℕ} where
-  pub pairs_begin : at + n < length s → Pairs high s at n 0 true
+module _ (high : ℕ) (s : List ℕ) (at : ℕ) where
+  pub pairs_none : true ≡ spaced_run high s at 0
   unfolding ranged
-  pairs_begin h = record { low = omega arith; inside = h; so_far = refl }
+  pairs_none = refl
 
-  module _ {i : ℕ} {good : Bool} (z : Pairs high s at n i good) where
-    pub pairs_more : i < n → {r : Bool} → r ≡ spaced high (get_or s (at + i) 0) (get_or s (at + i + 1) 0) → Pairs high s at n (i + 1) (good && r)
-    pairs_more h e =
-        record {
-          low = omega arith;
-          inside = z.inside;
-          so_far = ap₂ ◌&&◌ z.so_far (e ∙ rw (add-one (at + i))) ∙ sym (ranged_more (λ j. spaced high (get_or s j 0) (get_or s (suc j) 0)) at i);
-        }
+  pub pairs_more : (i : ℕ) {good r : Bool} → good ≡ spaced_run high s at i → r ≡ spaced high (get_or s (at + i) 0) (get_or s (at + i + 1) 0)
+      → good && r ≡ spaced_run high s at (i + 1)
+  pairs_more i h e =
+      ap₂ ◌&&◌ h (e ∙ rw (add-one (at + i))) ∙ sym (ranged_more (λ j. spaced high (get_or s j 0) (get_or s (suc j) 0)) at i)
 
-    pub pairs_end : n ≤ i → good ≡ spaced_run high s at n
-    pairs_end h = let e : i ≡ n = omega arith in rw e at z.so_far
-
-pub ruleset pairing = (pairs_begin, pairs_more, pairs_end, rules)
+pub ruleset pairing = (pairs_none, pairs_more, rules)

@@ -1,17 +1,12 @@
 -- What a scan sees of a text, and what that says of its elements.
-use mathlib.Core.Path.{◌≡◌, refl, ap, ap₂, ◌∙◌}
-use mathlib.Core.Bool.{Bool, true, false, not, ◌&&◌, ◌||◌, and-false, or-false}
-use mathlib.Core.List.{List, [], ◌∷◌}
-use Prim.Native.Nat.{ℕ, zero, suc, ◌-◌}
-use native.Mathlib.Omega.{arith}
-use lib.Dec.{leb, eqb}
-use lib.ListN.{length, get_or}
-use borrow.Author.Tests.{le-leb, eq-eqb, eqb-true}
+use Rattle.std.proofs.Common.{◌≡◌, refl, ap, ap₂, ◌∙◌, Bool, true, false, not, ◌&&◌, ◌||◌, List, [], ◌∷◌, ℕ, zero, suc, ◌-◌, arith, leb, eqb, length}
+use Rattle.std.proofs.Common.{get_or, le-leb, eq-eqb, eqb-true}
+use mathlib.Core.Bool.{and-false, or-false}
 use Rattle.wire.specs.Lists.{every}
 use Rattle.wire.proofs.Tests.{clash, refute}
 use Rattle.wire.specs.Bytes.{byte}
 use Rattle.names.specs.declared.Form.{Form}
-use Rattle.names.specs.Names.{digit, leads, separator, character, cut, pieces, elements}
+use Rattle.names.specs.Names.{digit, leads, separator, character, cut, pieces}
 use Rattle.names.specs.Classes.{dot_bit, class_of}
 use Rattle.names.specs.Scan.{clear, ranged, spaced, spaced_run, clear_run, all_bits, Walks}
 use Rattle.names.proofs.Follow.{many, high_of, near, cleared, cleared_is, no_dot}

@@ -1,10 +1,6 @@
 -- Two elements or more, as a scan sees them: from the first byte on, or from a byte before it.
-use mathlib.Core.Path.{◌≡◌, refl, sym, ap, ◌∙◌}
-use mathlib.Core.Bool.{Bool, true, false, not, ◌&&◌, and-true, and-false, or-true, or-false}
-use mathlib.Core.List.{List, ◌∷◌}
-use Prim.Native.Nat.{ℕ}
-use lib.Dec.{leb, eqb}
-use lib.ListN.{length}
+use Rattle.std.proofs.Common.{◌≡◌, refl, sym, ap, ◌∙◌, Bool, true, false, not, ◌&&◌, List, ◌∷◌, ℕ, leb, eqb, length}
+use mathlib.Core.Bool.{and-true, and-false, or-true, or-false}
 use Rattle.wire.specs.Lists.{every}
 use Rattle.wire.specs.Bytes.{byte}
 use Rattle.wire.proofs.Texts.{both_first, both_second}

@@ -1,6 +1,6 @@
 -- The worked examples hold of the name rules: one statement, which antt computes.
-use mathlib.Core.Path.{◌≡◌, refl}
-use mathlib.Core.Bool.{true, beq}
+use Rattle.std.proofs.Common.{◌≡◌, refl, true}
+use mathlib.Core.Bool.{beq}
 use Rattle.names.specs.Names.{starts_with, well_known, unique, valid_name}
 use Rattle.wire.specs.Lists.{agrees}
 use Rattle.wire.specs.Bytes.{same}

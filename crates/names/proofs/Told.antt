@@ -1,11 +1,8 @@
 -- The tests of a byte, by its kind: what the name rules ask of a byte they ask of its kind.
-use mathlib.Core.Path.{◌≡◌, refl, sym, ◌∙◌}
-use mathlib.Core.Logic.{◌⊎◌, inl, inr}
-use mathlib.Core.Bool.{Bool, true, false, ◌&&◌, ◌||◌, and-false, false≢true}
-use Prim.Native.Nat.{ℕ, ◌≤◌}
-use native.Mathlib.Omega.{arith}
-use lib.Dec.{leb, eqb}
-use borrow.Author.Tests.{le-leb, lt-leb, leb-true, ne_eqb, eqb-true, eqb-false}
+use Rattle.std.proofs.Common.{◌≡◌, refl, sym, ◌∙◌, ◌⊎◌, inl, inr, Bool, true, false, ◌&&◌, ◌||◌, ℕ, ◌≤◌, arith, leb, eqb, le-leb, leb-true, ne_eqb}
+use Rattle.std.proofs.Common.{eqb-true}
+use mathlib.Core.Bool.{and-false, false≢true}
+use borrow.Author.Tests.{lt-leb, eqb-false}
 use Rattle.wire.specs.Bytes.{byte}
 use Rattle.wire.proofs.Tests.{refute, choice}
 use Rattle.wire.proofs.Texts.{both_first, both_second, either}

@@ -1,13 +1,7 @@
 -- The whole scan: a law for each way through it. What has been walked is some pairs from the start of the text on.
-use mathlib.Core.Path.{◌≡◌, refl, sym, ◌∙◌}
-use mathlib.Core.Bool.{Bool, true, false, not, and-false}
-use mathlib.Core.List.{List}
-use Prim.Native.Nat.{ℕ, suc, ◌+◌, ◌-◌, ◌≤◌, ◌<◌}
-use native.Mathlib.Omega.{arith}
-use native.Mathlib.Nat.{zero-add}
-use lib.Bits.{bit_or}
-use lib.ListN.{length, get_or}
-use borrow.Author.Rules.{rules}
+use Rattle.std.proofs.Common.{◌≡◌, refl, sym, ◌∙◌, Bool, true, false, not, List, ℕ, suc, ◌+◌, ◌-◌, ◌≤◌, ◌<◌, arith, zero-add, bit_or, length, get_or}
+use Rattle.std.proofs.Common.{rules}
+use mathlib.Core.Bool.{and-false}
 use borrow.Author.Tests.{not-true, not-false}
 use Rattle.names.specs.Scan.{ranged, spaced, spaced_run, Gathers, all_bits, Walks}
 use Rattle.names.proofs.Runs.{ranged_add, twice, gathers_none, gathers_twice}

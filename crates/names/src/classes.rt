@@ -1,6 +1,6 @@
 // The class of each byte: a bit for each thing that a scan of a name asks of a byte, looked up in one constant table.
 ghost use Rattle.std.specs.Prelude.{◌≡◌};
-ghost use Rattle.names.specs.Classes.{class_of, class_table};
+ghost use Rattle.names.specs.Classes.{class_of};
 
 // The byte stands in no interface, in no name of a bus, in no path.
 pub const NOT_INTERFACE: u8 = 1;
@@ -17,12 +17,11 @@ pub const DOT: u8 = 16;
 pub const ALL: u8 = 255;
 
 // `H` is a digit, `@` a letter or `_`, `E` is `-`, `T` is `.`, `c` is `/`, and `G` any other byte.
-pub const CLASSES: [u8; 256] =
+pub static CLASSES: [u8; 256] =
     *b"GGGGGGGGGGGGGGGGGGGGGGGGGGGGGGGGGGGGGGGGGGGGGETcHHHHHHHHHHGGGGGGG@@@@@@@@@@@@@@@@@@@@@@@@@@GGGG@G@@@@@@@@@@@@@@@@@@@@@@@@@@GGGGGGGGGGGGGGGGGGGGGGGGGGGGGGGGGGGGGGGGGGGGGGGGGGGGGGGGGGGGGGGGGGGGGGGGGGGGGGGGGGGGGGGGGGGGGGGGGGGGGGGGGGGGGGGGGGGGGGGGGGGGGGGGGGGGG";
 
-pub fn class(table: &[u8; 256], b: u8) -> u8
-    requires { table.now ≡ class_table }
+pub fn class(b: u8) -> u8
     ensures { result ≡ class_of b }
 {
-    table[b as usize]
+    CLASSES[b as usize]
 }

@@ -6,11 +6,11 @@ mod scan;
 
 ghost use Rattle.std.specs.Prelude.{◌≡◌};
 ghost use Rattle.names.specs.Names.{dotted, valid_name};
-ghost use Rattle.names.specs.Classes.{class_table, barred};
+ghost use Rattle.names.specs.Classes.{barred};
 ghost use Rattle.names.specs.Scan.{dotted_form};
 ghost use Rattle.names.specs.Namespace.{in_namespace};
 
-use crate::classes::{CLASSES, DIGIT, DOT, NOT_BUS_NAME, NOT_INTERFACE, NOT_PATH, class};
+use crate::classes::{DIGIT, DOT, NOT_BUS_NAME, NOT_INTERFACE, NOT_PATH, class};
 use crate::scan::walk;
 
 // How long a name may be; a path has no limit.
@@ -76,8 +76,7 @@ fn barred_in(dashed: bool) -> u8
 }
 
 // An interface name, or where `dashed` a well-known name.
-fn is_dotted(table: &[u8; 256], s: &[u8], dashed: bool) -> bool
-    requires { table.now ≡ class_table }
+fn is_dotted(s: &[u8], dashed: bool) -> bool
     ensures { result ≡ dotted (dotted_form dashed) s.now }
 {
     if s.len() == 0 {
@@ -90,16 +89,15 @@ fn is_dotted(table: &[u8; 256], s: &[u8], dashed: bool) -> bool
         return false;
     }
     let barred = barred_in(dashed);
-    if class(table, s[0]) & (barred | DIGIT | DOT) != 0 {
+    if class(s[0]) & (barred | DIGIT | DOT) != 0 {
         return false;
     }
-    let seen = walk(table, s, INTERFACE.high);
+    let seen = walk(s, INTERFACE.high);
     (seen & barred == 0) & (seen & DOT != 0)
 }
 
 // The colon is no part of an element, so the byte behind it begins the first.
-fn is_unique(table: &[u8; 256], s: &[u8]) -> bool
-    requires { table.now ≡ class_table }
+fn is_unique(s: &[u8]) -> bool
     ensures { result ≡ valid_name Form.Unique s.now }
 {
     if s.len() < 2 {
@@ -117,12 +115,11 @@ fn is_unique(table: &[u8; 256], s: &[u8]) -> bool
     if s[s.len() - 1] == UNIQUE.separator {
         return false;
     }
-    let seen = walk(table, s, UNIQUE.high);
+    let seen = walk(s, UNIQUE.high);
     (seen & UNIQUE.barred == 0) & (seen & DOT != 0)
 }
 
-fn is_member(table: &[u8; 256], s: &[u8]) -> bool
-    requires { table.now ≡ class_table }
+fn is_member(s: &[u8]) -> bool
     ensures { result ≡ valid_name Form.Member s.now }
 {
     if s.len() == 0 {
@@ -131,15 +128,14 @@ fn is_member(table: &[u8; 256], s: &[u8]) -> bool
     if NAME_LIMIT < s.len() {
         return false;
     }
-    if class(table, s[0]) & (MEMBER.barred | DIGIT) != 0 {
+    if class(s[0]) & (MEMBER.barred | DIGIT) != 0 {
         return false;
     }
-    walk(table, s, MEMBER.high) & MEMBER.barred == 0
+    walk(s, MEMBER.high) & MEMBER.barred == 0
 }
 
 // The first `/` is followed as one between two elements is.
-fn is_path(table: &[u8; 256], s: &[u8]) -> bool
-    requires { table.now ≡ class_table }
+fn is_path(s: &[u8]) -> bool
     ensures { result ≡ valid_name Form.Path s.now }
 {
     if s.len() == 0 {
@@ -154,51 +150,34 @@ fn is_path(table: &[u8; 256], s: &[u8]) -> bool
     if s[s.len() - 1] == PATH.separator {
         return false;
     }
-    walk(table, s, PATH.high) & PATH.barred == 0
+    walk(s, PATH.high) & PATH.barred == 0
 }
 
 // A unique name begins with a colon, and a well-known one does not.
-fn is_bus_name(table: &[u8; 256], s: &[u8]) -> bool
-    requires { table.now ≡ class_table }
+fn is_bus_name(s: &[u8]) -> bool
     ensures { result ≡ valid_name Form.BusName s.now }
 {
     if s.len() == 0 {
         return false;
     }
     if s[0] == b':' {
-        return is_unique(table, s);
+        return is_unique(s);
     }
-    is_dotted(table, s, true)
-}
-
-// The class of each byte. A function that names the table builds it anew, at the cost of looking up a dozen bytes, so a call does so once and lends it.
-pub fn class_table() -> [u8; 256]
-    ensures { result ≡ class_table }
-{
-    CLASSES
-}
-
-// The bytes are a name of the form, by the table that the caller lends: one that has many names to test builds it once.
-pub fn is_valid_by(table: &[u8; 256], form: Form, s: &[u8]) -> bool
-    requires { table.now ≡ class_table }
-    ensures { result ≡ valid_name form s.now }
-{
-    match form {
-        Form::Interface => is_dotted(table, s, false),
-        Form::WellKnown => is_dotted(table, s, true),
-        Form::Unique => is_unique(table, s),
-        Form::BusName => is_bus_name(table, s),
-        Form::Member => is_member(table, s),
-        Form::Path => is_path(table, s),
-    }
+    is_dotted(s, true)
 }
 
 // The bytes are a name of the form.
 pub fn is_valid(form: Form, s: &[u8]) -> bool
     ensures { result ≡ valid_name form s.now }
 {
-    let table = class_table();
-    is_valid_by(&table, form, s)
+    match form {
+        Form::Interface => is_dotted(s, false),
+        Form::WellKnown => is_dotted(s, true),
+        Form::Unique => is_unique(s),
+        Form::BusName => is_bus_name(s),
+        Form::Member => is_member(s),
+        Form::Path => is_path(s),
+    }
 }
 
 // The name equals the prefix, or starts with the prefix and a dot.

@@ -1,6 +1,5 @@
 // The scan of a name: the class of every byte behind the first, and which byte follows which. A long text goes in blocks, which may overlap.
 ghost use Rattle.std.specs.Prelude.{◌≡◌, ◌+◌, ◌≤◌, ◌<◌, length};
-ghost use Rattle.names.specs.Classes.{class_table};
 ghost use Rattle.names.specs.Scan.{spaced, spaced_run, Gathers, Walks};
 
 use crate::classes::{ALL, class};
@@ -18,32 +17,27 @@ fn is_spaced_run(s: &[u8], at: usize, n: usize, high: u8) -> bool
     ensures { result ≡ spaced_run high s.now at n }
 {
     let mut good = true;
-    let mut i = 0;
-    while i < n {
-        let b = s[at + i + 1];
-        good = good & is_spaced(s[at + i], b, high);
-        i += 1;
+    for i in 0..n {
+        good = good & is_spaced(s[at + i], s[at + i + 1], high);
     }
     good
 }
 
 // The classes of the n bytes from `at` on, together.
-fn gather(table: &[u8; 256], s: &[u8], at: usize, n: usize) -> u8
-    requires { (table.now ≡ class_table) × (at + n ≤ length s.now) }
+fn gather(s: &[u8], at: usize, n: usize) -> u8
+    requires { at + n ≤ length s.now }
     ensures { Gathers s.now at n result }
 {
     let mut seen: u8 = 0;
-    let mut i = 0;
-    while i < n {
-        seen = seen | class(table, s[at + i]);
-        i += 1;
+    for i in 0..n {
+        seen = seen | class(s[at + i]);
     }
     seen
 }
 
 // Two blocks of `width` pairs.
-fn walk_two(table: &[u8; 256], s: &[u8], width: usize, high: u8) -> u8
-    requires { (table.now ≡ class_table) × (width < length s.now) × (length s.now ≤ width + width + 1) }
+fn walk_two(s: &[u8], width: usize, high: u8) -> u8
+    requires { (width < length s.now) × (length s.now ≤ width + width + 1) }
     ensures { Walks high s.now result }
 {
     let last = s.len() - 1 - width;
@@ -53,12 +47,12 @@ fn walk_two(table: &[u8; 256], s: &[u8], width: usize, high: u8) -> u8
     if !is_spaced_run(s, last, width, high) {
         return ALL;
     }
-    gather(table, s, 1, width) | gather(table, s, last + 1, width)
+    gather(s, 1, width) | gather(s, last + 1, width)
 }
 
 // Blocks of `width` pairs with an exit between them.
-fn walk_blocks(table: &[u8; 256], s: &[u8], width: usize, high: u8) -> u8
-    requires { (table.now ≡ class_table) × (0 < width) × (width < length s.now) }
+fn walk_blocks(s: &[u8], width: usize, high: u8) -> u8
+    requires { (0 < width) × (width < length s.now) }
     ensures { Walks high s.now result }
 {
     let last = s.len() - 1 - width;
@@ -68,18 +62,18 @@ fn walk_blocks(table: &[u8; 256], s: &[u8], width: usize, high: u8) -> u8
         if !is_spaced_run(s, i, width, high) {
             return ALL;
         }
-        seen = seen | gather(table, s, i + 1, width);
+        seen = seen | gather(s, i + 1, width);
         i += width;
     }
     if !is_spaced_run(s, last, width, high) {
         return ALL;
     }
-    seen | gather(table, s, last + 1, width)
+    seen | gather(s, last + 1, width)
 }
 
 // The classes of all bytes but the first, together, or all bits where a byte may not follow the one before it.
-pub fn walk(table: &[u8; 256], s: &[u8], high: u8) -> u8
-    requires { (table.now ≡ class_table) × (0 < length s.now) }
+pub fn walk(s: &[u8], high: u8) -> u8
+    requires { 0 < length s.now }
     ensures { Walks high s.now result }
 {
     let n = s.len() - 1;
@@ -88,12 +82,12 @@ pub fn walk(table: &[u8; 256], s: &[u8], high: u8) -> u8
             if n == 0 {
                 return 0;
             }
-            return walk_blocks(table, s, 1, high);
+            return walk_blocks(s, 1, high);
         }
-        return walk_two(table, s, 8, high);
+        return walk_two(s, 8, high);
     }
     if n <= 32 {
-        return walk_two(table, s, 16, high);
+        return walk_two(s, 16, high);
     }
-    walk_blocks(table, s, 16, high)
+    walk_blocks(s, 16, high)
 }

@@ -1,6 +1,5 @@
 // The values of the fields, and the fields that a type of message requires.
 ghost use Rattle.std.specs.Prelude.{◌≡◌, ◌+◌, ◌≤◌, ◌<◌, length};
-ghost use Rattle.names.specs.Classes.{class_table};
 ghost use Rattle.header.specs.Codes.{code_limit};
 ghost use Rattle.header.specs.Fields.{present, place_of};
 ghost use Rattle.header.specs.Values.{number_in, good_value, good_field, good_values};
@@ -25,26 +24,25 @@ pub fn number_in(order: Order, value: &[u8]) -> u32
 }
 
 // The value obeys the rule of its code.
-fn is_good_value(table: &[u8; 256], order: Order, code: usize, value: &[u8]) -> bool
-    requires { table.now ≡ class_table }
+fn is_good_value(order: Order, code: usize, value: &[u8]) -> bool
     ensures { result ≡ good_value order code value.now }
 {
     match code {
-        PATH_CODE => names::is_valid_by(table, Form::Path, value),
-        INTERFACE_CODE => names::is_valid_by(table, Form::Interface, value),
-        MEMBER_CODE => names::is_valid_by(table, Form::Member, value),
-        ERROR_NAME_CODE => names::is_valid_by(table, Form::Interface, value),
+        PATH_CODE => names::is_valid(Form::Path, value),
+        INTERFACE_CODE => names::is_valid(Form::Interface, value),
+        MEMBER_CODE => names::is_valid(Form::Member, value),
+        ERROR_NAME_CODE => names::is_valid(Form::Interface, value),
         REPLY_SERIAL_CODE => !(number_in(order, value) == 0),
-        DESTINATION_CODE => names::is_valid_by(table, Form::BusName, value),
-        SENDER_CODE => names::is_valid_by(table, Form::BusName, value),
+        DESTINATION_CODE => names::is_valid(Form::BusName, value),
+        SENDER_CODE => names::is_valid(Form::BusName, value),
         SIGNATURE_CODE => signature::is_valid(value),
         _ => true,
     }
 }
 
 // The field of a code is absent, or its value obeys the code's rule.
-fn is_good(table: &[u8; 256], order: Order, head: &[u8], place: Place, code: usize) -> bool
-    requires { (table.now ≡ class_table) × (place.at + place.len ≤ length head.now) }
+fn is_good(order: Order, head: &[u8], place: Place, code: usize) -> bool
+    requires { place.at + place.len ≤ length head.now }
     ensures { result ≡ good_field order head.now place code }
 {
     let at = place.at;
@@ -52,20 +50,19 @@ fn is_good(table: &[u8; 256], order: Order, head: &[u8], place: Place, code: usi
         return true;
     }
     let end = at + place.len;
-    is_good_value(table, order, code, &head[at..end])
+    is_good_value(order, code, &head[at..end])
 }
 
-// Each field that is present obeys its rule. One table of classes serves all names of the head.
+// Each field that is present obeys its rule.
 pub fn are_good(order: Order, head: &[u8], places: [Place; CODE_LIMIT]) -> bool
     requires { ValuesFit head.now places }
     ensures { result ≡ good_values order head.now places }
 {
-    let table = names::class_table();
     let mut code = CODE_LIMIT;
     while 0 < code {
         code -= 1;
         let place = places[code];
-        if !is_good(&table, order, head, place, code) {
+        if !is_good(order, head, place, code) {
             return false;
         }
     }

@@ -2,9 +2,6 @@
 use Rattle.lists.proofs.Lists.{naming}
 use Rattle.lists.proofs.are_names.Goals as goal
 
-pub class_table-table-requires : goal.class_table-table-requires
-class_table-table-requires c = search naming
-
 pub loop-at-init : goal.loop-at-init
 loop-at-init c = search naming
 
@@ -26,20 +23,17 @@ returns-then-list-to c = search naming
 pub overflow_add-at : goal.overflow_add-at
 overflow_add-at c = search naming
 
-pub slice_bounds-is_valid_by-count : goal.slice_bounds-is_valid_by-count
-slice_bounds-is_valid_by-count c = search naming
+pub slice_bounds-is_valid-count : goal.slice_bounds-is_valid-count
+slice_bounds-is_valid-count c = search naming
 
-pub slice_bounds-is_valid_by-start : goal.slice_bounds-is_valid_by-start
-slice_bounds-is_valid_by-start c = search naming
+pub slice_bounds-is_valid-start : goal.slice_bounds-is_valid-start
+slice_bounds-is_valid-start c = search naming
 
-pub slice_bounds-is_valid_by-end : goal.slice_bounds-is_valid_by-end
-slice_bounds-is_valid_by-end c = search naming
+pub slice_bounds-is_valid-end : goal.slice_bounds-is_valid-end
+slice_bounds-is_valid-end c = search naming
 
-pub is_valid_by-requires : goal.is_valid_by-requires
-is_valid_by-requires c = search naming
-
-pub returns-then-not-is_valid_by : goal.returns-then-not-is_valid_by
-returns-then-not-is_valid_by c = search naming
+pub returns-then-not-is_valid : goal.returns-then-not-is_valid
+returns-then-not-is_valid c = search naming
 
 pub loop-at-smaller : goal.loop-at-smaller
 loop-at-smaller c = search naming

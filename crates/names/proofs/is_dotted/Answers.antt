@@ -1,6 +1,6 @@
 -- `names::is_dotted` meets its contract.
 use Rattle.names.proofs.Forms.{dotted_laws}
-use borrow.Author.Rules.{rules}
+use Rattle.std.proofs.Common.{rules}
 use Rattle.names.proofs.is_dotted.Goals as goal
 
 pub returns-then-s-eq0 : goal.returns-then-s-eq0
@@ -16,7 +16,7 @@ pub returns-then-class-barred-ne0 : goal.returns-then-class-barred-ne0
 returns-then-class-barred-ne0 c = search dotted_laws
 
 pub walk-seen-requires : goal.walk-seen-requires
-walk-seen-requires c = (search rules, search rules)
+walk-seen-requires c = search rules
 
 pub returns : goal.returns
 returns c = search dotted_laws

@@ -1,6 +1,6 @@
 -- `names::is_member` meets its contract.
 use Rattle.names.proofs.Forms.{member_laws}
-use borrow.Author.Rules.{rules}
+use Rattle.std.proofs.Common.{rules}
 use Rattle.names.proofs.is_member.Goals as goal
 
 pub returns-then-s-eq0 : goal.returns-then-s-eq0
@@ -13,7 +13,7 @@ pub returns-then-class-ne0 : goal.returns-then-class-ne0
 returns-then-class-ne0 c = search member_laws
 
 pub walk-requires : goal.walk-requires
-walk-requires c = (search rules, search rules)
+walk-requires c = search rules
 
 pub returns : goal.returns
 returns c = search member_laws

@@ -1,6 +1,6 @@
 -- `names::is_path` meets its contract.
 use Rattle.names.proofs.Forms.{path_laws}
-use borrow.Author.Rules.{rules}
+use Rattle.std.proofs.Common.{rules}
 use Rattle.names.proofs.is_path.Goals as goal
 
 pub returns-then-s-eq0 : goal.returns-then-s-eq0
@@ -16,7 +16,7 @@ pub returns-then-s-2 : goal.returns-then-s-2
 returns-then-s-2 c = search path_laws
 
 pub walk-requires : goal.walk-requires
-walk-requires c = (search rules, search rules)
+walk-requires c = search rules
 
 pub returns : goal.returns
 returns c = search path_laws

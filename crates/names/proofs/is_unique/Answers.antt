@@ -1,6 +1,6 @@
 -- `names::is_unique` meets its contract.
 use Rattle.names.proofs.Forms.{unique_laws}
-use borrow.Author.Rules.{rules}
+use Rattle.std.proofs.Common.{rules}
 use Rattle.names.proofs.is_unique.Goals as goal
 
 pub returns-then-s-lt2 : goal.returns-then-s-lt2
@@ -19,7 +19,7 @@ pub returns-then-s-2 : goal.returns-then-s-2
 returns-then-s-2 c = search unique_laws
 
 pub walk-seen-requires : goal.walk-seen-requires
-walk-seen-requires c = (search rules, search rules)
+walk-seen-requires c = search rules
 
 pub returns : goal.returns
 returns c = search unique_laws

@@ -1,10 +1,6 @@
 -- `names::scan::gather` meets its contract.
-use Prim.Native.Nat.{◌-◌}
-use Rattle.names.proofs.Runs.{Gathering}
+use Rattle.names.specs.Scan.{Gathers}
 use Rattle.names.proofs.scan.gather.Given as goal
 
 abbrev pub invariant-loop-i : goal.invariant-loop-i
-invariant-loop-i l = Gathering l.s l.at l.n l.i l.seen
-
-abbrev pub decreases-loop-i : goal.decreases-loop-i
-decreases-loop-i l = l.n - l.i
+invariant-loop-i l = Gathers l.s l.at l.i l.seen

@@ -1,8 +1,5 @@
 -- `names::scan::is_spaced` meets its contract.
-use mathlib.Core.Path.{◌≡◌, refl}
-use mathlib.Core.Bool.{not, ◌&&◌, ◌||◌}
-use Prim.Native.Nat.{ℕ}
-use lib.Dec.{leb, eqb}
+use Rattle.std.proofs.Common.{◌≡◌, refl, not, ◌&&◌, ◌||◌, ℕ, leb, eqb}
 use Rattle.wire.specs.Bytes.{byte}
 use Rattle.names.specs.Scan.{spaced}
 use Rattle.names.proofs.scan.is_spaced.Goals as goal

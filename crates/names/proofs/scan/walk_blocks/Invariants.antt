@@ -1,6 +1,5 @@
 -- `names::scan::walk_blocks` meets its contract.
-use Prim.Native.Nat.{◌-◌}
-use lib.ListN.{length}
+use Rattle.std.proofs.Common.{◌-◌, length}
 use Rattle.names.proofs.Walk.{Strides}
 use Rattle.names.proofs.scan.walk_blocks.Given as goal
 

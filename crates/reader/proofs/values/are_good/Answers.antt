@@ -2,9 +2,6 @@
 use Rattle.reader.proofs.Checks.{checking}
 use Rattle.reader.proofs.values.are_good.Goals as goal
 
-pub class_table-table-requires : goal.class_table-table-requires
-class_table-table-requires c = search checking
-
 pub loop-code-init : goal.loop-code-init
 loop-code-init c = search checking
 

@@ -2,29 +2,8 @@
 use Rattle.reader.proofs.Checks.{value}
 use Rattle.reader.proofs.values.is_good_value.Goals as goal
 
-pub is_valid_by-requires : goal.is_valid_by-requires
-is_valid_by-requires c = search value
-
-pub is_valid_by-requires-in-2 : goal.is_valid_by-requires-in-2
-is_valid_by-requires-in-2 c = search value
-
-pub is_valid_by-requires-in-3 : goal.is_valid_by-requires-in-3
-is_valid_by-requires-in-3 c = search value
-
-pub is_valid_by-requires-in-4 : goal.is_valid_by-requires-in-4
-is_valid_by-requires-in-4 c = search value
-
 pub number_in-requires : goal.number_in-requires
 number_in-requires c = search value
-
-pub is_valid_by-requires-in-6 : goal.is_valid_by-requires-in-6
-is_valid_by-requires-in-6 c = search value
-
-pub is_valid_by-requires-in-7 : goal.is_valid_by-requires-in-7
-is_valid_by-requires-in-7 c = search value
-
-pub is_valid-requires : goal.is_valid-requires
-is_valid-requires c = search value
 
 pub returns-in-1 : goal.returns-in-1
 returns-in-1 c = search value

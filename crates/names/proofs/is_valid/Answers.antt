@@ -1,6 +1,6 @@
--- `names::is_valid_by` meets its contract.
+-- `names::is_valid` meets its contract.
 use Rattle.names.proofs.Forms.{forms}
-use Rattle.names.proofs.is_valid_by.Goals as goal
+use Rattle.names.proofs.is_valid.Goals as goal
 
 pub returns-in-Interface : goal.returns-in-Interface
 returns-in-Interface c = search forms
