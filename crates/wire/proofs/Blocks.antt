@@ -1,14 +1,9 @@
 -- Runs of zeros and equal texts, block by block: a law for each way through the loops.
-use mathlib.Core.Path.{◌≡◌, refl, sym, ap, ap₂, ◌∙◌}
-use mathlib.Core.Bool.{Bool, true, false, not, ◌&&◌, and-true}
-use mathlib.Core.List.{List, ◌++◌}
-use Prim.Native.Nat.{ℕ, ◌+◌, ◌-◌, ◌≤◌, ◌<◌}
-use native.Mathlib.Omega.{arith}
+use Rattle.std.proofs.Common.{◌≡◌, refl, sym, ap, ap₂, ◌∙◌, Bool, true, false, not, ◌&&◌, List, ◌++◌, ℕ, ◌+◌, ◌-◌, ◌≤◌, ◌<◌, arith, eqb, length, take}
+use Rattle.std.proofs.Common.{drop, get_or, length-take, length-drop, take-add, drop-drop, rules}
+use mathlib.Core.Bool.{and-true}
 use native.Mathlib.Nat.{sub-zero}
-use lib.Dec.{eqb}
-use lib.ListN.{length, take, drop, get_or, length-take, length-drop}
-use lib.Seq.{take-add, take-length, drop-drop}
-use borrow.Author.Rules.{rules}
+use lib.Seq.{take-length}
 use borrow.Author.Tests.{not-true, not-false}
 use Rattle.wire.specs.Bytes.{all_zero, same}
 use Rattle.wire.proofs.From.{next}
@@ -40,6 +35,15 @@ equals_divides x y e a b c h k =
     (same_append (take (b - a) (drop a x)) (take (b - a) (drop a y)) (take (c - b) (drop b x)) (take (c - b) (drop b y))
     (simp (length-take, length-drop, e)))
 
+-- ---- what a test found
+
+module _ {r b : Bool} (e : r ≡ b) where
+  pub seen_clear : not r ≡ false → b ≡ true
+  seen_clear n = sym e ∙ not-false r n
+
+  pub seen_broken : not r ≡ true → b ≡ false
+  seen_broken n = sym e ∙ not-true r n
+
 -- ---- zeros
 
 pub record Zeros (s : List ℕ) (from to i : ℕ) : Type 0 where
@@ -55,20 +59,20 @@ zeros_begin {s} {from} h k =
     record { low = omega arith; high = h; inside = k; clear = rw e }
 
 module _ {s : List ℕ} {from to i : ℕ} (z : Zeros s from to i) where
-  -- a block of k bytes more is looked at, and r says whether they are zero
-  module _ (k : ℕ) {r : Bool} (h : i < to - k) (e : r ≡ all_zero (take k (drop i s))) where
-    pub zeros_more : not r ≡ false → Zeros s from to (i + k)
-    zeros_more n =
+  -- a block of k bytes more is looked at
+  module _ (k : ℕ) (h : i < to - k) where
+    pub zeros_more : all_zero (take k (drop i s)) ≡ true → Zeros s from to (i + k)
+    zeros_more e =
         record {
           low = omega arith;
           high = omega arith;
           inside = z.inside;
-          clear = range_grows (zeroes s) (zeroes_divides s) from i (i + k) z.low (omega arith) z.clear (rw (cut_at i k s) (sym e ∙ not-false r n));
+          clear = range_grows (zeroes s) (zeroes_divides s) from i (i + k) z.low (omega arith) z.clear (rw (cut_at i k s) e);
         }
 
-    pub zeros_stop : not r ≡ true → false ≡ zeroes s from to
-    zeros_stop n =
-        sym (range_breaks (zeroes s) (zeroes_divides s) from i (i + k) to z.low (omega arith) (omega arith) (rw (cut_at i k s) (sym e ∙ not-true r n)))
+    pub zeros_stop : all_zero (take k (drop i s)) ≡ false → false ≡ zeroes s from to
+    zeros_stop e =
+        sym (range_breaks (zeroes s) (zeroes_divides s) from i (i + k) to z.low (omega arith) (omega arith) (rw (cut_at i k s) e))
 
   -- the last block, which may overlap the one before it
   pub zeros_lap : (k : ℕ) {r : Bool} → r ≡ all_zero (take k (drop (to - k) s)) → k ≤ to - from → to - k ≤ i → r ≡ zeroes s from to
@@ -85,38 +89,28 @@ zeros_twice s from to e f l h =
     ap₂ ◌&&◌ (e ∙ ap all_zero (sym (cut_at from 4 s))) (f ∙ ap (λ (n : ℕ). all_zero (take n (drop (to - 4) s))) (sym m))
     ∙ range_twice (zeroes s) (zeroes_divides s) from (to - 4) (from + 4) to (omega arith) (omega arith) (omega arith)
 
--- one byte after another, with no exit: `clear` says what was seen
-pub record Seen (s : List ℕ) (at n i : ℕ) (clear : Bool) : Type 0 where
-  pub high : i ≤ n
-  pub inside : at + n ≤ length s
-  pub so_far : clear ≡ all_zero (take i (drop at s))
-
-pub seen_begin : {s : List ℕ} {at n : ℕ} → at + n ≤ length s → Seen s at n 0 true
-unfolding all_zero
-seen_begin h = record { high = omega arith; inside = h; so_far = refl }
-
-module _ {s : List ℕ} {at n i : ℕ} {clear : Bool} (z : Seen s at n i clear) where
-  pub seen_more : i < n → Seen s at n (i + 1) (clear && eqb (get_or s (at + i) 0) 0)
+-- one byte after another, with no exit
+module _ (s : List ℕ) (at : ℕ) where
+  pub run_begin : true ≡ all_zero (take 0 (drop at s))
   unfolding all_zero
-  seen_more h =
-      record {
-        high = omega arith;
-        inside = z.inside;
-        so_far =
-            rw (
-              z.so_far,
-              take-add i 1 (drop at s),
-              zero_append (take i (drop at s)) (take 1 (drop i (drop at s))),
-              drop-drop i at s,
-              next s (at + i) (omega arith),
-              and-true,
-            );
-      }
+  run_begin = refl
 
-  pub seen_end : n ≤ i → clear ≡ all_zero (take n (drop at s))
-  seen_end h = let e : i ≡ n = omega arith in rw e at z.so_far
+  pub run_more : (i : ℕ) {clear : Bool} → clear ≡ all_zero (take i (drop at s)) → at + i < length s
+      → clear && eqb (get_or s (at + i) 0) 0 ≡ all_zero (take (i + 1) (drop at s))
+  unfolding all_zero
+  run_more i e h =
+      rw (
+        e,
+        take-add i 1 (drop at s),
+        zero_append (take i (drop at s)) (take 1 (drop i (drop at s))),
+        drop-drop i at s,
+        next s (at + i) h,
+        and-true,
+      )
 
-pub ruleset zeros = (zeros_begin, zeros_more, zeros_stop, zeros_lap, zeros_twice, seen_begin, seen_more, seen_end, rules)
+pub ruleset runs = (run_begin, run_more, rules)
+
+pub ruleset zeros = (zeros_begin, zeros_more, zeros_stop, zeros_lap, zeros_twice, seen_clear, seen_broken, rules)
 
 -- ---- equal texts
 
@@ -150,37 +144,36 @@ last a b k h =
     rw f
 
 module _ {a b : List ℕ} {i : ℕ} (z : Equals a b i) where
-  pub equals_more : {r : Bool} → r ≡ same (take 8 (drop i a)) (take 8 (drop i b)) → not r ≡ false → i < length a - 8 → Equals a b (i + 8)
-  equals_more {r} e n h =
+  pub equals_more : same (take 8 (drop i a)) (take 8 (drop i b)) ≡ true → i < length a - 8 → Equals a b (i + 8)
+  equals_more e h =
       record {
         long = z.long;
         high = omega arith;
         clear =
             range_grows (equals a b) (equals_divides a b z.long) 0 i (i + 8) (omega arith) (omega arith) z.clear
-            (part a b i 8 ∙ sym e ∙ not-false r n);
+            (part a b i 8 ∙ e);
       }
 
-  pub equals_stop : {r : Bool} → r ≡ same (take 8 (drop i a)) (take 8 (drop i b)) → not r ≡ true → i < length a - 8 → false ≡ same a b
-  equals_stop {r} e n h =
+  pub equals_stop : same (take 8 (drop i a)) (take 8 (drop i b)) ≡ false → i < length a - 8 → false ≡ same a b
+  equals_stop e h =
       sym (sym (whole a b z.long)
       ∙ range_breaks (equals a b) (equals_divides a b z.long) 0 i (i + 8) (length a) (omega arith) (omega arith) (omega arith)
-      (part a b i 8 ∙ sym e ∙ not-true r n))
+      (part a b i 8 ∙ e))
 
   -- the last word was equal, and so is all before it
-  pub equals_lap : {r : Bool} → r ≡ same (take 8 (drop (length a - 8) a)) (take 8 (drop (length a - 8) b)) → not r ≡ false → 8 ≤ length a → length a - 8 ≤ i
-      → true ≡ same a b
-  equals_lap {r} e n l h =
-      sym (not-false r n) ∙ e ∙ last a b 8 l
+  pub equals_lap : same (take 8 (drop (length a - 8) a)) (take 8 (drop (length a - 8) b)) ≡ true → 8 ≤ length a → length a - 8 ≤ i → true ≡ same a b
+  equals_lap e l h =
+      sym e ∙ last a b 8 l
       ∙ sym (range_laps (equals a b) (equals_divides a b z.long) 0 (length a - 8) i (length a) (omega arith) h z.high z.clear)
       ∙ whole a b z.long
 
 -- the last word differs
-pub equals_end : (a b : List ℕ) {r : Bool} → r ≡ same (take 8 (drop (length a - 8) a)) (take 8 (drop (length a - 8) b)) → not r ≡ true → length a ≡ length b
-    → 8 ≤ length a → false ≡ same a b
-equals_end a b {r} e n m l =
+pub equals_end : (a b : List ℕ) → same (take 8 (drop (length a - 8) a)) (take 8 (drop (length a - 8) b)) ≡ false → length a ≡ length b → 8 ≤ length a
+    → false ≡ same a b
+equals_end a b e m l =
     sym (sym (whole a b m)
     ∙ range_breaks (equals a b) (equals_divides a b m) 0 (length a - 8) (length a) (length a) (omega arith) (omega arith) (omega arith)
-    (sym (last a b 8 l) ∙ sym e ∙ not-true r n))
+    (sym (last a b 8 l) ∙ e))
 
 -- four bytes at each end, which may overlap
 pub equals_twice : (a b : List ℕ) {p q : Bool} → p ≡ same (take 4 (drop 0 a)) (take 4 (drop 0 b))
@@ -189,5 +182,3 @@ equals_twice a b e f m l h =
     ap₂ ◌&&◌ (e ∙ sym (part a b 0 4)) (f ∙ last a b 4 l)
     ∙ range_twice (equals a b) (equals_divides a b m) 0 (length a - 4) 4 (length a) (omega arith) (omega arith) l
     ∙ whole a b m
-
-pub ruleset equal = (equals_length, equals_begin, equals_more, equals_stop, equals_lap, equals_end, equals_twice, rules)

@@ -1,4 +1,3 @@
-pub mod Needs
 pub mod From
 pub mod Tests
 pub mod Texts
@@ -6,7 +5,6 @@ pub mod Below
 pub mod Parts
 pub mod Words
 pub mod Longs
-mod Runs
 pub mod Ranges
 pub mod Blocks
 mod Loads

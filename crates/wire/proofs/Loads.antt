@@ -1,16 +1,10 @@
 -- A test of the number in four or eight bytes is the test of each of the bytes.
-use mathlib.Core.Path.{◌≡◌, sym, ap, ap₂, ◌∙◌}
-use mathlib.Core.Bool.{true, ◌&&◌}
-use mathlib.Core.List.{List, [], ◌∷◌, ◌++◌}
-use Prim.Native.Nat.{ℕ, ◌+◌, ◌*◌, ◌/◌, ◌≤◌, ◌<◌}
-use native.Mathlib.Omega.{arith}
-use lib.Dec.{eqb}
-use lib.ListN.{length, take, drop, get_or, length-take, length-drop}
-use borrow.Author.Rules.{rules}
-use borrow.Author.Tests.{eq-eqb, eqb-true}
+use Rattle.std.proofs.Common.{◌-◌, false, ◌≡◌, sym, ap, ap₂, ◌∙◌, true, ◌&&◌, List, [], ◌∷◌, ◌++◌, ℕ, ◌+◌, ◌*◌, ◌/◌, ◌≤◌, ◌<◌, arith, eqb, length, take, drop}
+use Rattle.std.proofs.Common.{get_or, length-take, length-drop, rules, eq-eqb, ne_eqb, eqb-true}
 use Rattle.wire.specs.Bytes.{all_zero, same}
 use Rattle.wire.specs.Words.{joined, word_at, word_bytes, long_at}
 use Rattle.wire.specs.declared.Order.TheVariants.{Little}
+use Rattle.wire.proofs.Blocks.{zeroes, Zeros, zeros_lap, Equals, equals_length, equals_begin, equals_more, equals_stop, equals_lap, equals_end, equals_twice}
 use Rattle.wire.proofs.Texts.{agree, both_first, both_second, zero_append, zero_zeros, same_append, same_eq, eq_same}
 use Rattle.wire.proofs.Longs.{eight_at}
 use Rattle.wire.proofs.Words.{Octets, octets_below, four_at, word_four, word_bytes_lem, word_below}
@@ -97,16 +91,61 @@ module _ (s : List ℕ) (at n : ℕ) where
   pub zero_load : n ≡ word_at Little s at → at + 4 ≤ length s → eqb n 0 ≡ all_zero (take 4 (drop at s))
   zero_load e h = rw e (zero_word s at h)
 
-  pub zero_load_long : n ≡ long_at s at → Octets s → at + 8 ≤ length s → eqb n 0 ≡ all_zero (take 8 (drop at s))
-  zero_load_long e b h = rw e (zero_long s at b h)
+  module _ (e : n ≡ long_at s at) (b : Octets s) (h : at + 8 ≤ length s) where
+    pub zero_load_long : eqb n 0 ≡ all_zero (take 8 (drop at s))
+    zero_load_long = rw e (zero_long s at b h)
+
+    pub zero_found : n ≡ 0 → all_zero (take 8 (drop at s)) ≡ true
+    zero_found z = sym zero_load_long ∙ eq-eqb n 0 z
+
+    pub zero_missed : (n ≡ 0 → ⊥) → all_zero (take 8 (drop at s)) ≡ false
+    zero_missed z = sym zero_load_long ∙ ne_eqb n 0 z
 
 module _ (x y : List ℕ) (at n m : ℕ) where
-  pub same_load : n ≡ word_at Little x at → m ≡ word_at Little y at → Octets x → Octets y → at + 4 ≤ length x → at + 4 ≤ length y
+  same_load : n ≡ word_at Little x at → m ≡ word_at Little y at → Octets x → Octets y → at + 4 ≤ length x → at + 4 ≤ length y
       → eqb n m ≡ same (take 4 (drop at x)) (take 4 (drop at y))
   same_load e f b c h k = rw (e, f) (same_word x y at b c h k)
 
-  pub same_load_long : n ≡ long_at x at → m ≡ long_at y at → Octets x → Octets y → at + 8 ≤ length x → at + 8 ≤ length y
-      → eqb n m ≡ same (take 8 (drop at x)) (take 8 (drop at y))
-  same_load_long e f b c h k = rw (e, f) (same_long x y at b c h k)
+  module _ (e : n ≡ long_at x at) (f : m ≡ long_at y at) (b : Octets x) (c : Octets y) (h : at + 8 ≤ length x) (k : at + 8 ≤ length y) where
+    same_load_long : eqb n m ≡ same (take 8 (drop at x)) (take 8 (drop at y))
+    same_load_long = rw (e, f) (same_long x y at b c h k)
 
-pub ruleset loads = (zero_load, zero_load_long, same_load, same_load_long, rules)
+    same_found : n ≡ m → same (take 8 (drop at x)) (take 8 (drop at y)) ≡ true
+    same_found z = sym same_load_long ∙ eq-eqb n m z
+
+    same_missed : (n ≡ m → ⊥) → same (take 8 (drop at x)) (take 8 (drop at y)) ≡ false
+    same_missed z = sym same_load_long ∙ ne_eqb n m z
+
+pub ruleset loads = (zero_load, zero_load_long, zero_found, zero_missed, rules)
+
+-- ---- the last of the words of zeros
+
+pub zeros_last : {s : List ℕ} {from to i : ℕ} → Zeros s from to i → {n : ℕ} → n ≡ long_at s (to - 8) → Octets s → 8 ≤ to - from → to - 8 ≤ i
+    → eqb n 0 ≡ zeroes s from to
+zeros_last {s} {from} {to} z {n} e b l h = zeros_lap z 8 (zero_load_long s (to - 8) n e b (omega (arith, z.inside))) l h
+
+-- ---- the ways through words that are compared
+
+module _ (a b : List ℕ) (x : Octets a) (y : Octets b) (l : length a ≡ length b) where
+  module _ {m n : ℕ} (e : m ≡ long_at a (length a - 8)) (f : n ≡ long_at b (length a - 8)) (h : 8 ≤ length a) where
+    pub words_end : (m ≡ n → ⊥) → false ≡ same a b
+    words_end d = equals_end a b (same_missed a b (length a - 8) m n e f x y (omega arith) (omega arith) d) l h
+
+    pub words_lap : m ≡ n → {i : ℕ} → Equals a b i → length a - 8 ≤ i → true ≡ same a b
+    words_lap d z k = equals_lap z (same_found a b (length a - 8) m n e f x y (omega arith) (omega arith) d) h k
+
+  module _ {i : ℕ} (z : Equals a b i) {m n : ℕ} (e : m ≡ long_at a i) (f : n ≡ long_at b i) (h : i < length a - 8) where
+    pub words_stop : (m ≡ n → ⊥) → false ≡ same a b
+    words_stop d = equals_stop z (same_missed a b i m n e f x y (omega arith) (omega arith) d) h
+
+    pub words_more : m ≡ n → Equals a b (i + 8)
+    words_more d = equals_more z (same_found a b i m n e f x y (omega arith) (omega arith) d) h
+
+  -- four bytes at each end
+  pub words_twice : {m n p q : ℕ} → m ≡ word_at Little a 0 → n ≡ word_at Little b 0 → p ≡ word_at Little a (length a - 4) → q ≡ word_at Little b (length a - 4)
+      → 4 ≤ length a → length a < 8 → eqb m n && eqb p q ≡ same a b
+  words_twice {m} {n} {p} {q} e f g j h k =
+      equals_twice a b (same_load a b 0 m n e f x y (omega arith) (omega arith))
+      (same_load a b (length a - 4) p q g j x y (omega arith) (omega arith)) l h k
+
+pub ruleset words = (equals_length, equals_begin, words_end, words_lap, words_stop, words_more, words_twice, rules)

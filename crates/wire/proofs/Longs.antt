@@ -1,12 +1,6 @@
 -- Numbers of eight bytes, which are two of four: where they are read, and their bytes.
-use mathlib.Core.Path.{◌≡◌, refl, sym, ap, ap₂, ◌∙◌}
-use mathlib.Core.List.{List, ◌++◌, append_assoc}
-use Prim.Native.Nat.{ℕ, ◌+◌, ◌*◌, ◌/◌, ◌%◌, ◌≤◌, ◌<◌}
-use native.Mathlib.Omega.{arith}
-use native.Mathlib.Nat.{add-zero}
-use lib.ListN.{length, take, drop, length-append}
-use lib.Seq.{drop_at, drop-drop, take-add}
-use borrow.Author.Rules.{rules}
+use Rattle.std.proofs.Common.{◌≡◌, refl, sym, ap, ap₂, ◌∙◌, List, ◌++◌, append_assoc, ℕ, ◌+◌, ◌*◌, ◌/◌, ◌%◌, ◌≤◌, ◌<◌, arith, add-zero, length, take}
+use Rattle.std.proofs.Common.{drop, length-append, drop_at, drop-drop, take-add, rules}
 use Rattle.wire.specs.Bytes.{Below}
 use Rattle.wire.specs.Words.{word_at, long_at, word_bytes, long_bytes}
 use Rattle.wire.specs.declared.Order.TheVariants.{Little}

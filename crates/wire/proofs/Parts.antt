@@ -1,11 +1,8 @@
 -- Lists cut and put together: what stands past a part of known length, a part put at its place, zeros.
-use mathlib.Core.List.{List, [], ◌∷◌, ◌++◌, append_assoc}
-use mathlib.Core.Path.{◌≡◌, refl, sym, ap, ap₂, ◌∙◌}
-use Prim.Native.Nat.{ℕ, zero, suc, ◌+◌, ◌-◌, ◌≤◌}
-use native.Mathlib.Omega.{arith}
+use Rattle.std.proofs.Common.{List, [], ◌∷◌, ◌++◌, append_assoc, ◌≡◌, refl, sym, ap, ap₂, ◌∙◌, ℕ, zero, suc, ◌+◌, ◌-◌, ◌≤◌, arith, length, take, drop}
+use Rattle.std.proofs.Common.{replicate, take-append-drop, take_at, drop_at, length-take-le, take-take, drop-drop, take-add}
 use native.Mathlib.Nat.{sub-zero, zero-sub, add-sub_cancel_left}
-use lib.ListN.{length, take, drop, replicate, take-append-drop}
-use lib.Seq.{take_at, drop_at, length-take-le, take-append-add, drop-append-add, take-take, drop-drop, take-add, take-nil}
+use lib.Seq.{take-append-add, drop-append-add, take-nil}
 use Rattle.wire.specs.Bytes.{pad}
 
 pub take_past : (p q : List ℕ) (k n : ℕ) → length p ≡ k → take (k + n) (p ++ q) ≡ p ++ take n q

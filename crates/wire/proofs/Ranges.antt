@@ -1,9 +1,7 @@
 -- A test of every element from one index up to another, made block by block. The laws hold of any test of a range that a cut divides in two: a run
 -- of zeros, equal texts, a name's bytes.
-use mathlib.Core.Path.{◌≡◌, refl, sym, ◌∙◌}
-use mathlib.Core.Bool.{Bool, true, false, ◌&&◌, and-false}
-use Prim.Native.Nat.{ℕ, ◌≤◌}
-use native.Mathlib.Omega.{arith}
+use Rattle.std.proofs.Common.{◌≡◌, refl, sym, ◌∙◌, Bool, true, false, ◌&&◌, ℕ, ◌≤◌, arith}
+use mathlib.Core.Bool.{and-false}
 use Rattle.wire.proofs.Texts.{both_first}
 
 -- all from a up to c is good where all from a up to b and all from b up to c is

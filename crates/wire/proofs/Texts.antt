@@ -1,13 +1,9 @@
 -- What the tests of runs of bytes say.
-use mathlib.Core.Path.{◌≡◌, refl, sym, ap, ap₂}
-use mathlib.Core.Logic.{◌⊎◌, inl, inr}
-use mathlib.Core.Bool.{Bool, true, false, ◌&&◌, ◌||◌, and_assoc, false≢true}
-use mathlib.Core.List.{List, [], ◌∷◌, ◌++◌}
-use Prim.Native.Nat.{ℕ}
-use native.Mathlib.Omega.{arith}
-use lib.Dec.{eqb}
-use lib.ListN.{length, replicate, length-append, length-take, length-replicate}
-use borrow.Author.Tests.{eq-eqb, eqb-true}
+use Rattle.std.proofs.Common.{◌≡◌, refl, sym, ap, ap₂, ◌⊎◌, inl, inr, Bool, true, false, ◌&&◌, ◌||◌, List, [], ◌∷◌, ◌++◌, ℕ, arith, eqb, length}
+use Rattle.std.proofs.Common.{replicate, length-append, length-take, eq-eqb, eqb-true}
+use mathlib.Core.Bool.{and_assoc, false≢true}
+use lib.ListN.{length-replicate}
+use lib.Pointwise.{pointwise}
 use Rattle.wire.specs.Bytes.{all_zero, same, pad}
 
 -- ---- what cannot be
@@ -47,6 +43,14 @@ pub same_refl : (xs : List ℕ) → same xs xs ≡ true
 unfolding same
 same_refl [] = refl
 same_refl (x ∷ xs) = rw (eq-eqb x x refl) (same_refl xs)
+
+-- as the library compares two slices
+pub pointwise_same : (xs ys : List ℕ) → pointwise eqb xs ys ≡ same xs ys
+unfolding same
+pointwise_same [] [] = refl
+pointwise_same [] (y ∷ ys) = refl
+pointwise_same (x ∷ xs) [] = refl
+pointwise_same (x ∷ xs) (y ∷ ys) = rw (pointwise_same xs ys)
 
 pub same_eq : (xs ys : List ℕ) → same xs ys ≡ true → xs ≡ ys
 unfolding same

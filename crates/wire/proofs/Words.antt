@@ -1,13 +1,10 @@
 -- Numbers and their bytes.
-use mathlib.Core.Path.{◌≡◌, refl, ap, ◌∙◌}
-use mathlib.Core.List.{List, [], ◌∷◌, ◌++◌, append_assoc}
-use Prim.Native.Nat.{ℕ, zero, suc, ◌+◌, ◌-◌, ◌*◌, ◌/◌, ◌%◌, ◌^◌, ◌≤◌, ◌<◌}
-use native.Mathlib.Omega.{arith}
-use native.Mathlib.Nat.{add-zero, add-sub_cancel_left}
-use lib.ListN.{length, take, drop, set, get_or, length-drop}
-use lib.Seq.{sets-eq, drop-drop, get_or-drop, get_or-take, take_all, length-take-le}
+use Rattle.std.proofs.Common.{◌≡◌, refl, ap, ◌∙◌, List, [], ◌∷◌, ◌++◌, ℕ, zero, suc, ◌+◌, ◌-◌, ◌*◌, ◌/◌, ◌%◌, ◌^◌, ◌≤◌, ◌<◌, arith}
+use Rattle.std.proofs.Common.{add-zero, length, take, drop, get_or, length-drop, drop-drop, get_or-drop, get_or-take, take_all, length-take-le}
+use native.Mathlib.Nat.{add-sub_cancel_left}
 use mir.Syntax.{w8}
 use mir.Val.{Fits}
+use Rattle.std.specs.Int.{w32, to_le_bytes}
 use Rattle.wire.specs.Bytes.{Below}
 use Rattle.wire.proofs.From.{next}
 use Rattle.wire.specs.Words.{word_at, word_bytes}
@@ -102,17 +99,6 @@ four_at s at h =
     let f : at + 2 + 1 ≡ at + 3 = omega arith in
     rw (next s at (omega arith), next s (at + 1) (omega arith), e, next s (at + 2) (omega arith), f, next s (at + 3) (omega arith))
 
--- four stores one after the other
-pub stored : (s : List ℕ) (at x : ℕ) → at + 4 ≤ length s
-    → set (set (set (set s at (x % 256)) (at + 1) (x / 256 % 256)) (at + 2) (x / 256 / 256 % 256)) (at + 3) (x / 256 / 256 / 256 % 256)
-    ≡ take at s ++ (word_bytes x ++ drop (at + 4) s)
-unfolding word_bytes
-stored s at x h =
-    let e : at + 1 ≡ suc at = omega arith in
-    let f : at + 2 ≡ suc (suc at) = omega arith in
-    let g : at + 3 ≡ suc (suc (suc at)) = omega arith in
-    rw (e, f, g) (sets-eq (word_bytes x) s at h ∙ append_assoc (take at s) (word_bytes x) (drop (at + 4) s))
-
 -- ---- parts of a slice, as the code cuts them
 
 -- a part of k elements that starts at a
@@ -126,3 +112,12 @@ rest_at a m = take_all (length m - a) (drop a m) (rw (length-drop a m) (omega ar
 -- a part of k elements put back at a, as a lent part comes back
 pub put_at_lem : (a k : ℕ) (xs ys : List ℕ) → take a xs ++ (ys ++ drop (a + k - a) (drop a xs)) ≡ take a xs ++ (ys ++ drop (a + k) xs)
 put_at_lem a k xs ys = rw (add-sub_cancel_left a k, drop-drop k a xs)
+
+-- the four bytes of a number put at a
+pub stored : (s w : List ℕ) (at x : ℕ) → w ≡ to_le_bytes w32 x → take at s ++ (w ++ drop (at + 4 - at) (drop at s)) ≡ take at s ++ (word_bytes x ++ drop (at + 4) s)
+unfolding word_bytes
+stored s w at x e =
+    let p : x / 65536 ≡ x / 256 / 256 = omega arith in
+    let q : x / 16777216 ≡ x / 256 / 256 / 256 = omega arith in
+    let f : w ≡ word_bytes x = e ∙ rw (p, q) in
+    put_at_lem at 4 s w ∙ ap (λ (z : List ℕ). take at s ++ (z ++ drop (at + 4) s)) f

@@ -1,6 +1,5 @@
 -- `wire::equal_words` meets its contract.
-use Prim.Native.Nat.{◌-◌}
-use lib.ListN.{length}
+use Rattle.std.proofs.Common.{◌-◌, length}
 use Rattle.wire.proofs.Blocks.{Equals}
 use Rattle.wire.proofs.equal_words.Given as goal
 

@@ -1,8 +1,5 @@
 -- `wire::peek` meets its contract.
-use mathlib.Core.Path.{◌≡◌, sym, ap}
-use mathlib.Core.List.{List}
-use Prim.Native.Nat.{ℕ, ◌≤◌}
-use lib.ListN.{length, drop, get_or}
+use Rattle.std.proofs.Common.{◌≡◌, sym, ap, List, ℕ, ◌≤◌, length, drop, get_or}
 use Rattle.wire.specs.Bytes.{front}
 use Rattle.wire.proofs.From.{first, past}
 use Rattle.wire.proofs.peek.Goals as goal

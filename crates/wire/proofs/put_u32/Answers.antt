@@ -1,17 +1,7 @@
 -- `wire::put_u32` meets its contract.
+use Rattle.std.proofs.Common.{◌∙◌}
 use Rattle.wire.proofs.Words.{stored}
-use lib.ListN.{length-set}
-use native.Mathlib.Omega.{arith}
 use Rattle.wire.proofs.put_u32.Goals as goal
 
-pub bounds-s-at-2 : goal.bounds-s-at-2
-bounds-s-at-2 c = simp length-set (omega arith)
-
-pub bounds-s-at-3 : goal.bounds-s-at-3
-bounds-s-at-3 c = simp length-set (omega arith)
-
-pub bounds-s-at-4 : goal.bounds-s-at-4
-bounds-s-at-4 c = simp length-set (omega arith)
-
 pub returns : goal.returns
-returns c = search stored
+returns c = stored c.args.s.now _ c.args.at c.args.x (c.copy_from_slice.ensures.after ∙ c.to_le_bytes.ensures)

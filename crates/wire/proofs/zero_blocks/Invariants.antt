@@ -1,5 +1,5 @@
 -- `wire::zero_blocks` meets its contract.
-use Prim.Native.Nat.{◌-◌}
+use Rattle.std.proofs.Common.{◌-◌}
 use Rattle.wire.proofs.Blocks.{Zeros}
 use Rattle.wire.proofs.zero_blocks.Given as goal
 

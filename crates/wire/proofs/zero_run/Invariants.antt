@@ -1,10 +1,7 @@
 -- `wire::zero_run` meets its contract.
-use Prim.Native.Nat.{◌-◌}
-use Rattle.wire.proofs.Blocks.{Seen}
+use Rattle.std.proofs.Common.{◌≡◌, take, drop}
+use Rattle.wire.specs.Bytes.{all_zero}
 use Rattle.wire.proofs.zero_run.Given as goal
 
 abbrev pub invariant-loop-i : goal.invariant-loop-i
-invariant-loop-i l = Seen l.s l.at l.n l.i l.clear
-
-abbrev pub decreases-loop-i : goal.decreases-loop-i
-decreases-loop-i l = l.n - l.i
+invariant-loop-i l = l.clear ≡ all_zero (take l.i (drop l.at l.s))

@@ -1,6 +1,0 @@
--- `wire::zero_8` meets its contract.
-use Rattle.wire.proofs.Loads.{loads}
-use Rattle.wire.proofs.zero_8.Goals as goal
-
-pub returns : goal.returns
-returns c = search loads
