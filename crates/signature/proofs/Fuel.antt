@@ -1,15 +1,12 @@
 -- The signature rule's fuel never runs out: two a byte is enough, and more changes nothing.
-use mathlib.Core.Path.{◌≡◌, refl, ap, subst}
-use mathlib.Core.Bool.{Bool, true, false, ◌&&◌}
-use mathlib.Core.List.{List, [], ◌∷◌}
+use Rattle.std.proofs.Common.{◌≡◌, refl, ap, subst, Bool, true, false, ◌&&◌, List, [], ◌∷◌, ℕ, zero, suc, ◌+◌, ◌*◌, ◌≤◌, ◌<◌, arith, length}
+use Rattle.std.proofs.Common.{drop, length-drop, Some, None}
 use mathlib.Core.Option.{Option, none, some}
-use Prim.Native.Nat.{ℕ, zero, suc, ◌+◌, ◌*◌, ◌≤◌, ◌<◌}
-use native.Mathlib.Omega.{arith}
-use lib.ListN.{length, drop, length-drop}
+use Rattle.std.specs.Prelude.{Option as Maybe}
 use Rattle.wire.specs.Bytes.{one_of}
 use Rattle.signature.specs.Signature.{Row, head_of, closed_by, tuple, dict_entry, one_more, one, row}
 use Rattle.signature.specs.declared.FirstCode.{FirstCode}
-use Rattle.signature.specs.declared.FirstCode.TheVariants.{Plain, Array, Dict, Paren, None}
+use Rattle.signature.specs.declared.FirstCode.TheVariants.{Plain, Array, Dict, Paren}
 
 -- what is left is shorter than s, or no longer
 abbrev Shorter : List ℕ → Option (List ℕ) → Type 0
@@ -39,17 +36,17 @@ tuple_shorter s t (some r) h k = closed_shorter _ _ r.1 t (omega arith)
 
 -- a step of each, from what holds at one unit of fuel less
 module _ (f : ℕ) (ones : (a p : ℕ) (s : List ℕ) → Shorter s (one f a p s)) (rows : (a p : ℕ) (s : List ℕ) → NoLonger s (row f a p s)) where
-  one_step : (a p b : ℕ) (s : List ℕ) (x : FirstCode) → head_of a p (b ∷ s) ≡ x → Shorter (b ∷ s) (one (suc f) a p (b ∷ s))
+  one_step : (a p b : ℕ) (s : List ℕ) (x : Maybe FirstCode) → head_of a p (b ∷ s) ≡ x → Shorter (b ∷ s) (one (suc f) a p (b ∷ s))
   unfolding one
-  one_step a p b s Plain e = rw (one, e) (omega arith)
-  one_step a p b s Array e = rw (one, e) (longer s b (one f (a + 1) p s) (ones (a + 1) p s))
+  one_step a p b s (Some Plain) e = rw (one, e) (omega arith)
+  one_step a p b s (Some Array) e = rw (one, e) (longer s b (one f (a + 1) p s) (ones (a + 1) p s))
     where
       longer : (s : List ℕ) (b : ℕ) (o : Option (List ℕ)) → Shorter s o → Shorter (b ∷ s) o
       longer s b none h = tt
       longer s b (some r) h = omega arith
-  one_step a p b s (Dict key) e =
+  one_step a p b s (Some (Dict key)) e =
       rw (one, e) (entry_shorter key (drop 1 s) (b ∷ s) (row f (a + 1) p (drop 1 s)) (omega (arith, length-drop 1 s)) (rows (a + 1) p (drop 1 s)))
-  one_step a p b s Paren e = rw (one, e) (tuple_shorter s (b ∷ s) (row f a (p + 1) s) (omega arith) (rows a (p + 1) s))
+  one_step a p b s (Some Paren) e = rw (one, e) (tuple_shorter s (b ∷ s) (row f a (p + 1) s) (omega arith) (rows a (p + 1) s))
   one_step a p b s None e = rw (one, e) tt
 
   row_step : (a p b : ℕ) (s : List ℕ) (x : Bool) → one_of false ")}" b ≡ x
@@ -83,14 +80,14 @@ mutual
 module _ (f g : ℕ)
     (ones : (a p : ℕ) (s : List ℕ) → 2 * length s ≤ f → 2 * length s ≤ g → one f a p s ≡ one g a p s)
     (rows : (a p : ℕ) (s : List ℕ) → 2 * length s + 1 ≤ f → 2 * length s + 1 ≤ g → row f a p s ≡ row g a p s) where
-  one_same : (a p b : ℕ) (s : List ℕ) (x : FirstCode) → head_of a p (b ∷ s) ≡ x → 2 * length (b ∷ s) ≤ suc f → 2 * length (b ∷ s) ≤ suc g
+  one_same : (a p b : ℕ) (s : List ℕ) (x : Maybe FirstCode) → head_of a p (b ∷ s) ≡ x → 2 * length (b ∷ s) ≤ suc f → 2 * length (b ∷ s) ≤ suc g
       → one (suc f) a p (b ∷ s) ≡ one (suc g) a p (b ∷ s)
   unfolding one
-  one_same a p b s Plain e h k = rw (one, e)
-  one_same a p b s Array e h k = rw (one, e) (ones (a + 1) p s (omega arith) (omega arith))
-  one_same a p b s (Dict key) e h k =
+  one_same a p b s (Some Plain) e h k = rw (one, e)
+  one_same a p b s (Some Array) e h k = rw (one, e) (ones (a + 1) p s (omega arith) (omega arith))
+  one_same a p b s (Some (Dict key)) e h k =
       rw (one, e) (ap (dict_entry key) (rows (a + 1) p (drop 1 s) (omega (arith, length-drop 1 s)) (omega (arith, length-drop 1 s))))
-  one_same a p b s Paren e h k = rw (one, e) (ap tuple (rows a (p + 1) s (omega arith) (omega arith)))
+  one_same a p b s (Some Paren) e h k = rw (one, e) (ap tuple (rows a (p + 1) s (omega arith) (omega arith)))
   one_same a p b s None e h k = rw (one, e)
 
   row_same : (a p b : ℕ) (s : List ℕ) (x : Bool) → one_of false ")}" b ≡ x → (o : Option (List ℕ)) → one g a p (b ∷ s) ≡ o

@@ -1,9 +1,9 @@
 -- The signature rule (rules 4.1, 4.2, 4.3 and 4.4).
-use Rattle.std.specs.Prelude.{Bool, true, false, cond, ◌&&◌, ◌||◌, List, [], ◌∷◌, ℕ, zero, suc, ◌+◌, ◌*◌, leb, ltb, eqb, length, drop}
+use Rattle.std.specs.Prelude.{Bool, true, false, cond, ◌&&◌, ◌||◌, List, [], ◌∷◌, ℕ, zero, suc, ◌+◌, ◌*◌, leb, ltb, eqb, length, drop, Option as Maybe, Some, None}
 use Rattle.std.proofs.Math.Option.{Option, none, some}
 use Rattle.wire.specs.Bytes.{byte, one_of, front}
 use Rattle.signature.specs.declared.FirstCode.{FirstCode}
-use Rattle.signature.specs.declared.FirstCode.TheVariants.{Plain, Array, Dict, Paren, None}
+use Rattle.signature.specs.declared.FirstCode.TheVariants.{Plain, Array, Dict, Paren}
 
 -- what a dict entry may have for its key (rule 4.3)
 abbrev pub basic : ℕ → Bool
@@ -11,12 +11,12 @@ basic b = one_of false "ybnqiuxtdsogh" b
 
 -- how a type begins, with so many arrays and parentheses open (rules 4.2 and 4.4): a basic letter or `v`; a `(`; an `a`, which may start a dict
 -- entry with or without a basic key (rule 4.3)
-unfoldable pub head_of : ℕ → ℕ → List ℕ → FirstCode
+unfoldable pub head_of : ℕ → ℕ → List ℕ → Maybe FirstCode
 head_of arrays parens [] = None
 head_of arrays parens (b ∷ s) =
-    cond (basic b || eqb b (byte "v")) Plain
-    (cond (eqb b (byte "(") && ltb parens 32) Paren
-    (cond (eqb b (byte "a") && ltb arrays 32) (cond (eqb (front s) (byte "{")) (Dict (basic (front (drop 1 s)))) Array) None))
+    cond (basic b || eqb b (byte "v")) (Some Plain)
+    (cond (eqb b (byte "(") && ltb parens 32) (Some Paren)
+    (cond (eqb b (byte "a") && ltb arrays 32) (cond (eqb (front s) (byte "{")) (Some (Dict (basic (front (drop 1 s))))) (Some Array)) None))
 
 -- what is left after the byte `by`, where it stands in front and all is `well`
 unfoldable pub closed_by : ℕ → Bool → List ℕ → Option (List ℕ)
@@ -52,11 +52,14 @@ unfoldable mutual
   one zero arrays parens s = none
   one (suc fuel) arrays parens s =
       elim (head_of arrays parens s) [
-        | Plain ↦ some (drop 1 s)
-        | Array ↦ one fuel (arrays + 1) parens (drop 1 s)
-        | Dict key ↦ dict_entry key (row fuel (arrays + 1) parens (drop 2 s))
-        | Paren ↦ tuple (row fuel arrays (parens + 1) (drop 1 s))
         | None ↦ none
+        | Some first ↦
+            elim first [
+              | Plain ↦ some (drop 1 s)
+              | Array ↦ one fuel (arrays + 1) parens (drop 1 s)
+              | Dict key ↦ dict_entry key (row fuel (arrays + 1) parens (drop 2 s))
+              | Paren ↦ tuple (row fuel arrays (parens + 1) (drop 1 s))
+            ]
       ]
 
   -- the types in a row in front of s, up to a `)`, a `}` or the end (rule 4.1)

@@ -12,21 +12,13 @@ pub enum FirstCode {
     Array,
     Dict(bool),
     Paren,
-    None,
-}
-
-// Where the bytes after one type start.
-#[derive(Clone, Copy)]
-pub enum TypeEnd {
-    Rest(usize),
-    Bad,
 }
 
 // How many types stand in a row, and where the bytes after them start.
 #[derive(Clone, Copy)]
-pub enum RowEnd {
-    Types(usize, usize),
-    Bad,
+pub struct RowEnd {
+    pub types: usize,
+    pub end: usize,
 }
 
 pub fn is_basic(b: u8) -> bool
@@ -47,94 +39,84 @@ pub fn is_basic(b: u8) -> bool
         | (b == b'h')
 }
 
-fn head_at(s: &[u8], at: usize, arrays: usize, parens: usize) -> FirstCode
+fn head_at(s: &[u8], at: usize, arrays: usize, parens: usize) -> Option<FirstCode>
     ensures { HeadAt s.now at arrays parens result }
 {
     if s.len() <= at {
-        return FirstCode::None;
+        return None;
     }
     let b = s[at];
     if is_basic(b) | (b == b'v') {
-        return FirstCode::Plain;
+        return Some(FirstCode::Plain);
     }
     if (b == b'(') & (parens < 32) {
-        return FirstCode::Paren;
+        return Some(FirstCode::Paren);
     }
     if (b == b'a') & (arrays < 32) {
         if wire::peek(s, at + 1) == b'{' {
-            if is_basic(wire::peek(s, at + 2)) {
-                return FirstCode::Dict(true);
-            }
-            return FirstCode::Dict(false);
+            let key = is_basic(wire::peek(s, at + 2));
+            return Some(FirstCode::Dict(key));
         }
-        return FirstCode::Array;
+        return Some(FirstCode::Array);
     }
-    FirstCode::None
+    None
 }
 
 // Past the closing byte at `end`, where all is well so far.
-fn close(s: &[u8], end: usize, well: bool, by: u8) -> TypeEnd
+fn close(s: &[u8], end: usize, well: bool, by: u8) -> Option<usize>
     ensures is { left_of s.now result ≡ closed_by by well (drop end s.now) }
     ensures fits { StepFits s.now end result }
 {
     if s.len() <= end {
-        return TypeEnd::Bad;
+        return None;
     }
     if well & (s[end] == by) {
-        TypeEnd::Rest(end + 1)
+        Some(end + 1)
     } else {
-        TypeEnd::Bad
+        None
     }
 }
 
-// The one type at `at`.
+// Where the bytes after the one type at `at` start.
 #[cycle(list_one)]
-fn one(s: &[u8], at: usize, arrays: usize, parens: usize) -> TypeEnd
+fn one(s: &[u8], at: usize, arrays: usize, parens: usize) -> Option<usize>
     ensures { OneAt s.now at arrays parens result }
 {
-    match head_at(s, at, arrays, parens) {
-        FirstCode::Plain => TypeEnd::Rest(at + 1),
+    match head_at(s, at, arrays, parens)? {
+        FirstCode::Plain => Some(at + 1),
         FirstCode::Array => one(s, at + 1, arrays + 1, parens),
-        FirstCode::Dict(key) => match list(s, at + 2, arrays + 1, parens) {
-            RowEnd::Types(n, end) => close(s, end, key & (n == 2), b'}'),
-            RowEnd::Bad => TypeEnd::Bad,
-        },
-        FirstCode::Paren => match list(s, at + 1, arrays, parens + 1) {
-            RowEnd::Types(n, end) => close(s, end, 1 <= n, b')'),
-            RowEnd::Bad => TypeEnd::Bad,
-        },
-        FirstCode::None => TypeEnd::Bad,
+        FirstCode::Dict(key) => {
+            let row = list(s, at + 2, arrays + 1, parens)?;
+            close(s, row.end, key & (row.types == 2), b'}')
+        }
+        FirstCode::Paren => {
+            let row = list(s, at + 1, arrays, parens + 1)?;
+            close(s, row.end, 1 <= row.types, b')')
+        }
     }
 }
 
 // The types in a row from `at` on, up to a closing byte or the end. A plain letter is a type at sight; any other is asked of `one`.
 #[cycle(list_one)]
-fn list(s: &[u8], at: usize, arrays: usize, parens: usize) -> RowEnd
+fn list(s: &[u8], at: usize, arrays: usize, parens: usize) -> Option<RowEnd>
     ensures { RowAt s.now at arrays parens result }
 {
-    let mut i = at;
-    let mut n: usize = 0;
-    while i < s.len() {
-        let b = s[i];
+    let mut end = at;
+    let mut types: usize = 0;
+    while end < s.len() {
+        let b = s[end];
         if is_basic(b) | (b == b'v') {
-            i += 1;
-            n += 1;
+            end += 1;
+            types += 1;
         } else {
             if (b == b')') | (b == b'}') {
-                return RowEnd::Types(n, i);
+                return Some(RowEnd { types, end });
             }
-            match one(s, i, arrays, parens) {
-                TypeEnd::Rest(next) => {
-                    i = next;
-                    n += 1;
-                }
-                TypeEnd::Bad => {
-                    return RowEnd::Bad;
-                }
-            }
+            end = one(s, end, arrays, parens)?;
+            types += 1;
         }
     }
-    RowEnd::Types(n, i)
+    Some(RowEnd { types, end })
 }
 
 pub fn is_valid(s: &[u8]) -> bool
@@ -144,7 +126,7 @@ pub fn is_valid(s: &[u8]) -> bool
         return false;
     }
     match list(s, 0, 0, 0) {
-        RowEnd::Types(_, end) => s.len() <= end,
-        RowEnd::Bad => false,
+        Some(row) => s.len() <= row.end,
+        None => false,
     }
 }

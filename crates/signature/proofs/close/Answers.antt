@@ -1,12 +1,6 @@
 -- `signature::close` meets its contract.
-use mathlib.Core.Path.{◌≡◌}
-use mathlib.Core.Bool.{Bool, true, false, ◌&&◌}
-use mathlib.Core.List.{List}
+use Rattle.std.proofs.Common.{◌≡◌, Bool, true, false, ◌&&◌, List, ℕ, ◌+◌, ◌≤◌, ◌<◌, eqb, length, drop, get_or, rules}
 use mathlib.Core.Option.{none, some}
-use Prim.Native.Nat.{ℕ, ◌+◌, ◌≤◌, ◌<◌}
-use lib.Dec.{eqb}
-use lib.ListN.{length, drop, get_or}
-use borrow.Author.Rules.{rules}
 use Rattle.signature.specs.Signature.{closed_by}
 use Rattle.wire.proofs.From.{next, past}
 use Rattle.signature.proofs.close.Goals as goal
@@ -28,12 +22,6 @@ ruleset closing = (none_left, closes, differs, rules)
 
 pub returns-then-s-end : goal.returns-then-s-end
 returns-then-s-end c = search closing
-
-pub bounds-s-end : goal.bounds-s-end
-bounds-s-end c = search closing
-
-pub overflow_add-result : goal.overflow_add-result
-overflow_add-result c = search closing
 
 pub returns-then-well-s : goal.returns-then-well-s
 returns-then-well-s c = search closing
