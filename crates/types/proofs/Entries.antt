@@ -1,15 +1,10 @@
 -- What the tables are to hold for a byte: a law for each way through the code.
-use mathlib.Core.Path.{◌≡◌, refl, sym, ◌∙◌}
-use mathlib.Core.Bool.{Bool, true, false, not, ◌&&◌, ◌||◌, false≢true}
-use mathlib.Core.List.{List, ◌∷◌}
+use Rattle.std.proofs.Common.{◌≡◌, refl, sym, ◌∙◌, Bool, true, false, not, ◌&&◌, ◌||◌, List, ◌∷◌, ℕ, ◌+◌, ◌-◌, ◌*◌, ◌≤◌, ◌<◌, min, arith, eqb, ltb}
+use Rattle.std.proofs.Common.{length, drop, get_or, rules, eq-eqb, ne_eqb, eqb-true, ltb-true, ltb-false}
+use mathlib.Core.Bool.{false≢true}
 use mathlib.Core.Option.{none, some}
-use Prim.Native.Nat.{ℕ, ◌+◌, ◌-◌, ◌*◌, ◌≤◌, ◌<◌, min}
 use native.Mathlib.Decide.{dec_le}
-use native.Mathlib.Omega.{arith}
-use lib.Dec.{eqb, ltb}
-use lib.ListN.{length, drop, get_or}
-use borrow.Author.Rules.{rules}
-use borrow.Author.Tests.{eq-eqb, ne_eqb, eqb-true, ltb-true, ltb-false, not-true, not-false}
+use borrow.Author.Tests.{not-true, not-false}
 use Rattle.wire.specs.Bytes.{front}
 use Rattle.wire.proofs.From.{next, past, first}
 use Rattle.wire.proofs.Texts.{both_first, both_second}
@@ -173,26 +168,14 @@ opens_more s i j o e k l m = go (dec_le j k)
     go (no n) = o k l (omega (arith, n))
 
 -- a block, of which k bytes have been looked at
-pub record Blocking (s : List ℕ) (at k : ℕ) (good : Bool) : Type 0 where
-  pub inside : at + 8 ≤ length s
-  pub high : k ≤ 8
-  pub all : good ≡ true → Opens s at (at + k)
+module _ (s : List ℕ) (at : ℕ) where
+  pub block_begin : true ≡ true → Opens s at (at + 0)
+  block_begin t j m n = absurd (omega arith)
 
-pub block_begin : {s : List ℕ} {at : ℕ} → at + 8 ≤ length s → Blocking s at 0 true
-block_begin l = record { inside = l; high = omega arith; all = λ t j m n. absurd (omega arith) }
-
-module _ {s : List ℕ} {at k : ℕ} {good : Bool} (p : Blocking s at k good) where
-  pub block_more : k < 8 → Blocking s at (k + 1) (good && eqb (get_or s (at + k) 0) 40)
-  block_more l =
-      record {
-        inside = p.inside;
-        high = omega arith;
-        all = λ t. let e : at + k + 1 ≡ at + (k + 1) = omega arith in
-            rw e at (opens_more s at (at + k) (p.all (both_first good _ t)) (eqb-true (get_or s (at + k) 0) 40 (both_second good _ t)));
-      }
-
-  pub block_end : 8 ≤ k → good ≡ true → Opens s at (at + 8)
-  block_end l t = let e : k ≡ 8 = omega (arith, p.high) in rw e at (p.all t)
+  pub block_more : (k : ℕ) {good : Bool} → (good ≡ true → Opens s at (at + k)) → good && eqb (get_or s (at + k) 0) 40 ≡ true → Opens s at (at + (k + 1))
+  block_more k {good} p t =
+      let e : at + k + 1 ≡ at + (k + 1) = omega arith in
+      rw e at (opens_more s at (at + k) (p (both_first good _ t)) (eqb-true (get_or s (at + k) 0) 40 (both_second good _ t)))
 
 module _ {s : List ℕ} {i : ℕ} where
   pub opened_begin : OpenedAt s i i
@@ -214,7 +197,7 @@ module _ {s : List ℕ} {i : ℕ} where
           go (yes n) = w (not-false r t) k n m
           go (no n) = o.all k l (omega (arith, n))
 
-pub ruleset opened = (block_begin, block_more, block_end, opened_begin, opened_here, opened_more, opened_block, rules)
+pub ruleset opened = (block_begin, block_more, opened_begin, opened_here, opened_more, opened_block, rules)
 
 -- ---- the end of a type, and the table from a later byte on
 

@@ -1,20 +1,14 @@
 -- The tables, from their ends on, and what they say of the whole signature.
-use mathlib.Core.Path.{◌≡◌, refl, sym, subst, ◌∙◌}
-use mathlib.Core.Bool.{Bool, true, false, cond, ◌&&◌, ◌||◌, false≢true}
-use mathlib.Core.List.{List, [], ◌∷◌}
+use Rattle.std.proofs.Common.{◌≡◌, refl, sym, subst, ◌∙◌, Bool, true, false, cond, ◌&&◌, ◌||◌, List, [], ◌∷◌, ℕ, zero, suc, ◌+◌, ◌-◌, ◌*◌}
+use Rattle.std.proofs.Common.{◌%◌, ◌≤◌, ◌<◌, arith, add-one, leb, eqb, length, drop, get_or, set, replicate, length-drop, length-set, get_or-set_same}
+use Rattle.std.proofs.Common.{get_or-set_other, rules, le-leb, leb-true, eq-eqb, ne_eqb, eqb-true}
+use mathlib.Core.Bool.{false≢true}
 use mathlib.Core.Option.{Option, none, some}
-use Prim.Native.Nat.{ℕ, zero, suc, ◌+◌, ◌-◌, ◌*◌, ◌%◌, ◌≤◌, ◌<◌}
 use native.Mathlib.Decide.{dec_le}
-use native.Mathlib.Omega.{arith}
-use native.Mathlib.Numerals.{add-one}
-use lib.Dec.{leb, eqb}
-use lib.ListN.{length, drop, get_or, set, replicate, length-drop, length-set, get_or-replicate}
-use lib.Seq.{get_or-set_same, get_or-set_other}
-use borrow.Author.Rules.{rules}
-use borrow.Author.Tests.{le-leb, leb-true, eq-eqb, ne_eqb, eqb-true}
+use lib.ListN.{get_or-replicate}
 use Rattle.wire.proofs.From.{past}
 use Rattle.wire.proofs.Texts.{agree}
-use Rattle.signature.specs.Signature.{Row, basic, one_more, one, row}
+use Rattle.signature.specs.Signature.{Row, one_more, one, row}
 use Rattle.types.specs.Letters.{opens, closes, letter}
 use Rattle.types.specs.Types.{behind, alone, single}
 use Rattle.types.specs.Promises.{EndAt, ClosedAt, EndsFrom, EndsOf}

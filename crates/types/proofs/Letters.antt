@@ -1,11 +1,6 @@
 -- What the tests of a letter say.
-use mathlib.Core.Path.{◌≡◌}
-use mathlib.Core.Bool.{Bool, true, false, cond, ◌||◌, false≢true}
-use Prim.Native.Nat.{ℕ, ◌≤◌}
-use native.Mathlib.Omega.{arith}
-use lib.Dec.{eqb}
-use borrow.Author.Rules.{rules}
-use borrow.Author.Tests.{ne_eqb}
+use Rattle.std.proofs.Common.{◌≡◌, Bool, true, false, cond, ◌||◌, ℕ, ◌≤◌, arith, eqb, rules, ne_eqb}
+use mathlib.Core.Bool.{false≢true}
 use Rattle.wire.specs.Bytes.{one_of}
 use Rattle.signature.specs.Signature.{basic}
 use Rattle.types.specs.Letters.{opens, closes, letter, align_of, width_of}

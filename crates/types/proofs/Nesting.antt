@@ -1,13 +1,9 @@
 -- How deep the types of a signature are nested: the signature rule against the two numbers of a type.
-use mathlib.Core.Path.{◌≡◌, refl, sym, ◌∙◌}
-use mathlib.Core.Bool.{Bool, true, false, not, ◌&&◌, ◌||◌, and-false, and_assoc, false≢true}
-use mathlib.Core.List.{List, [], ◌∷◌}
+use Rattle.std.proofs.Common.{◌≡◌, refl, sym, ◌∙◌, Bool, true, false, not, ◌&&◌, ◌||◌, List, [], ◌∷◌, ℕ, zero, suc, ◌+◌, ◌-◌, ◌*◌, ◌≤◌, min}
+use Rattle.std.proofs.Common.{max, arith, leb, ltb, eqb, length, le-leb, leb-true, leb-false, ltb-true, ltb-false, ne_eqb, eqb-true}
+use mathlib.Core.Bool.{and-false, and_assoc, false≢true}
 use mathlib.Core.Option.{Option, none, some}
-use Prim.Native.Nat.{ℕ, zero, suc, ◌+◌, ◌-◌, ◌*◌, ◌≤◌, min, max}
-use native.Mathlib.Omega.{arith}
-use lib.Dec.{leb, ltb, eqb}
-use lib.ListN.{length}
-use borrow.Author.Tests.{le-leb, lt-leb, leb-true, leb-false, ltb-true, ltb-false, ne_eqb, eqb-true, not-true, not-false}
+use borrow.Author.Tests.{lt-leb, not-true, not-false}
 use Rattle.wire.specs.Bytes.{front}
 use Rattle.wire.proofs.Texts.{agree}
 use Rattle.signature.specs.Signature.{Row, basic, head_of, closed_by, tuple, dict_entry, one_more, one, row}

@@ -1,13 +1,8 @@
 -- A row of types that is being walked: how deep its types are nested, and where it ends.
-use mathlib.Core.Path.{◌≡◌, refl, sym, ◌∙◌}
-use mathlib.Core.Bool.{Bool, true, false}
-use mathlib.Core.List.{List}
+use Rattle.std.proofs.Common.{◌≡◌, refl, sym, ◌∙◌, Bool, true, false, List, ℕ, zero, suc, ◌+◌, ◌-◌, ◌*◌, ◌≤◌, ◌<◌, max, arith, length, drop}
+use Rattle.std.proofs.Common.{get_or, length-drop, rules}
 use mathlib.Core.Option.{Option, none, some}
-use Prim.Native.Nat.{ℕ, zero, suc, ◌+◌, ◌-◌, ◌*◌, ◌≤◌, ◌<◌, max}
 use native.Mathlib.Decide.{dec_le}
-use native.Mathlib.Omega.{arith}
-use lib.ListN.{length, drop, get_or, length-drop}
-use borrow.Author.Rules.{rules}
 use Rattle.wire.proofs.From.{next, past}
 use Rattle.signature.specs.Signature.{Row, one_more, row}
 use Rattle.types.specs.Letters.{closes}

@@ -1,6 +1,6 @@
 -- The worked examples hold of the definition: one statement, which antt computes.
-use mathlib.Core.Path.{◌≡◌, refl}
-use mathlib.Core.Bool.{true, beq}
+use Rattle.std.proofs.Common.{◌≡◌, refl, true}
+use mathlib.Core.Bool.{beq}
 use Rattle.wire.specs.Lists.{agrees}
 use Rattle.signature.specs.Signature.{head_of, closed_by, one, row}
 use Rattle.types.specs.Types.{single}

@@ -1,16 +1,26 @@
 // The types of a signature: their letters, and where each of them ends.
 #![tactic(auto)]
 
-ghost use Rattle.std.specs.Prelude.{◌≡◌, true, false, ◌+◌, ◌≤◌, ◌<◌, min, max, length, get_or};
+ghost use Rattle.std.specs.Prelude.{◌≡◌, true, false, ◌+◌, ◌≤◌, ◌<◌, min, length, get_or};
 ghost use Rattle.wire.specs.Bytes.{byte};
 ghost use Rattle.types.specs.Letters.{opens, closes, letter, align_of, width_of};
 ghost use Rattle.types.specs.Promises.{EndAt, EndsFrom, EndsOf, Opens, OpenedAt, ShutAt};
 ghost use Rattle.types.specs.Nest.{RowAt, EntryAt, NestAt, NestsFrom, NestsBehind};
 
-// Of a type or a row of types: where it ends, and how many arrays and how many parentheses it opens in one another at most. A type that is not
-// complete opens 33 arrays, which is one too many wherever it stands.
+// Of a type or a row of types: where it ends, and how many arrays and how many parentheses it opens in one another at most.
 #[derive(Clone, Copy)]
-struct Nest(usize, u8, u8);
+struct Nest {
+    end: usize,
+    arrays: u8,
+    parens: u8,
+}
+
+// A type that is not complete opens 33 arrays, which is one too many wherever it stands.
+const BROKEN: Nest = Nest {
+    end: 0,
+    arrays: 33,
+    parens: 0,
+};
 
 // ---- letters
 
@@ -55,19 +65,13 @@ pub fn is_letter(b: u8) -> bool
 fn more(n: u8) -> u8
     ensures { result ≡ min (n + 1) 33 }
 {
-    if n < 33 { n + 1 } else { 33 }
-}
-
-fn most(a: u8, b: u8) -> u8
-    ensures { result ≡ max a b }
-{
-    if a < b { b } else { a }
+    n.min(32) + 1
 }
 
 // The types in a row from i on, up to a closing byte or the end: each is hopped over.
 fn row_at(s: &[u8], ends: &[u8; 256], arrays: &[u8; 256], parens: &[u8; 256], i: usize) -> Nest
     requires { (i ≤ length s.now) × NestsFrom s.now ends.now arrays.now parens.now i }
-    ensures { RowAt s.now i result.0 result.1 result.2 }
+    ensures { RowAt s.now i result.end result.arrays result.parens }
 {
     let mut j = i;
     let mut a: u8 = 0;
@@ -75,64 +79,88 @@ fn row_at(s: &[u8], ends: &[u8; 256], arrays: &[u8; 256], parens: &[u8; 256], i:
     while j < s.len() {
         let b = s[j];
         if (b == b')') | (b == b'}') {
-            return Nest(j, a, p);
+            return Nest {
+                end: j,
+                arrays: a,
+                parens: p,
+            };
         }
-        a = most(a, arrays[j]);
-        p = most(p, parens[j]);
-        j = wire::wide(ends[j]) as usize;
+        a = a.max(arrays[j]);
+        p = p.max(parens[j]);
+        j = ends[j] as usize;
     }
-    Nest(j, a, p)
+    Nest {
+        end: j,
+        arrays: a,
+        parens: p,
+    }
 }
 
 // A bracket at i. A dict entry is a type only behind the `a` in front of it, so a brace is none here.
 fn bracket_at(s: &[u8], ends: &[u8; 256], arrays: &[u8; 256], parens: &[u8; 256], i: usize) -> Nest
     requires { NestsBehind s.now ends.now arrays.now parens.now i × (opens (get_or s.now i 0) ≡ true) }
-    ensures { NestAt s.now i result.0 result.1 result.2 }
+    ensures { NestAt s.now i result.end result.arrays result.parens }
 {
     let row = row_at(s, ends, arrays, parens, i + 1);
-    let e = row.0;
+    let e = row.end;
     if s.len() <= e {
-        return Nest(e, 33, 0);
+        return Nest { end: e, ..BROKEN };
     }
     if (s[i] == b'(') & (s[e] == b')') & (i + 1 < e) {
-        return Nest(e + 1, row.1, more(row.2));
+        let parens = more(row.parens);
+        return Nest {
+            end: e + 1,
+            arrays: row.arrays,
+            parens,
+        };
     }
-    Nest(e + 1, 33, 0)
+    Nest {
+        end: e + 1,
+        ..BROKEN
+    }
 }
 
 // An `a` at i with a dict entry behind it: a basic letter and one type more. The table says where the brace ends.
 fn entry_at(s: &[u8], ends: &[u8; 256], arrays: &[u8; 256], parens: &[u8; 256], i: usize) -> Nest
     requires { NestsBehind s.now ends.now arrays.now parens.now i × EntryAt s.now i }
-    ensures { NestAt s.now i result.0 result.1 result.2 }
+    ensures { NestAt s.now i result.end result.arrays result.parens }
 {
-    let end = wire::wide(ends[i + 1]) as usize;
+    let end = ends[i + 1] as usize;
     if !signature::is_basic(wire::peek(s, i + 2)) {
-        return Nest(end, 33, 0);
+        return Nest { end, ..BROKEN };
     }
     let k = i + 3;
-    if wire::peek(s, wire::wide(ends[k]) as usize) != b'}' {
-        return Nest(end, 33, 0);
+    if wire::peek(s, ends[k] as usize) != b'}' {
+        return Nest { end, ..BROKEN };
     }
-    Nest(end, more(arrays[k]), parens[k])
+    Nest {
+        end,
+        arrays: more(arrays[k]),
+        parens: parens[k],
+    }
 }
 
 // An `a` at i, which ends where the type behind it does.
 fn array_at(s: &[u8], ends: &[u8; 256], arrays: &[u8; 256], parens: &[u8; 256], i: usize) -> Nest
     requires { NestsBehind s.now ends.now arrays.now parens.now i × (get_or s.now i 0 ≡ byte "a") }
-    ensures { NestAt s.now i result.0 result.1 result.2 }
+    ensures { NestAt s.now i result.end result.arrays result.parens }
 {
     let k = i + 1;
     if s.len() <= k {
-        return Nest(k, 33, 0);
+        return Nest { end: k, ..BROKEN };
     }
     let b = s[k];
     if (b == b')') | (b == b'}') {
-        return Nest(k, 33, 0);
+        return Nest { end: k, ..BROKEN };
     }
     if b == b'{' {
         return entry_at(s, ends, arrays, parens, i);
     }
-    Nest(wire::wide(ends[k]) as usize, more(arrays[k]), parens[k])
+    Nest {
+        end: ends[k] as usize,
+        arrays: more(arrays[k]),
+        parens: parens[k],
+    }
 }
 
 // The end of the closing bytes in a row at i, by the table from i on; i where none stands.
@@ -145,7 +173,7 @@ fn run_at(s: &[u8], ends: &[u8], i: usize) -> usize
     }
     let b = s[i];
     if (b == b')') | (b == b'}') {
-        return wire::wide(ends[i]) as usize;
+        return ends[i] as usize;
     }
     i
 }
@@ -153,12 +181,16 @@ fn run_at(s: &[u8], ends: &[u8], i: usize) -> usize
 // What the tables are to hold for the byte at i, by what they hold behind it.
 fn nest_at(s: &[u8], ends: &[u8; 256], arrays: &[u8; 256], parens: &[u8; 256], i: usize) -> Nest
     requires { NestsBehind s.now ends.now arrays.now parens.now i }
-    ensures { NestAt s.now i result.0 result.1 result.2 }
+    ensures { NestAt s.now i result.end result.arrays result.parens }
 {
     let b = s[i];
     let k = i + 1;
     if signature::is_basic(b) | (b == b'v') {
-        return Nest(k, 0, 0);
+        return Nest {
+            end: k,
+            arrays: 0,
+            parens: 0,
+        };
     }
     if b == b'a' {
         return array_at(s, ends, arrays, parens, i);
@@ -168,9 +200,9 @@ fn nest_at(s: &[u8], ends: &[u8; 256], arrays: &[u8; 256], parens: &[u8; 256], i
     }
     if (b == b')') | (b == b'}') {
         let run = run_at(s, ends, k);
-        return Nest(run, 33, 0);
+        return Nest { end: run, ..BROKEN };
     }
-    Nest(k, 33, 0)
+    Nest { end: k, ..BROKEN }
 }
 
 // ---- the table
@@ -183,15 +215,13 @@ pub fn ends_of(s: &[u8], ends: &mut [u8; 256]) -> bool
 {
     let mut arrays = [33u8; 256];
     let mut parens = [0u8; 256];
-    let mut i = s.len();
-    while 0 < i {
-        i -= 1;
-        let n = nest_at(s, ends, &arrays, &parens, i);
-        ends[i] = (n.0 % 256) as u8;
-        arrays[i] = n.1;
-        parens[i] = n.2;
+    for i in (0..s.len()).rev() {
+        let nest = nest_at(s, ends, &arrays, &parens, i);
+        ends[i] = (nest.end % 256) as u8;
+        arrays[i] = nest.arrays;
+        parens[i] = nest.parens;
     }
-    (arrays[0] <= 32) & (parens[0] <= 32) & (s.len() <= wire::wide(ends[0]) as usize)
+    (arrays[0] <= 32) & (parens[0] <= 32) & (s.len() <= ends[0] as usize)
 }
 
 // The end of the type at i.
@@ -199,7 +229,7 @@ pub fn hop(sig: &[u8], ends: &[u8], i: usize) -> usize
     requires { EndsFrom sig.now ends.now 0 × (i < length sig.now) × (closes (get_or sig.now i 0) ≡ false) }
     ensures { EndAt sig.now i result }
 {
-    wire::wide(ends[i]) as usize
+    ends[i] as usize
 }
 
 // The eight bytes at `at` are opening parentheses. Each is looked at, with no exit between them, so that the compiler takes them at once.
@@ -208,10 +238,8 @@ fn is_open_block(s: &[u8], at: usize) -> bool
     ensures { result ≡ true → Opens s.now at (at + 8) }
 {
     let mut good = true;
-    let mut k = 0;
-    while k < 8 {
+    for k in 0..8 {
         good = good & (s[at + k] == b'(');
-        k += 1;
     }
     good
 }

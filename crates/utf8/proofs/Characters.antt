@@ -1,19 +1,14 @@
 -- A character at a time: its first byte, the bytes that follow it, and what is left behind it.
-use mathlib.Core.Path.{◌≡◌, refl, sym, ap, ◌∙◌}
-use mathlib.Core.Bool.{Bool, true, false, not, ◌&&◌, and-false, and_assoc, false≢true}
-use mathlib.Core.List.{List, [], ◌∷◌}
-use Prim.Native.Nat.{ℕ, zero, suc, ◌+◌, ◌-◌, ◌≤◌, ◌<◌}
-use native.Mathlib.Nat.{add-zero, sub-zero}
-use native.Mathlib.Omega.{arith}
-use lib.ListN.{length, drop, get_or, length-drop}
-use borrow.Author.Rules.{rules}
-use borrow.Author.Tests.{le-leb, lt-leb, ne_eqb, not-true, not-false}
+use Rattle.std.proofs.Common.{◌≡◌, refl, sym, ap, ◌∙◌, Bool, true, false, not, ◌&&◌, List, [], ◌∷◌, ℕ, zero, suc, ◌+◌, ◌-◌, ◌≤◌, ◌<◌, add-zero, arith}
+use Rattle.std.proofs.Common.{length, drop, get_or, length-drop, rules, le-leb, ne_eqb, Option, Some, None}
+use mathlib.Core.Bool.{and-false, and_assoc, false≢true}
+use native.Mathlib.Nat.{sub-zero}
+use borrow.Author.Tests.{lt-leb, not-true, not-false}
 use Rattle.wire.proofs.From.{next}
 use Rattle.utf8.specs.Utf8.{within, ascii, lead_of, utf8_from, valid_utf_8}
 use Rattle.utf8.specs.Scan.{valid_from, Tail, Past}
 use Rattle.utf8.proofs.Lines.{told}
 use Rattle.utf8.specs.declared.Lead.{Lead}
-use Rattle.utf8.specs.declared.Lead.TheVariants.{Follow, Bad}
 
 -- ---- the bytes that end a character
 
@@ -39,12 +34,11 @@ tail_short {s} {at} {due} {low} {high} h =
 
 pub record Trailing (s : List ℕ) (at due first last : ℕ) (good : Bool) (low high i : ℕ) : Type 0 where
   pub inside : at + due ≤ length s
-  pub few : i ≤ due
   pub rest : utf8_from due first last (drop at s) ≡ good && utf8_from (due - i) low high (drop (at + i) s)
 
 pub tail_begin : {s : List ℕ} {at due first last : ℕ} → at ≤ length s → due ≤ length s - at
     → Trailing s at due first last true first last 0
-tail_begin {s} {at} {due} h k = record { inside = omega arith; few = omega arith; rest = rw (sub-zero due, add-zero at) }
+tail_begin {s} {at} {due} h k = record { inside = omega arith; rest = rw (sub-zero due, add-zero at) }
 
 module _ {s : List ℕ} {at due first last : ℕ} {good : Bool} {low high i : ℕ} (z : Trailing s at due first last good low high i) where
   pub tail_more : i < due → {r : Bool} → r ≡ within low high (get_or s (at + i) 0) → Trailing s at due first last (good && r) 0x80 0xbf (i + 1)
@@ -54,16 +48,14 @@ module _ {s : List ℕ} {at due first last : ℕ} {good : Bool} {low high i : �
       let g : at + (i + 1) ≡ at + i + 1 = omega arith in
       record {
         inside = z.inside;
-        few = omega arith;
         rest =
             z.rest
             ∙ rw (f, next s (at + i) (omega arith), ← e, g)
             (sym (and_assoc good r (utf8_from (due - (i + 1)) 0x80 0xbf (drop (at + i + 1) s))));
       }
 
-  pub tail_end : due ≤ i → Tail s at due first last good
-  tail_end h =
-      let e : i ≡ due = omega arith in
+  pub tail_end : i ≡ due → Tail s at due first last good
+  tail_end e =
       let f : due - due ≡ 0 = omega arith in
       record {
         inside = λ t. z.inside;
@@ -85,7 +77,7 @@ pass_begin h k = record { inside = h; goal = k; rest = refl }
 
 -- a first byte
 step : (s : List ℕ) (i : ℕ) → i < length s
-    → valid_from s i ≡ elim (lead_of (get_or s i 0)) [ Follow n low high ↦ utf8_from n low high (drop (i + 1) s) | Bad ↦ false ]
+    → valid_from s i ≡ elim (lead_of (get_or s i 0)) [ None ↦ false | Some l ↦ utf8_from l.due l.low l.high (drop (i + 1) s) ]
 unfolding valid_from valid_utf_8 utf8_from
 step s i h = rw (utf8_from, le-leb i (length s) (omega arith), next s i h)
 
@@ -113,18 +105,18 @@ module _ {s : List ℕ} {from to i : ℕ} (z : Passing s from to i) where
         let l : i < length s = omega arith in
         record { inside = omega arith; goal = z.goal; rest = z.rest ∙ ascii_on s i l (sym e ∙ not-false r t) }
 
-    module _ {x : Lead} (e : x ≡ lead_of (get_or s i 0)) where
-      pub pass_bad : x ≡ Bad → Past s from to (length s + 1)
+    module _ {x : Option Lead} (e : x ≡ lead_of (get_or s i 0)) where
+      pub pass_bad : x ≡ None → Past s from to (length s + 1)
       pass_bad q = stop (step s i (omega arith) ∙ rw (← e, q))
 
-      module _ {due low high : ℕ} (q : x ≡ Follow due low high) {r : Bool} (d : Tail s (i + 1) due low high r) where
-        whole : valid_from s i ≡ r && valid_from s (i + 1 + due)
+      module _ {l : Lead} (q : x ≡ Some l) {r : Bool} (d : Tail s (i + 1) l.due l.low l.high r) where
+        whole : valid_from s i ≡ r && valid_from s (i + 1 + l.due)
         whole = step s i (omega arith) ∙ rw (← e, q) d.rest
 
         pub pass_stop : not r ≡ true → Past s from to (length s + 1)
         pass_stop t = stop (whole ∙ rw (not-true r t))
 
-        pub pass_more : not r ≡ false → Passing s from to (i + 1 + due)
+        pub pass_more : not r ≡ false → Passing s from to (i + 1 + l.due)
         pass_more t =
             let y : r ≡ true = not-false r t in
             record { inside = d.inside y; goal = z.goal; rest = z.rest ∙ whole ∙ rw y }

@@ -4,6 +4,3 @@ use Rattle.types.proofs.ends_of.Given as goal
 
 abbrev pub invariant-loop-i : goal.invariant-loop-i
 invariant-loop-i l = Filling l.s l.ends l.arrays l.parens l.i
-
-abbrev pub decreases-loop-i : goal.decreases-loop-i
-decreases-loop-i l = l.i

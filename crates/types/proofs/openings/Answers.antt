@@ -8,17 +8,8 @@ past_blocks-j-requires c = search opened
 pub loop-j-init : goal.loop-j-init
 loop-j-init c = search opened
 
-pub bounds-sig-j : goal.bounds-sig-j
-bounds-sig-j c = search opened
-
 pub returns-then-sig-j-ne40 : goal.returns-then-sig-j-ne40
 returns-then-sig-j-ne40 c = search opened
-
-pub overflow_add-j : goal.overflow_add-j
-overflow_add-j c = search opened
-
-pub loop-j-smaller : goal.loop-j-smaller
-loop-j-smaller c = search opened
 
 pub loop-j-preserved : goal.loop-j-preserved
 loop-j-preserved c = search opened

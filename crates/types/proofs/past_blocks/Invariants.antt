@@ -1,6 +1,5 @@
 -- `types::past_blocks` meets its contract.
-use Prim.Native.Nat.{◌-◌}
-use lib.ListN.{length}
+use Rattle.std.proofs.Common.{◌-◌, length}
 use Rattle.types.specs.Promises.{OpenedAt}
 use Rattle.types.proofs.past_blocks.Given as goal
 

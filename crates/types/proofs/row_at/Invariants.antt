@@ -1,6 +1,5 @@
 -- `types::row_at` meets its contract.
-use Prim.Native.Nat.{◌-◌}
-use lib.ListN.{length}
+use Rattle.std.proofs.Common.{◌-◌, length}
 use Rattle.types.proofs.Rows.{Walking}
 use Rattle.types.proofs.row_at.Given as goal
 

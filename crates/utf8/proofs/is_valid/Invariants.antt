@@ -1,6 +1,5 @@
 -- `utf8::is_valid` meets its contract.
-use Prim.Native.Nat.{◌-◌}
-use lib.ListN.{length}
+use Rattle.std.proofs.Common.{◌-◌, length}
 use Rattle.utf8.proofs.Blocks.{Left}
 use Rattle.utf8.proofs.is_valid.Given as goal
 

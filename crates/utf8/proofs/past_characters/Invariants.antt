@@ -1,6 +1,5 @@
 -- `utf8::past_characters` meets its contract.
-use Prim.Native.Nat.{◌-◌}
-use lib.ListN.{length}
+use Rattle.std.proofs.Common.{◌-◌, length}
 use Rattle.utf8.proofs.Characters.{Passing}
 use Rattle.utf8.proofs.past_characters.Given as goal
 
