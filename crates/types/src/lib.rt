@@ -22,6 +22,15 @@ const BROKEN: Nest = Nest {
     parens: 0,
 };
 
+// A signature, and its tables: for each byte where the type ends that begins there, and how many arrays and parentheses it opens.
+#[derive(Clone, Copy)]
+struct Nests<'a> {
+    s: &'a [u8],
+    ends: &'a [u8; 256],
+    arrays: &'a [u8; 256],
+    parens: &'a [u8; 256],
+}
+
 // ---- letters
 
 pub fn align_of(b: u8) -> usize
@@ -68,101 +77,6 @@ fn more(n: u8) -> u8
     n.min(32) + 1
 }
 
-// The types in a row from i on, up to a closing byte or the end: each is hopped over.
-fn row_at(s: &[u8], ends: &[u8; 256], arrays: &[u8; 256], parens: &[u8; 256], i: usize) -> Nest
-    requires { (i ≤ length s.now) × NestsFrom s.now ends.now arrays.now parens.now i }
-    ensures { RowAt s.now i result.end result.arrays result.parens }
-{
-    let mut j = i;
-    let mut a: u8 = 0;
-    let mut p: u8 = 0;
-    while j < s.len() {
-        let b = s[j];
-        if (b == b')') | (b == b'}') {
-            return Nest {
-                end: j,
-                arrays: a,
-                parens: p,
-            };
-        }
-        a = a.max(arrays[j]);
-        p = p.max(parens[j]);
-        j = ends[j] as usize;
-    }
-    Nest {
-        end: j,
-        arrays: a,
-        parens: p,
-    }
-}
-
-// A bracket at i. A dict entry is a type only behind the `a` in front of it, so a brace is none here.
-fn bracket_at(s: &[u8], ends: &[u8; 256], arrays: &[u8; 256], parens: &[u8; 256], i: usize) -> Nest
-    requires { NestsBehind s.now ends.now arrays.now parens.now i × (opens (get_or s.now i 0) ≡ true) }
-    ensures { NestAt s.now i result.end result.arrays result.parens }
-{
-    let row = row_at(s, ends, arrays, parens, i + 1);
-    let e = row.end;
-    if s.len() <= e {
-        return Nest { end: e, ..BROKEN };
-    }
-    if (s[i] == b'(') & (s[e] == b')') & (i + 1 < e) {
-        let parens = more(row.parens);
-        return Nest {
-            end: e + 1,
-            arrays: row.arrays,
-            parens,
-        };
-    }
-    Nest {
-        end: e + 1,
-        ..BROKEN
-    }
-}
-
-// An `a` at i with a dict entry behind it: a basic letter and one type more. The table says where the brace ends.
-fn entry_at(s: &[u8], ends: &[u8; 256], arrays: &[u8; 256], parens: &[u8; 256], i: usize) -> Nest
-    requires { NestsBehind s.now ends.now arrays.now parens.now i × EntryAt s.now i }
-    ensures { NestAt s.now i result.end result.arrays result.parens }
-{
-    let end = ends[i + 1] as usize;
-    if !signature::is_basic(wire::peek(s, i + 2)) {
-        return Nest { end, ..BROKEN };
-    }
-    let k = i + 3;
-    if wire::peek(s, ends[k] as usize) != b'}' {
-        return Nest { end, ..BROKEN };
-    }
-    Nest {
-        end,
-        arrays: more(arrays[k]),
-        parens: parens[k],
-    }
-}
-
-// An `a` at i, which ends where the type behind it does.
-fn array_at(s: &[u8], ends: &[u8; 256], arrays: &[u8; 256], parens: &[u8; 256], i: usize) -> Nest
-    requires { NestsBehind s.now ends.now arrays.now parens.now i × (get_or s.now i 0 ≡ byte "a") }
-    ensures { NestAt s.now i result.end result.arrays result.parens }
-{
-    let k = i + 1;
-    if s.len() <= k {
-        return Nest { end: k, ..BROKEN };
-    }
-    let b = s[k];
-    if (b == b')') | (b == b'}') {
-        return Nest { end: k, ..BROKEN };
-    }
-    if b == b'{' {
-        return entry_at(s, ends, arrays, parens, i);
-    }
-    Nest {
-        end: ends[k] as usize,
-        arrays: more(arrays[k]),
-        parens: parens[k],
-    }
-}
-
 // The end of the closing bytes in a row at i, by the table from i on; i where none stands.
 fn run_at(s: &[u8], ends: &[u8], i: usize) -> usize
     requires { EndsFrom s.now ends.now i }
@@ -178,31 +92,129 @@ fn run_at(s: &[u8], ends: &[u8], i: usize) -> usize
     i
 }
 
-// What the tables are to hold for the byte at i, by what they hold behind it.
-fn nest_at(s: &[u8], ends: &[u8; 256], arrays: &[u8; 256], parens: &[u8; 256], i: usize) -> Nest
-    requires { NestsBehind s.now ends.now arrays.now parens.now i }
-    ensures { NestAt s.now i result.end result.arrays result.parens }
-{
-    let b = s[i];
-    let k = i + 1;
-    if signature::is_basic(b) | (b == b'v') {
-        return Nest {
-            end: k,
-            arrays: 0,
-            parens: 0,
-        };
+impl Nests<'_> {
+    // The types in a row from i on, up to a closing byte or the end: each is hopped over.
+    fn row_at(&self, i: usize) -> Nest
+        requires { (i ≤ length self.now.s.now) × NestsFrom self.now.s.now self.now.ends.now self.now.arrays.now self.now.parens.now i }
+        ensures { RowAt self.now.s.now i result.end result.arrays result.parens }
+    {
+        let mut j = i;
+        let mut a: u8 = 0;
+        let mut p: u8 = 0;
+        while j < self.s.len() {
+            let b = self.s[j];
+            if (b == b')') | (b == b'}') {
+                return Nest {
+                    end: j,
+                    arrays: a,
+                    parens: p,
+                };
+            }
+            a = a.max(self.arrays[j]);
+            p = p.max(self.parens[j]);
+            j = self.ends[j] as usize;
+        }
+        Nest {
+            end: j,
+            arrays: a,
+            parens: p,
+        }
     }
-    if b == b'a' {
-        return array_at(s, ends, arrays, parens, i);
+
+    // A bracket at i. A dict entry is a type only behind the `a` in front of it, so a brace is none here.
+    fn bracket_at(&self, i: usize) -> Nest
+        requires { NestsBehind self.now.s.now self.now.ends.now self.now.arrays.now self.now.parens.now i × (opens (get_or self.now.s.now i 0) ≡ true) }
+        ensures { NestAt self.now.s.now i result.end result.arrays result.parens }
+    {
+        let row = self.row_at(i + 1);
+        let e = row.end;
+        if self.s.len() <= e {
+            return Nest { end: e, ..BROKEN };
+        }
+        if (self.s[i] == b'(') & (self.s[e] == b')') & (i + 1 < e) {
+            let parens = more(row.parens);
+            return Nest {
+                end: e + 1,
+                arrays: row.arrays,
+                parens,
+            };
+        }
+        Nest {
+            end: e + 1,
+            ..BROKEN
+        }
     }
-    if (b == b'(') | (b == b'{') {
-        return bracket_at(s, ends, arrays, parens, i);
+
+    // An `a` at i with a dict entry behind it: a basic letter and one type more. The table says where the brace ends.
+    fn entry_at(&self, i: usize) -> Nest
+        requires { NestsBehind self.now.s.now self.now.ends.now self.now.arrays.now self.now.parens.now i × EntryAt self.now.s.now i }
+        ensures { NestAt self.now.s.now i result.end result.arrays result.parens }
+    {
+        let end = self.ends[i + 1] as usize;
+        if !signature::is_basic(wire::peek(self.s, i + 2)) {
+            return Nest { end, ..BROKEN };
+        }
+        let k = i + 3;
+        if wire::peek(self.s, self.ends[k] as usize) != b'}' {
+            return Nest { end, ..BROKEN };
+        }
+        Nest {
+            end,
+            arrays: more(self.arrays[k]),
+            parens: self.parens[k],
+        }
     }
-    if (b == b')') | (b == b'}') {
-        let run = run_at(s, ends, k);
-        return Nest { end: run, ..BROKEN };
+
+    // An `a` at i, which ends where the type behind it does.
+    fn array_at(&self, i: usize) -> Nest
+        requires { NestsBehind self.now.s.now self.now.ends.now self.now.arrays.now self.now.parens.now i × (get_or self.now.s.now i 0 ≡ byte "a") }
+        ensures { NestAt self.now.s.now i result.end result.arrays result.parens }
+    {
+        let k = i + 1;
+        if self.s.len() <= k {
+            return Nest { end: k, ..BROKEN };
+        }
+        let b = self.s[k];
+        if (b == b')') | (b == b'}') {
+            return Nest { end: k, ..BROKEN };
+        }
+        if b == b'{' {
+            return self.entry_at(i);
+        }
+        Nest {
+            end: self.ends[k] as usize,
+            arrays: more(self.arrays[k]),
+            parens: self.parens[k],
+        }
     }
-    Nest { end: k, ..BROKEN }
+
+    // What the tables are to hold for the byte at i, by what they hold behind it.
+    fn nest_at(&self, i: usize) -> Nest
+        requires { NestsBehind self.now.s.now self.now.ends.now self.now.arrays.now self.now.parens.now i }
+        ensures { NestAt self.now.s.now i result.end result.arrays result.parens }
+    {
+        let b = self.s[i];
+        let k = i + 1;
+        if signature::is_basic(b) | (b == b'v') {
+            return Nest {
+                end: k,
+                arrays: 0,
+                parens: 0,
+            };
+        }
+        if b == b'a' {
+            return self.array_at(i);
+        }
+        if (b == b'(') | (b == b'{') {
+            return self.bracket_at(i);
+        }
+        if (b == b')') | (b == b'}') {
+            let ends = self.ends;
+            let run = run_at(self.s, ends, k);
+            return Nest { end: run, ..BROKEN };
+        }
+        Nest { end: k, ..BROKEN }
+    }
 }
 
 // ---- the table
@@ -216,7 +228,13 @@ pub fn ends_of(s: &[u8], ends: &mut [u8; 256]) -> bool
     let mut arrays = [33u8; 256];
     let mut parens = [0u8; 256];
     for i in (0..s.len()).rev() {
-        let nest = nest_at(s, ends, &arrays, &parens, i);
+        let nests = Nests {
+            s,
+            ends: &*ends,
+            arrays: &arrays,
+            parens: &parens,
+        };
+        let nest = nests.nest_at(i);
         ends[i] = (nest.end % 256) as u8;
         arrays[i] = nest.arrays;
         parens[i] = nest.parens;

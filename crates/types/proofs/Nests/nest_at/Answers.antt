@@ -1,6 +1,6 @@
--- `types::nest_at` meets its contract.
+-- `types::Nests::nest_at` meets its contract.
 use Rattle.types.proofs.Entries.{letters}
-use Rattle.types.proofs.nest_at.Goals as goal
+use Rattle.types.proofs.Nests.nest_at.Goals as goal
 
 pub returns-then-is_basic-b : goal.returns-then-is_basic-b
 returns-then-is_basic-b c = search letters

@@ -1,9 +1,9 @@
--- `types::array_at` meets its contract.
+-- `types::Nests::array_at` meets its contract.
 use Rattle.types.proofs.Entries.{arrayed}
-use Rattle.types.proofs.array_at.Goals as goal
+use Rattle.types.proofs.Nests.array_at.Goals as goal
 
-pub returns-then-s-k : goal.returns-then-s-k
-returns-then-s-k c = search arrayed
+pub returns-then-self-k : goal.returns-then-self-k
+returns-then-self-k c = search arrayed
 
 pub returns-then-b : goal.returns-then-b
 returns-then-b c = search arrayed

@@ -1,6 +1,6 @@
--- `types::row_at` meets its contract.
+-- `types::Nests::row_at` meets its contract.
 use Rattle.types.proofs.Rows.{walking}
-use Rattle.types.proofs.row_at.Goals as goal
+use Rattle.types.proofs.Nests.row_at.Goals as goal
 
 pub loop-j-init : goal.loop-j-init
 loop-j-init c = search walking

@@ -1,6 +1,6 @@
--- `types::entry_at` meets its contract.
+-- `types::Nests::entry_at` meets its contract.
 use Rattle.types.proofs.Entries.{arrayed}
-use Rattle.types.proofs.entry_at.Goals as goal
+use Rattle.types.proofs.Nests.entry_at.Goals as goal
 
 pub returns-then-not-is_basic : goal.returns-then-not-is_basic
 returns-then-not-is_basic c = search arrayed
