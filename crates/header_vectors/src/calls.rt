@@ -1,5 +1,6 @@
 // Call C, changed at one place.
 use crate::drafts::Draft;
+use Change::{ArrayLength, Byte, Cut};
 use std::io;
 use wire::Order;
 
@@ -11,8 +12,6 @@ enum Change {
     // The call up to this length.
     Cut(usize),
 }
-
-use Change::{ArrayLength, Byte, Cut};
 
 static CASES: [(&str, Change); 26] = [
     ("call C", Byte(2, 1)),

@@ -1,6 +1,7 @@
 // Heads as they are written.
 ghost use Rattle.std.specs.Prelude.{◌<◌};
 
+use header::{ARRAY_WORD, FIXED_LENGTH};
 use std::alloc::{AllocError, Global};
 use wire::Order;
 
@@ -89,7 +90,7 @@ impl Draft {
     // The head's array is of this length.
     pub fn set_array_length(&mut self, length: u32) {
         let word = self.word(length);
-        for (old, new) in self.bytes.iter_mut().skip(12).zip(word) {
+        for (old, new) in self.bytes.iter_mut().skip(ARRAY_WORD).zip(word) {
             *old = new;
         }
     }
@@ -100,7 +101,7 @@ impl Draft {
 
     // The array ends here: its length is written, and the padding behind it.
     pub fn end_array(&mut self) -> Result<(), AllocError> {
-        let length = self.bytes.len().saturating_sub(16);
+        let length = self.bytes.len().saturating_sub(FIXED_LENGTH);
         self.set_array_length(u32::try_from(length).unwrap_or(u32::MAX));
         self.align(8)
     }

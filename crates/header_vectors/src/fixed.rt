@@ -30,7 +30,7 @@ impl FixedPart {
 
 // A call with no fields and no body.
 const CALL: FixedPart = FixedPart {
-    kind: 1,
+    kind: header::CALL,
     version: 1,
     body: 0,
     serial: 1,

@@ -24,10 +24,6 @@ static SIGNATURES: [&str; 10] = [
     "aiai", "(ii)", "(i(ii))", "a(ii)", "aai", "a{us}", "aa", "(ii", "ii)", "()",
 ];
 
-fn show(rt: &impl Print, what: &str, good: bool) -> io::Result<()> {
-    println!(rt; "{what}: {}", u8::from(good))
-}
-
 pub fn names(rt: &impl Print) -> io::Result<()> {
     for (kind, form, text) in NAMES.iter() {
         let good = names::is_valid(*form, text.as_bytes());
@@ -48,25 +44,21 @@ pub fn signatures(rt: &impl Print) -> io::Result<()> {
 pub fn limits(rt: &impl Print) -> io::Result<()> {
     let mut name = [b'b'; 256];
     name[1] = b'.';
-    show(
-        rt,
-        "name of 255 bytes",
-        names::is_valid(Form::WellKnown, &name[..255]),
-    )?;
-    show(
-        rt,
-        "name of 256 bytes",
-        names::is_valid(Form::WellKnown, &name),
-    )?;
     let mut arrays = [b'a'; 34];
     arrays[33] = b'y';
-    show(rt, "33 arrays", signature::is_valid(&arrays))?;
-    show(rt, "32 arrays", signature::is_valid(&arrays[1..]))?;
     let bytes = [b'y'; 256];
-    show(
-        rt,
-        "signature of 255 bytes",
-        signature::is_valid(&bytes[..255]),
-    )?;
-    show(rt, "signature of 256 bytes", signature::is_valid(&bytes))
+    for (what, good) in [
+        (
+            "name of 255 bytes",
+            names::is_valid(Form::WellKnown, &name[..255]),
+        ),
+        ("name of 256 bytes", names::is_valid(Form::WellKnown, &name)),
+        ("33 arrays", signature::is_valid(&arrays)),
+        ("32 arrays", signature::is_valid(&arrays[1..])),
+        ("signature of 255 bytes", signature::is_valid(&bytes[..255])),
+        ("signature of 256 bytes", signature::is_valid(&bytes)),
+    ] {
+        println!(rt; "{what}: {}", u8::from(good))?;
+    }
+    Ok(())
 }

@@ -24,7 +24,7 @@ pub enum Image {
 }
 
 impl Image {
-    pub fn bytes(&self, alloc: Global) -> Result<Vec<u8>, AllocError> {
+    pub fn to_bytes(&self, alloc: Global) -> Result<Vec<u8>, AllocError> {
         let image = match *self {
             Image::Byte(at, value) => Draft::of_each(alloc)?.with(at, &[value]),
             Image::Word(at, value) => Draft::of_each(alloc)?.with_word(at, value),
@@ -36,14 +36,13 @@ impl Image {
             Image::Zeros(counts, total, Some((at, value))) => {
                 Draft::of_zeros(alloc, counts, total)?.with(at, &[value])
             }
-            Image::Long(at, first, len) => Draft::of_long_text(alloc)?
-                .with_word(at, len)
-                .with(72, &[first]),
+            Image::Long(at, first, len) => Draft::of_long_text(alloc, first)?.with_word(at, len),
         };
         Ok(image.bytes)
     }
 }
 
+// An image as it is written.
 #[derive(Drop)]
 struct Draft {
     bytes: Vec<u8>,
@@ -61,7 +60,7 @@ impl Draft {
         let own_at = 32 + 8 * connects;
         let transaction_at = own_at + 16 * owns;
         let strings_at = transaction_at + 40 * transactions;
-        let mut bytes = Vec::with_capacity(alloc, 32)?;
+        let mut bytes = Vec::new(alloc);
         for word in [
             total,
             connects,
@@ -83,10 +82,11 @@ impl Draft {
         Ok(draft)
     }
 
-    // A transaction rule and strings of 300 bytes.
-    fn of_long_text(alloc: Global) -> Result<Draft, AllocError> {
+    // A transaction rule, and 300 bytes of strings behind it.
+    fn of_long_text(alloc: Global, first: u8) -> Result<Draft, AllocError> {
         let mut draft = Draft::of_header(alloc, [0, 0, 1], 372)?;
         draft.bytes.resize(72, 0)?;
+        draft.bytes.push(first)?;
         draft.bytes.resize(372, b'a')?;
         Ok(draft)
     }

@@ -18,7 +18,7 @@ fn answer(image: &[u8]) -> u8 {
 
 fn run(rt: &(impl Print + AllocGlobal), cases: &[Case]) -> io::Result<()> {
     for (label, image) in cases {
-        let bytes = image.bytes(rt.alloc())?;
+        let bytes = image.to_bytes(rt.alloc())?;
         println!(rt; "{label}: {}", answer(&bytes))?;
     }
     Ok(())

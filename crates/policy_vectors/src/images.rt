@@ -23,12 +23,9 @@ impl ImageWriter {
 
     // The offset and the length of a text, or zeros for any.
     fn push_text(&mut self, text: Option<Text>) -> Result<(), AllocError> {
-        let (from, len) = match text {
-            Some(text) => (text.from, text.len),
-            None => (0, 0),
-        };
-        self.push_word(from as u32)?;
-        self.push_word(len as u32)
+        let (from, len) = text.map_or((0, 0), |text| (text.from, text.len));
+        self.push_word(u32::from(from))?;
+        self.push_word(u32::from(len))
     }
 
     // The total, and the count and the offset of each section and of the strings.
@@ -121,7 +118,7 @@ pub fn names(alloc: Global, seed: usize) -> Result<Vec<u8>, AllocError> {
             [None, Some(ORG_FOO), Some(ORG_FOO_BAR), Some(FOO_BAR)],
         );
         if let Some(name) = name {
-            names.push(name.len as u8)?;
+            names.push(name.len)?;
             names.extend_from_slice(name.bytes())?;
         }
         names.resize(NAME_WIDTH * (cell + 1), 0)?;

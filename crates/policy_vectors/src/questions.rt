@@ -10,6 +10,15 @@ use image::{Outcome, Section};
 use policy::{Decider, RECEIVE, SEND, Uid};
 use std::alloc::AllocError;
 
+// How a message is asked about.
+#[derive(Clone, Copy)]
+enum Form {
+    // A call or a signal, its fields by choice.
+    Whole,
+    // The same as a call without an interface.
+    Bare,
+}
+
 // A tested image, and the names that the other peer of a message owns.
 #[derive(Clone, Copy)]
 pub struct Questions<'a> {
@@ -21,7 +30,7 @@ pub struct Questions<'a> {
 
 impl<'a> Questions<'a> {
     // None of an image that is not good.
-    #[tactic(auto, using(crate::proofs::Good::tested))]
+    #[tactic(auto, using(image::proofs::Holds::outcome_holds))]
     pub fn new(seed: usize, image: &'a [u8], names: &'a [u8]) -> Option<Questions<'a>> {
         match image::check(image) {
             Outcome::Good => Some(Questions { seed, image, names }),
@@ -34,8 +43,8 @@ impl<'a> Questions<'a> {
         for name in [ORG_FOO, ORG_FOO_BAR, FOO_BAR, ORG_FOOBAR] {
             self.ask_own(name, letters)?;
         }
-        self.ask_both(false, letters)?;
-        self.ask_both(true, letters)
+        self.ask_both(Form::Whole, letters)?;
+        self.ask_both(Form::Bare, letters)
     }
 
     fn ask_connect(self, letters: &mut String) -> Result<(), AllocError> {
@@ -54,22 +63,22 @@ impl<'a> Questions<'a> {
         Ok(())
     }
 
-    fn ask_both(self, is_bare: bool, letters: &mut String) -> Result<(), AllocError> {
-        self.ask_transact(SEND, is_bare, letters)?;
-        self.ask_transact(RECEIVE, is_bare, letters)
+    fn ask_both(self, form: Form, letters: &mut String) -> Result<(), AllocError> {
+        self.ask_transact(SEND, form, letters)?;
+        self.ask_transact(RECEIVE, form, letters)
     }
 
     fn ask_transact(
         self,
         direction: u8,
-        is_bare: bool,
+        form: Form,
         letters: &mut String,
     ) -> Result<(), AllocError> {
         for question in 0..12 {
             let choices = Choices::new(self.seed, 2000 + 16 * question);
             let uid = Uid(choices.pick(4, [5, 6, 7]));
             let gids = [choices.pick(5, [5, 6, 7]), 8];
-            let header = message(choices, is_bare);
+            let header = message(choices, form);
             let ruling = decide::transact(
                 self.image, direction, uid, &gids, self.names, &HEAD, header,
             );
@@ -79,28 +88,26 @@ impl<'a> Questions<'a> {
     }
 }
 
-// A call or a signal, its fields by choice; or a call without an interface.
-fn message(choices: Choices, is_bare: bool) -> Header
+fn message(choices: Choices, form: Form) -> Header
     ensures { Short result }
 {
     let none = Place { at: 0, len: 0 };
-    let interface = choices.pick(1, [None, Some(I_F), Some(ORG_FOO)]);
+    let (kind, interface) = match form {
+        Form::Whole => (
+            choices.pick(3, [CALL, SIGNAL]),
+            choices.pick(1, [None, Some(I_F), Some(ORG_FOO)]),
+        ),
+        Form::Bare => (CALL, None),
+    };
     Header {
-        kind: if is_bare {
-            CALL
-        } else {
-            choices.pick(3, [CALL, SIGNAL])
-        },
+        kind,
         flags: 0,
         serial: 1,
         body: 0,
-        head: 30,
+        head: HEAD.len(),
         reply_serial: 0,
         path: choices.pick(0, [P, P_Q]).place(),
-        interface: match interface {
-            Some(text) if !is_bare => text.place(),
-            _ => none,
-        },
+        interface: interface.map_or(none, |text| text.place()),
         member: choices.pick(2, [M, F]).place(),
         error_name: none,
         destination: none,

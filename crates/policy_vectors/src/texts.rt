@@ -9,8 +9,8 @@ pub static HEAD: [u8; 30] = *b"\0org.foo.bar/p/qi.fMorg.foobar";
 // One of them: where it starts among the strings, and how long it is.
 #[derive(Clone, Copy)]
 pub struct Text {
-    pub from: usize,
-    pub len: usize,
+    pub from: u8,
+    pub len: u8,
     ghost inside: { from + len ≤ 29 },
 }
 
@@ -33,18 +33,18 @@ pub const M: Text = Text { from: 18, len: 1 };
 pub const ORG_FOOBAR: Text = Text { from: 19, len: 10 };
 
 impl Text {
-    pub fn bytes(self) -> &'static [u8] {
-        let at = 1 + self.from;
-        &HEAD[at..at + self.len]
-    }
-
     // Where it stands in HEAD.
     pub fn place(self) -> Place
         ensures { result.at + result.len ≤ 30 }
     {
         Place {
-            at: 1 + self.from,
-            len: self.len,
+            at: 1 + usize::from(self.from),
+            len: usize::from(self.len),
         }
+    }
+
+    pub fn bytes(self) -> &'static [u8] {
+        let place = self.place();
+        &HEAD[place.at..place.at + place.len]
     }
 }
