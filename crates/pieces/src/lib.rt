@@ -19,7 +19,7 @@ use memory::{
     BYTE_OFFSET, FIRST_BYTE, HEAD_AT, HEAD_OFFSET, HEAD_ROOM, SLOT_LENGTH, SLOTS_AT, STREAM_LENGTH,
     TAKEN_AT,
 };
-use rules::{Judgement, Receiver, Shown, Taken, no_piece};
+use rules::{Judgement, Receiver, Taken, no_piece};
 use stream::{Advance, Event, Stream};
 use wire::Order;
 
@@ -111,7 +111,7 @@ fn piece_at(image: &[u8], memory: &mut [u8], i: usize, bytes: &[u8]) -> Taken
             judgement: Judgement {
                 answer: 10,
                 receiver: Receiver::Nobody,
-                rule: Shown::Nothing,
+                rule: None,
             },
             taken,
         },
@@ -119,7 +119,7 @@ fn piece_at(image: &[u8], memory: &mut [u8], i: usize, bytes: &[u8]) -> Taken
             judgement: Judgement {
                 answer,
                 receiver: Receiver::Nobody,
-                rule: Shown::Nothing,
+                rule: None,
             },
             taken,
         },

@@ -1,9 +1,5 @@
 -- What each call reports, as the seven numbers of a place.
-use mathlib.Core.Path.{◌≡◌, ap, ◌∙◌}
-use mathlib.Core.List.{List, [], ◌∷◌, ◌++◌}
-use Prim.Native.Nat.{ℕ, ◌+◌, ◌*◌, ◌/◌, ◌%◌}
-use native.Mathlib.Omega.{arith}
-use borrow.Author.Rules.{rules}
+use Rattle.std.proofs.Common.{◌≡◌, ap, ◌∙◌, List, [], ◌∷◌, ◌++◌, ℕ, ◌+◌, ◌*◌, ◌/◌, ◌%◌, arith, rules, None}
 use Rattle.wire.specs.Words.{word_bytes}
 use Rattle.tables.specs.Tables.{cells}
 use Rattle.rules.specs.Places.{receiver_words, shown_words, plain_words, connected_words, owned_words, taken_words, gone_words, ticked_words}
@@ -14,7 +10,6 @@ use Rattle.rules.specs.declared.Owned.{Owned}
 use Rattle.rules.specs.declared.Receiver.{Receiver}
 use Rattle.rules.specs.declared.Receiver.TheVariants as to
 use Rattle.rules.specs.declared.RuleNumbers.{RuleNumbers}
-use Rattle.rules.specs.declared.Shown.TheVariants.{Nothing}
 use Rattle.rules.specs.declared.Taken.{Taken}
 use Rattle.places.specs.declared.Report.{Report}
 use Rattle.places.specs.Places.{place_of, report_words, Shows}
@@ -42,7 +37,7 @@ low_word n =
 
 -- ---- calls that are not about a message
 
-pub shows_plain : (a : ℕ) (r : Report) → report_words r ≡ a ∷ 0 ∷ 0 ∷ 0 ∷ 0 ∷ shown_words Nothing → Shows (plain_words a) r
+pub shows_plain : (a : ℕ) (r : Report) → report_words r ≡ a ∷ 0 ∷ 0 ∷ 0 ∷ 0 ∷ shown_words None → Shows (plain_words a) r
 shows_plain a r e = record { are = ap place_of e }
 
 pub shows_connected : (c : Connected) (w : ℕ) → w ≡ c.slot % 4294967296 → (r : Report)
@@ -56,10 +51,10 @@ shows_connected c w h r e =
 pub shows_owned : (o : Owned) (r : Report) → report_words r ≡ o.answer ∷ 0 ∷ 0 ∷ 0 ∷ 0 ∷ shown_words o.rule → Shows (owned_words o) r
 shows_owned o r e = record { are = ap place_of e }
 
-pub shows_gone : (g : Gone) (r : Report) → report_words r ≡ g.answer ∷ 0 ∷ 0 ∷ g.bytes ∷ 0 ∷ shown_words Nothing → Shows (gone_words g) r
+pub shows_gone : (g : Gone) (r : Report) → report_words r ≡ g.answer ∷ 0 ∷ 0 ∷ g.bytes ∷ 0 ∷ shown_words None → Shows (gone_words g) r
 shows_gone g r e = record { are = ap place_of e }
 
-pub shows_ticked : (t : Ticked) (r : Report) → report_words r ≡ t.answer ∷ 0 ∷ 0 ∷ t.ended ∷ 0 ∷ shown_words Nothing → Shows (ticked_words t) r
+pub shows_ticked : (t : Ticked) (r : Report) → report_words r ≡ t.answer ∷ 0 ∷ 0 ∷ t.ended ∷ 0 ∷ shown_words None → Shows (ticked_words t) r
 shows_ticked t r e = record { are = ap place_of e }
 
 pub ruleset saying = (shows_plain, shows_connected, shows_owned, shows_gone, shows_ticked, rules)

@@ -5,7 +5,8 @@ ghost use Rattle.std.specs.Prelude.{◌≡◌, [], ◌∷◌, ◌++◌, ◌%◌,
 ghost use Rattle.rules.specs.Places.{receiver_words, shown_words, plain_words, connected_words, owned_words, taken_words, gone_words, ticked_words};
 ghost use Rattle.places.specs.Places.{place_of, place_length, report_words, Shows};
 
-use rules::{Connected, Gone, Owned, Receiver, RuleNumbers, Shown, Taken, Ticked, rule_numbers};
+use policy::Decider;
+use rules::{Connected, Gone, Owned, Receiver, RuleNumbers, Taken, Ticked, rule_numbers};
 
 pub const PLACE_LENGTH: usize = 28;
 
@@ -46,7 +47,7 @@ pub fn put(room: &mut [u8], report: Report)
 // ---- what a call reports, as numbers
 
 // The numbers of a call that is not about a message: an answer, two numbers of its own, and who decided.
-fn own_report(answer: u8, number: u32, count: u32, shown: Shown) -> Report
+fn own_report(answer: u8, number: u32, count: u32, shown: Option<Decider>) -> Report
     ensures { report_words result ≡ answer ∷ 0 ∷ 0 ∷ number ∷ count ∷ shown_words shown }
 {
     Report {
@@ -62,7 +63,7 @@ fn own_report(answer: u8, number: u32, count: u32, shown: Shown) -> Report
 pub fn plain(answer: u8) -> Report
     ensures { Shows (plain_words answer) result }
 {
-    own_report(answer, 0, 0, Shown::Nothing)
+    own_report(answer, 0, 0, None)
 }
 
 pub fn connected(c: Connected) -> Report
@@ -82,13 +83,13 @@ pub fn owned(o: Owned) -> Report
 pub fn gone(g: Gone) -> Report
     ensures { Shows (gone_words g) result }
 {
-    own_report(g.answer, g.bytes, 0, Shown::Nothing)
+    own_report(g.answer, g.bytes, 0, None)
 }
 
 pub fn ticked(t: Ticked) -> Report
     ensures { Shows (ticked_words t) result }
 {
-    own_report(t.answer, t.ended, 0, Shown::Nothing)
+    own_report(t.answer, t.ended, 0, None)
 }
 
 // The report of a piece to that receiver.
