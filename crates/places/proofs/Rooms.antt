@@ -1,5 +1,5 @@
 -- A room and its places: how long they are, one written, and one more behind those that were.
-use Rattle.std.proofs.Common.{◌≡◌, refl, sym, ap, ◌∙◌, true, false, List, [], ◌∷◌, ◌++◌, append_assoc, append-nil, ℕ, ◌+◌, ◌-◌, ◌*◌, ◌≤◌, ◌<◌, arith, eqb, length, take, drop, length-append, length-drop, drop_of_length-le, take_at, drop_at, drop-drop, rules, eq-eqb, ne_eqb, Option, Some, None}
+use Rattle.std.proofs.Common.{◌≡◌, refl, sym, ap, ◌∙◌, true, false, List, [], ◌∷◌, ◌++◌, append_assoc, append-nil, ℕ, ◌+◌, ◌-◌, ◌*◌, ◌≤◌, ◌<◌, arith, eqb, length, take, drop, length-append, length-drop, drop_of_length-le, take_at, drop_at, drop-drop, eq-eqb, ne_eqb, Option, Some, None}
 use Rattle.wire.specs.Words.{word_bytes}
 use Rattle.wire.proofs.Words.{word_length, rest_at}
 use Rattle.tables.specs.Tables.{cells}
@@ -56,8 +56,6 @@ pub place_put : (room ws u : List ℕ) → length ws ≡ 7 → u ≡ take 0 room
     → u ≡ place_of ws ++ drop place_length room
 unfolding place_of
 place_put room ws u e q = let k : 0 + 4 * length ws ≡ place_length = omega arith in q ∙ rw k
-
-pub ruleset putting = (place_put, rules)
 
 -- ---- a room with reports in front
 
