@@ -97,7 +97,9 @@ fn one(s: &[u8], at: usize, arrays: usize, parens: usize) -> Option<usize>
 }
 
 // The types in a row from `at` on, up to a closing byte or the end. A plain letter is a type at sight; any other is asked of `one`.
+// It is put into its callers: as a call of its own it makes a nested signature a seventh dearer.
 #[cycle(list_one)]
+#[inline(always)]
 fn list(s: &[u8], at: usize, arrays: usize, parens: usize) -> Option<RowEnd>
     ensures { RowAt s.now at arrays parens result }
 {

@@ -280,6 +280,7 @@ fn past_blocks(s: &[u8], i: usize) -> usize
 }
 
 // Where the opening parentheses in a row at i end.
+// The index is the answer, and it may lie behind the end from the start: a `for` would take a line more, for that case.
 pub fn openings(sig: &[u8], i: usize) -> usize
     ensures { OpenedAt sig.now i result }
 {

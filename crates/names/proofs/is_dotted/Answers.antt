@@ -1,6 +1,5 @@
 -- `names::is_dotted` meets its contract.
 use Rattle.names.proofs.Forms.{dotted_laws}
-use Rattle.std.proofs.Common.{rules}
 use Rattle.names.proofs.is_dotted.Goals as goal
 
 pub returns-then-s-eq0 : goal.returns-then-s-eq0
@@ -14,9 +13,6 @@ returns-then-s c = search dotted_laws
 
 pub returns-then-class-barred-ne0 : goal.returns-then-class-barred-ne0
 returns-then-class-barred-ne0 c = search dotted_laws
-
-pub walk-seen-requires : goal.walk-seen-requires
-walk-seen-requires c = search rules
 
 pub returns : goal.returns
 returns c = search dotted_laws

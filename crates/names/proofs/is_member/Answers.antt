@@ -1,6 +1,5 @@
 -- `names::is_member` meets its contract.
 use Rattle.names.proofs.Forms.{member_laws}
-use Rattle.std.proofs.Common.{rules}
 use Rattle.names.proofs.is_member.Goals as goal
 
 pub returns-then-s-eq0 : goal.returns-then-s-eq0
@@ -11,9 +10,6 @@ returns-then-s-gt-NAME_LIMIT c = search member_laws
 
 pub returns-then-class-ne0 : goal.returns-then-class-ne0
 returns-then-class-ne0 c = search member_laws
-
-pub walk-requires : goal.walk-requires
-walk-requires c = search rules
 
 pub returns : goal.returns
 returns c = search member_laws

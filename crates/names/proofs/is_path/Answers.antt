@@ -1,6 +1,5 @@
 -- `names::is_path` meets its contract.
 use Rattle.names.proofs.Forms.{path_laws}
-use Rattle.std.proofs.Common.{rules}
 use Rattle.names.proofs.is_path.Goals as goal
 
 pub returns-then-s-eq0 : goal.returns-then-s-eq0
@@ -14,9 +13,6 @@ returns-then-s-eq1 c = search path_laws
 
 pub returns-then-s-2 : goal.returns-then-s-2
 returns-then-s-2 c = search path_laws
-
-pub walk-requires : goal.walk-requires
-walk-requires c = search rules
 
 pub returns : goal.returns
 returns c = search path_laws

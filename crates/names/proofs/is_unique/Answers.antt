@@ -1,6 +1,5 @@
 -- `names::is_unique` meets its contract.
 use Rattle.names.proofs.Forms.{unique_laws}
-use Rattle.std.proofs.Common.{rules}
 use Rattle.names.proofs.is_unique.Goals as goal
 
 pub returns-then-s-lt2 : goal.returns-then-s-lt2
@@ -17,9 +16,6 @@ returns-then-s c = search unique_laws
 
 pub returns-then-s-2 : goal.returns-then-s-2
 returns-then-s-2 c = search unique_laws
-
-pub walk-seen-requires : goal.walk-seen-requires
-walk-seen-requires c = search rules
 
 pub returns : goal.returns
 returns c = search unique_laws
