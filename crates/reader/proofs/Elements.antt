@@ -31,7 +31,7 @@ unfolding letter_of
 a_letter code h = eqb-true (get_or letters code 0) (letter_of code) (below_at (λ i. eqb (get_or letters i 0) (letter_of i)) code_limit refl code h)
 
 -- a test of no matter
-idle : (b : Bool) → None ≡ cond b None None
+idle : (b : Bool) → ◌≡◌ {A = Option Element} None (cond b None None)
 idle true = refl
 idle false = refl
 

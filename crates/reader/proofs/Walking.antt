@@ -17,6 +17,10 @@ use Rattle.header.proofs.Walk.{Stands, Passes, element_stands, element_passes, w
 use Rattle.reader.specs.Promises.{Inside}
 use Rattle.header.specs.Fixed.{fixed_length}
 
+-- what `?` and then a `match` have found
+pub told : {X : Type 0} {x : Option X} {y z : X} → x ≡ Some y → y ≡ z → x ≡ Some z
+told w q = w ∙ ap Some q
+
 pub record Walking (o : Order) (h : List ℕ) (end : ℕ) (fs : Fields) (from : ℕ) : Type 0 where
   pub fuel : ℕ
   pub enough : end - from < fuel

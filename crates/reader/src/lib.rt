@@ -22,6 +22,7 @@ use wire::Order;
 // The letter of each code's type: none for 0.
 const LETTERS: [u8; CODE_LIMIT] = [0, b'o', b's', b's', b's', b'u', b's', b's', b'g', b'u'];
 
+#[tactic(auto, unfolding(header::specs::Fixed::order_of))]
 fn order_of(bytes: &[u8]) -> Order
     requires { fixed_length ≤ length bytes.now }
     ensures { result ≡ order_of bytes.now }
@@ -34,6 +35,7 @@ fn order_of(bytes: &[u8]) -> Order
 }
 
 // 4 to 6, and the lengths.
+#[tactic(auto, unfolding(header::specs::Fixed::sizes_of, header::specs::Fixed::message_length, header::specs::Fixed::head_length))]
 fn sizes(bytes: &[u8]) -> Fixed
     requires { fixed_length ≤ length bytes.now }
     ensures { result ≡ sizes_of bytes.now }
@@ -55,6 +57,7 @@ fn sizes(bytes: &[u8]) -> Fixed
 }
 
 // The fixed part of a head: 1 to 6 in their order, or the lengths.
+#[tactic(auto, unfolding(header::specs::Fixed::fixed_part))]
 pub fn fixed_part(bytes: &[u8]) -> Fixed
     requires { fixed_length ≤ length bytes.now }
     ensures { result ≡ fixed_part bytes.now }
@@ -75,6 +78,7 @@ pub fn fixed_part(bytes: &[u8]) -> Fixed
 }
 
 // The letter of a code's type, 0 for code 0.
+#[tactic(auto, using(crate::proofs::Elements::a_letter))]
 fn letter_of(code: usize) -> u8
     requires { code < code_limit }
     ensures { result ≡ letter_of code }
@@ -83,6 +87,7 @@ fn letter_of(code: usize) -> u8
 }
 
 // A text of `len` bytes from `at` on and the zero behind it, if they lie in the array.
+#[tactic(auto, using(crate::proofs::Elements::texts))]
 fn text_in(head: &[u8], end: usize, code: usize, at: usize, len: usize) -> Option<Element>
     requires { (end ≤ length head.now) × (at < 4294967296) × (len < 4294967296) }
     ensures { result ≡ text_in head.now end code at len }
@@ -136,6 +141,7 @@ fn value_at(
 }
 
 // The four bytes in front of a value are its code, 1, the code's letter and zero.
+#[tactic(auto, unfolding(header::specs::Fields::framed))]
 fn is_framed(head: &[u8], at: usize) -> bool
     requires { (get_or head.now at 0 < code_limit) × (at + 4 ≤ length head.now) }
     ensures { result ≡ framed head.now at }
@@ -160,6 +166,7 @@ fn known_at(order: Order, head: &[u8], end: usize, at: usize) -> Option<Element>
 }
 
 // The unknown field whose code stands at `at`: the signature behind it says how its value is passed over.
+#[tactic(auto, unfolding(header::specs::Fields::unknown_at))]
 fn unknown_at(order: Order, head: &[u8], end: usize, at: usize) -> Option<Element>
     requires { at < end }
     ensures { result ≡ unknown_at order head.now end at }
