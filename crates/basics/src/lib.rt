@@ -1,4 +1,5 @@
-// Values that hold no other value: numbers, booleans and texts, with the padding in front of them. A place counts from the head's first byte.
+// Values that hold no other value: numbers, booleans and texts, with the padding in front of them. A place counts from the head's first byte; `Some` is
+// where a value stops, and `None` says that there is no good one.
 #![tactic(auto)]
 
 ghost use Rattle.std.specs.Prelude.{◌≡◌, ◌<◌};
@@ -6,13 +7,6 @@ ghost use Rattle.basics.specs.Values.{number_at, boolean_at, text_in, any_text, 
 ghost use Rattle.basics.specs.Promises.{good_text, RoundedAt, PaddedAt};
 
 use wire::Order;
-
-// Where something stops.
-#[derive(Clone, Copy)]
-pub enum Stop {
-    At(usize),
-    Bad,
-}
 
 // The rules of texts.
 #[derive(Clone, Copy)]
@@ -25,76 +19,68 @@ pub enum Text {
 // ---- places
 
 // The least multiple of k, which is 1, 2, 4 or 8, that is not below n.
+#[tactic(auto, unfolding(crate::specs::Values::round_up))]
 fn round_up(k: usize, n: usize) -> usize
     requires { n < 9223372036854775808 }
     ensures { RoundedAt k n result }
 {
-    if k == 1 {
-        return n;
+    match k {
+        1 => n,
+        2 => (n + 1) / 2 * 2,
+        4 => (n + 3) / 4 * 4,
+        _ => (n + 7) / 8 * 8,
     }
-    if k == 2 {
-        return (n + 1) / 2 * 2;
-    }
-    if k == 4 {
-        return (n + 3) / 4 * 4;
-    }
-    (n + 7) / 8 * 8
 }
 
-// Past the padding at `at`. Most values stand where they should, and there is none.
-pub fn pad(head: &[u8], k: usize, at: usize) -> Stop
+// Past the padding at `at`, if it is good. Most values stand where they should, and there is none.
+#[tactic(auto, using(crate::proofs::Rounding::round_low), unfolding(crate::specs::Values::padded, wire::specs::Bytes::all_zero))]
+pub fn pad(head: &[u8], k: usize, at: usize) -> Option<usize>
     ensures { PaddedAt head.now k at result }
 {
     if head.len() < at {
-        return Stop::Bad;
+        return None;
     }
     let to = round_up(k, at);
     if to == at {
-        return Stop::At(to);
+        return Some(to);
     }
     if head.len() < to {
-        return Stop::Bad;
+        return None;
     }
     if wire::is_zero(head, at, to) {
-        Stop::At(to)
+        Some(to)
     } else {
-        Stop::Bad
+        None
     }
 }
 
 // ---- numbers
 
 // A number of k bytes.
-fn number(head: &[u8], k: usize, at: usize) -> Stop
+#[tactic(auto, unfolding(crate::specs::Values::number_at))]
+fn number(head: &[u8], k: usize, at: usize) -> Option<usize>
     ensures { result ≡ number_at head.now k at }
 {
-    match pad(head, k, at) {
-        Stop::At(a) => {
-            if k <= head.len() - a {
-                Stop::At(a + k)
-            } else {
-                Stop::Bad
-            }
-        }
-        Stop::Bad => Stop::Bad,
+    let a = pad(head, k, at)?;
+    if k <= head.len() - a {
+        Some(a + k)
+    } else {
+        None
     }
 }
 
-fn boolean(order: Order, head: &[u8], at: usize) -> Stop
+#[tactic(auto, unfolding(crate::specs::Values::boolean_at))]
+fn boolean(order: Order, head: &[u8], at: usize) -> Option<usize>
     ensures { result ≡ boolean_at order head.now at }
 {
-    match pad(head, 4, at) {
-        Stop::At(a) => {
-            if head.len() - a < 4 {
-                return Stop::Bad;
-            }
-            if wire::u32_at(order, head, a) <= 1 {
-                Stop::At(a + 4)
-            } else {
-                Stop::Bad
-            }
-        }
-        Stop::Bad => Stop::Bad,
+    let a = pad(head, 4, at)?;
+    if head.len() - a < 4 {
+        return None;
+    }
+    if wire::u32_at(order, head, a) <= 1 {
+        Some(a + 4)
+    } else {
+        None
     }
 }
 
@@ -110,68 +96,64 @@ fn is_good(text: Text, s: &[u8]) -> bool
     }
 }
 
-// Any n bytes from `from` on, and the zero behind them.
-pub fn any_text(head: &[u8], from: usize, n: usize) -> Stop
+// Behind any n bytes from `from` on, and the zero behind them.
+#[tactic(auto, unfolding(crate::specs::Values::text_in))]
+pub fn any_text(head: &[u8], from: usize, n: usize) -> Option<usize>
     ensures { result ≡ text_in any_text head.now from n }
 {
     if head.len() <= from {
-        return Stop::Bad;
+        return None;
     }
     if head.len() - from <= n {
-        return Stop::Bad;
+        return None;
     }
     let end = from + n;
     if head[end] != 0 {
-        return Stop::Bad;
+        return None;
     }
-    Stop::At(end + 1)
+    Some(end + 1)
 }
 
-// The text of n bytes from `from` on, and the zero behind it.
-fn text_in(text: Text, head: &[u8], from: usize, n: usize) -> Stop
+// Behind the text of n bytes from `from` on, and the zero behind it.
+#[tactic(auto, unfolding(crate::specs::Values::text_in))]
+fn text_in(text: Text, head: &[u8], from: usize, n: usize) -> Option<usize>
     ensures { result ≡ text_in (good_text text) head.now from n }
 {
-    match any_text(head, from, n) {
-        Stop::At(stop) => {
-            let end = stop - 1;
-            if is_good(text, &head[from..end]) {
-                Stop::At(stop)
-            } else {
-                Stop::Bad
-            }
-        }
-        Stop::Bad => Stop::Bad,
+    let stop = any_text(head, from, n)?;
+    let end = stop - 1;
+    if is_good(text, &head[from..end]) {
+        Some(stop)
+    } else {
+        None
     }
 }
 
 // A text behind the four bytes of its length.
-fn text_at(text: Text, order: Order, head: &[u8], at: usize) -> Stop
+#[tactic(auto, unfolding(crate::specs::Values::text_at, crate::specs::Values::text_in))]
+fn text_at(text: Text, order: Order, head: &[u8], at: usize) -> Option<usize>
     ensures { result ≡ text_at (good_text text) order head.now at }
 {
-    match pad(head, 4, at) {
-        Stop::At(a) => {
-            if head.len() - a < 4 {
-                return Stop::Bad;
-            }
-            text_in(text, head, a + 4, wire::u32_at(order, head, a) as usize)
-        }
-        Stop::Bad => Stop::Bad,
+    let a = pad(head, 4, at)?;
+    if head.len() - a < 4 {
+        return None;
     }
+    text_in(text, head, a + 4, wire::u32_at(order, head, a) as usize)
 }
 
 // A text behind the byte of its length.
-fn short_text(text: Text, head: &[u8], at: usize) -> Stop
+#[tactic(auto, unfolding(crate::specs::Values::short_text_at, crate::specs::Values::text_in))]
+fn short_text(text: Text, head: &[u8], at: usize) -> Option<usize>
     ensures { result ≡ short_text_at (good_text text) head.now at }
 {
-    if head.len() <= at {
-        return Stop::Bad;
-    }
-    text_in(text, head, at + 1, wire::wide(head[at]) as usize)
+    let n = wire::wide(*head.get(at)?) as usize;
+    text_in(text, head, at + 1, n)
 }
 
 // ---- a value of a basic type, by its letter
 
-pub fn plain(order: Order, head: &[u8], letter: u8, at: usize) -> Stop
+// Where the value stops.
+#[tactic(auto, unfolding(crate::specs::Values::plain_at, types::specs::Letters::align_of))]
+pub fn plain(order: Order, head: &[u8], letter: u8, at: usize) -> Option<usize>
     ensures { result ≡ plain_at order head.now letter at }
 {
     match letter {

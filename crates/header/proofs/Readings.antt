@@ -1,8 +1,8 @@
 -- The laws of a reading that callers go by.
+use Rattle.std.specs.Prelude.{Option, Some, None}
 use mathlib.Core.Path.{◌≡◌, refl, sym, ap, subst, ◌∙◌}
 use mathlib.Core.Bool.{Bool, true, false, cond, not}
 use mathlib.Core.List.{List, ◌++◌}
-use mathlib.Core.Option.{Option, none, some}
 use Prim.Native.Nat.{ℕ, ◌+◌, ◌≤◌, ◌<◌}
 use native.Mathlib.Decide.{dec_le}
 use native.Mathlib.Omega.{arith}
@@ -82,8 +82,8 @@ unfolding read_head Decided
 head_decided h = go (fields_of h)
   where
     go : (f : Option Fields) → Decided (or_seven h f)
-    go none = (omega arith, omega arith)
-    go (some fs) = judged_is h fs Decided (omega arith, omega arith) (omega arith, omega arith) tt
+    go None = (omega arith, omega arith)
+    go (Some fs) = judged_is h fs Decided (omega arith, omega arith) (omega arith, omega arith) tt
 
 pub head_not_short : (h : List ℕ) → read_head h ≡ Short → ⊥
 unfolding Decided
@@ -147,22 +147,22 @@ pub record Fitting (s : List ℕ) (d : Header) : Type 0 where
   pub destination_fits : d.destination.at + d.destination.len ≤ d.head
 
 -- the fields of a head as long as its array says lie in it
-fields_fit : (h : List ℕ) (fs : Fields) → SizedHead h → fields_of h ≡ some fs → ValuesFit h fs
+fields_fit : (h : List ℕ) (fs : Fields) → SizedHead h → fields_of h ≡ Some fs → ValuesFit h fs
 unfolding fields_of
 fields_fit h fs w e = go (all_zero (drop (fixed_length + array_length h) h)) e
   where
-    go : (b : Bool) → cond b (fields_in (order_of h) h (fixed_length + array_length h)) none ≡ some fs → ValuesFit h fs
+    go : (b : Bool) → cond b (fields_in (order_of h) h (fixed_length + array_length h)) None ≡ Some fs → ValuesFit h fs
     go true k = array_fits (order_of h) h (fixed_length + array_length h) fs (rw w.sized (omega arith)) k
     go false k = impossible cc
 
 -- a whole head is that of fields that were found in it
-head_whole : (h : List ℕ) (d : Header) → read_head h ≡ Whole d → (fs : Fields) × (fields_of h ≡ some fs) × (d ≡ header_of h fs)
+head_whole : (h : List ℕ) (d : Header) → read_head h ≡ Whole d → (fs : Fields) × (fields_of h ≡ Some fs) × (d ≡ header_of h fs)
 unfolding read_head
 head_whole h d e = go (fields_of h) refl e
   where
-    go : (f : Option Fields) → fields_of h ≡ f → or_seven h f ≡ Whole d → (fs : Fields) × (fields_of h ≡ some fs) × (d ≡ header_of h fs)
-    go none i k = impossible cc
-    go (some fs) i k =
+    go : (f : Option Fields) → fields_of h ≡ f → or_seven h f ≡ Whole d → (fs : Fields) × (fields_of h ≡ Some fs) × (d ≡ header_of h fs)
+    go None i k = impossible cc
+    go (Some fs) i k =
         (fs, i, judged_is h fs (λ r. r ≡ Whole d → d ≡ header_of h fs) (λ x. impossible cc) (λ x. impossible cc) (λ x. cc) k)
 
 module _ (s : List ℕ) (d : Header) (u : read_header s ≡ Whole d) (k : fixed_length ≤ length s) {head message : ℕ} (e : fixed_part s ≡ fixed.Sizes head message)

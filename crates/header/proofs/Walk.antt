@@ -1,8 +1,8 @@
 -- The walk over the array: where an element stands, what a step leaves, and that what was found lies in the head.
+use Rattle.std.specs.Prelude.{Option, Some, None}
 use mathlib.Core.Path.{◌≡◌, refl, sym, subst, ◌∙◌}
 use mathlib.Core.Bool.{Bool, true, false, cond, ◌&&◌}
 use mathlib.Core.List.{List}
-use mathlib.Core.Option.{none, some}
 use Prim.Native.Nat.{ℕ, zero, suc, ◌+◌, ◌-◌, ◌≤◌, ◌<◌}
 use native.Mathlib.Decide.{dec_le}
 use native.Mathlib.Omega.{arith}
@@ -14,12 +14,10 @@ use Rattle.wire.specs.Bytes.{byte, all_zero}
 use Rattle.wire.specs.Words.{word_at, round_up_8}
 use Rattle.wire.specs.declared.Order.{Order}
 use Rattle.wire.proofs.Texts.{impossible, both_first}
-use Rattle.basics.specs.declared.Stop.{Stop}
-use Rattle.basics.specs.declared.Stop.TheVariants as stop
 use Rattle.variant.specs.Walk.{skipped}
 use Rattle.variant.proofs.Skipped.{skipped_in}
 use Rattle.header.specs.declared.Element.{Element}
-use Rattle.header.specs.declared.Element.TheVariants.{At, Skip, Bad}
+use Rattle.header.specs.declared.Element.TheVariants.{At, Skip}
 use Rattle.header.specs.Codes.{code_limit, letter_of}
 use Rattle.header.specs.Fixed.{fixed_length}
 use Rattle.header.specs.Fields.{Fields, absent, place_of, no_fields, text_in, value_at, framed, known_at, unknown_at, by_code, element_at, walk, fields_in}
@@ -40,17 +38,17 @@ pub record Passes (end from stop : ℕ) : Type 0 where
   pub ends : stop ≤ end
 
 -- one or the other, of any element
-abbrev Placed : ℕ → ℕ → Element → Type 0
-Placed end from (At c a l s) = Stands end from c a l s
-Placed end from (Skip s) = Passes end from s
-Placed end from Bad = Unit {0}
+abbrev Placed : ℕ → ℕ → Option Element → Type 0
+Placed end from (Some (At c a l s)) = Stands end from c a l s
+Placed end from (Some (Skip s)) = Passes end from s
+Placed end from None = Unit {0}
 
 module _ (h : List ℕ) (end from code : ℕ) (k : code < code_limit) where
   text_placed : (at len : ℕ) → from < at → Placed end from (text_in h end code at len)
   unfolding text_in
   text_placed at len i = go (ltb (at + len) end && eqb (get_or h (at + len) 0) 0) refl
     where
-      go : (b : Bool) → ltb (at + len) end && eqb (get_or h (at + len) 0) 0 ≡ b → Placed end from (cond b (At code at len (at + len + 1)) Bad)
+      go : (b : Bool) → ltb (at + len) end && eqb (get_or h (at + len) 0) 0 ≡ b → Placed end from (cond b (Some (At code at len (at + len + 1))) None)
       go true t =
           let u : at + len < end = ltb-true (at + len) end (both_first (ltb (at + len) end) (eqb (get_or h (at + len) 0) 0) t) in
           record { known = k; above = i; inside = omega arith; ends = omega arith }
@@ -62,7 +60,7 @@ module _ (h : List ℕ) (end from code : ℕ) (k : code < code_limit) where
     where
       go : (g u n : Bool) → leb (at + 4) end ≡ n
           → Placed end from
-          (cond g (text_in h end code (at + 1) (get_or h at 0)) (cond u (cond n (At code at 4 (at + 4)) Bad) (text_in h end code (at + 4) (word_at o h at))))
+          (cond g (text_in h end code (at + 1) (get_or h at 0)) (cond u (cond n (Some (At code at 4 (at + 4))) None) (text_in h end code (at + 4) (word_at o h at))))
       go true u n t = text_placed (at + 1) (get_or h at 0) (omega arith)
       go false true true t = record { known = k; above = i; inside = omega arith; ends = leb-true (at + 4) end t }
       go false true false t = tt
@@ -73,7 +71,7 @@ module _ (o : Order) (h : List ℕ) (end from at : ℕ) (i : from ≤ at) where
   unfolding known_at
   known_placed k = go (framed h at)
     where
-      go : (b : Bool) → Placed end from (cond b (value_at o h end (get_or h at 0) (letter_of (get_or h at 0)) (at + 4)) Bad)
+      go : (b : Bool) → Placed end from (cond b (value_at o h end (get_or h at 0) (letter_of (get_or h at 0)) (at + 4)) None)
       go true = value_placed h end from (get_or h at 0) k o (letter_of (get_or h at 0)) (at + 4) (omega arith)
       go false = tt
 
@@ -81,9 +79,9 @@ module _ (o : Order) (h : List ℕ) (end from at : ℕ) (i : from ≤ at) where
   unfolding unknown_at
   unknown_placed = go (skipped o h (at + 1) end) refl
     where
-      go : (t : Stop) → skipped o h (at + 1) end ≡ t → Placed end from (elim t [ stop.Bad ↦ Bad | stop.At to ↦ Skip to ])
-      go stop.Bad e = tt
-      go (stop.At to) e = let p = skipped_in o h (at + 1) end e in record { above = omega arith; ends = p.1 }
+      go : (t : Option ℕ) → skipped o h (at + 1) end ≡ t → Placed end from (elim t [ None ↦ None | Some to ↦ Some (Skip to) ])
+      go None e = tt
+      go (Some to) e = let p = skipped_in o h (at + 1) end e in record { above = omega arith; ends = p.1 }
 
   code_placed : Placed end from (by_code o h end at)
   code_placed = go (ltb (get_or h at 0) code_limit) refl
@@ -96,34 +94,34 @@ element_placed : (o : Order) (h : List ℕ) (end from : ℕ) → Placed end from
 unfolding element_at
 element_placed o h end from = go (all_zero (take (round_up_8 from - from) (drop from h)))
   where
-    go : (b : Bool) → Placed end from (cond b (by_code o h end (round_up_8 from)) Bad)
+    go : (b : Bool) → Placed end from (cond b (by_code o h end (round_up_8 from)) None)
     go true = code_placed o h end from (round_up_8 from) (omega arith)
     go false = tt
 
-pub element_stands : (o : Order) (h : List ℕ) (end from : ℕ) {c a l s : ℕ} → element_at o h end from ≡ At c a l s → Stands end from c a l s
+pub element_stands : (o : Order) (h : List ℕ) (end from : ℕ) {c a l s : ℕ} → element_at o h end from ≡ Some (At c a l s) → Stands end from c a l s
 element_stands o h end from e = subst (Placed end from) e (element_placed o h end from)
 
-pub element_passes : (o : Order) (h : List ℕ) (end from : ℕ) {s : ℕ} → element_at o h end from ≡ Skip s → Passes end from s
+pub element_passes : (o : Order) (h : List ℕ) (end from : ℕ) {s : ℕ} → element_at o h end from ≡ Some (Skip s) → Passes end from s
 element_passes o h end from e = subst (Placed end from) e (element_placed o h end from)
 
 -- ---- a step of the walk
 
 module _ (fuel : ℕ) (o : Order) (h : List ℕ) (end from : ℕ) (fs : Fields) where
-  pub walk_end : from ≡ end → walk (suc fuel) o h end from fs ≡ some fs
+  pub walk_end : from ≡ end → walk (suc fuel) o h end from fs ≡ Some fs
   unfolding walk
   walk_end e = rw (walk, eq-eqb from end e)
 
   module _ (n : from ≡ end → ⊥) where
-    pub walk_bad : element_at o h end from ≡ Bad → walk (suc fuel) o h end from fs ≡ none
+    pub walk_bad : element_at o h end from ≡ None → walk (suc fuel) o h end from fs ≡ None
     unfolding walk
     walk_bad e = rw (walk, ne_eqb from end n, e)
 
-    pub walk_skip : {s : ℕ} → element_at o h end from ≡ Skip s → walk (suc fuel) o h end from fs ≡ walk fuel o h end s fs
+    pub walk_skip : {s : ℕ} → element_at o h end from ≡ Some (Skip s) → walk (suc fuel) o h end from fs ≡ walk fuel o h end s fs
     unfolding walk
     walk_skip e = rw (walk, ne_eqb from end n, e)
 
-    module _ {c a l s : ℕ} (e : element_at o h end from ≡ At c a l s) where
-      pub walk_again : ((place_of fs c).at ≡ 0 → ⊥) → walk (suc fuel) o h end from fs ≡ none
+    module _ {c a l s : ℕ} (e : element_at o h end from ≡ Some (At c a l s)) where
+      pub walk_again : ((place_of fs c).at ≡ 0 → ⊥) → walk (suc fuel) o h end from fs ≡ None
       unfolding walk
       walk_again z = rw (walk, ne_eqb from end n, e, ne_eqb (place_of fs c).at 0 z)
 
@@ -153,36 +151,36 @@ fits_more {h} {fs} c a l f k m =
 
 -- the same of what one more step finds, where it holds of the rest
 module _ (fuel : ℕ) (o : Order) (h : List ℕ) (end from : ℕ) (fs gs : Fields) (k : end ≤ length h) (f : ValuesFit h fs)
-    (e : walk (suc fuel) o h end from fs ≡ some gs)
-    (rest : (s : ℕ) (fs' : Fields) → ValuesFit h fs' → walk fuel o h end s fs' ≡ some gs → ValuesFit h gs) where
-  nothing : none ≡ some gs → ValuesFit h gs
+    (e : walk (suc fuel) o h end from fs ≡ Some gs)
+    (rest : (s : ℕ) (fs' : Fields) → ValuesFit h fs' → walk fuel o h end s fs' ≡ Some gs → ValuesFit h gs) where
+  nothing : None ≡ Some gs → ValuesFit h gs
   nothing y = impossible cc
 
-  step_found : {c a l s : ℕ} → (from ≡ end → ⊥) → element_at o h end from ≡ At c a l s → (b : Bool) → eqb (place_of fs c).at 0 ≡ b → ValuesFit h gs
+  step_found : {c a l s : ℕ} → (from ≡ end → ⊥) → element_at o h end from ≡ Some (At c a l s) → (b : Bool) → eqb (place_of fs c).at 0 ≡ b → ValuesFit h gs
   step_found {c} {a} {l} {s} n q true z =
       let t : Stands end from c a l s = element_stands o h end from q in
       rest s (set fs c (record { at = a; len = l })) (fits_more c a l f t.known (omega arith))
       (sym (walk_more fuel o h end from fs n q (eqb-true (place_of fs c).at 0 z)) ∙ e)
   step_found {c} n q false z = nothing (sym (walk_again fuel o h end from fs n q (eqb-false (place_of fs c).at 0 z)) ∙ e)
 
-  step_element : (from ≡ end → ⊥) → (r : Element) → element_at o h end from ≡ r → ValuesFit h gs
-  step_element n Bad q = nothing (sym (walk_bad fuel o h end from fs n q) ∙ e)
-  step_element n (Skip s) q = rest s fs f (sym (walk_skip fuel o h end from fs n q) ∙ e)
-  step_element n (At c a l s) q = step_found n q (eqb (place_of fs c).at 0) refl
+  step_element : (from ≡ end → ⊥) → (r : Option Element) → element_at o h end from ≡ r → ValuesFit h gs
+  step_element n None q = nothing (sym (walk_bad fuel o h end from fs n q) ∙ e)
+  step_element n (Some (Skip s)) q = rest s fs f (sym (walk_skip fuel o h end from fs n q) ∙ e)
+  step_element n (Some (At c a l s)) q = step_found n q (eqb (place_of fs c).at 0) refl
 
   step_fits : (b : Bool) → eqb from end ≡ b → ValuesFit h gs
   step_fits true b =
-      let y : some fs ≡ some gs = sym (walk_end fuel o h end from fs (eqb-true from end b)) ∙ e in
+      let y : Some fs ≡ Some gs = sym (walk_end fuel o h end from fs (eqb-true from end b)) ∙ e in
       let x : fs ≡ gs = cc in
       subst (ValuesFit h) x f
   step_fits false b = step_element (eqb-false from end b) (element_at o h end from) refl
 
 walk_fits : (fuel : ℕ) (o : Order) (h : List ℕ) (end from : ℕ) (fs gs : Fields) → end ≤ length h → ValuesFit h fs
-    → walk fuel o h end from fs ≡ some gs → ValuesFit h gs
+    → walk fuel o h end from fs ≡ Some gs → ValuesFit h gs
 unfolding walk
 walk_fits zero o h end from fs gs k f e = impossible cc
 walk_fits (suc fuel) o h end from fs gs k f e =
     step_fits fuel o h end from fs gs k f e (λ s fs' f' e'. walk_fits fuel o h end s fs' gs k f' e') (eqb from end) refl
 
-pub array_fits : (o : Order) (h : List ℕ) (end : ℕ) (fs : Fields) → end ≤ length h → fields_in o h end ≡ some fs → ValuesFit h fs
+pub array_fits : (o : Order) (h : List ℕ) (end : ℕ) (fs : Fields) → end ≤ length h → fields_in o h end ≡ Some fs → ValuesFit h fs
 array_fits o h end fs k e = walk_fits (end - fixed_length + 1) o h end fixed_length no_fields fs k (fits_none h) e

@@ -1,14 +1,12 @@
 -- The array of header fields and its answer 7 (rules 2.5, 2.6, 2.8 and 2.13).
-use Rattle.std.specs.Prelude.{Bool, true, false, cond, not, ◌&&◌, List, ℕ, zero, suc, ◌+◌, ◌-◌, leb, ltb, eqb, take, drop, get_or, set, replicate}
-use Rattle.std.proofs.Math.Option.{Option, none, some}
+use Rattle.std.specs.Prelude.{Bool, true, false, cond, not, ◌&&◌, List, ℕ, zero, suc, ◌+◌, ◌-◌, leb, ltb, eqb, take, drop, get_or, set, replicate, Option, Some, None}
 use Rattle.wire.specs.Bytes.{byte, all_zero}
 use Rattle.wire.specs.Words.{word_at, round_up_8}
 use Rattle.wire.specs.declared.Order.{Order}
-use Rattle.basics.specs.declared.Stop.TheVariants as stop
 use Rattle.variant.specs.Walk.{skipped}
 use Rattle.header.specs.declared.Place.{Place}
 use Rattle.header.specs.declared.Element.{Element}
-use Rattle.header.specs.declared.Element.TheVariants.{At, Skip, Bad}
+use Rattle.header.specs.declared.Element.TheVariants.{At, Skip}
 use Rattle.header.specs.Fixed.{fixed_length, order_of, array_length}
 use Rattle.header.specs.Codes.{code_limit, letter_of}
 
@@ -38,14 +36,14 @@ no_fields = replicate code_limit absent
 -- ---- one element, in an array that ends at `end`
 
 -- a text of `len` bytes from `at` on, and the zero behind it (rules 2.6 and 2.8)
-unfoldable pub text_in : List ℕ → ℕ → ℕ → ℕ → ℕ → Element
-text_in h end code at len = cond (ltb (at + len) end && eqb (get_or h (at + len) 0) 0) (At code at len (at + len + 1)) Bad
+unfoldable pub text_in : List ℕ → ℕ → ℕ → ℕ → ℕ → Option Element
+text_in h end code at len = cond (ltb (at + len) end && eqb (get_or h (at + len) 0) 0) (Some (At code at len (at + len + 1))) None
 
 -- the value at `at`: only a signature has its length in one byte (rule 2.6)
-unfoldable pub value_at : Order → List ℕ → ℕ → ℕ → ℕ → ℕ → Element
+unfoldable pub value_at : Order → List ℕ → ℕ → ℕ → ℕ → ℕ → Option Element
 value_at o h end code letter at =
     cond (eqb letter (byte "g")) (text_in h end code (at + 1) (get_or h at 0))
-    (cond (eqb letter (byte "u")) (cond (leb (at + 4) end) (At code at 4 (at + 4)) Bad) (text_in h end code (at + 4) (word_at o h at)))
+    (cond (eqb letter (byte "u")) (cond (leb (at + 4) end) (Some (At code at 4 (at + 4))) None) (text_in h end code (at + 4) (word_at o h at)))
 
 -- the four bytes in front of a value: a code of the table with its letter (rule 2.5)
 unfoldable pub framed : List ℕ → ℕ → Bool
@@ -56,37 +54,37 @@ framed h at =
     && eqb (get_or h (at + 3) 0) 0
 
 -- a known field, whose code stands at `at` (rule 2.5); 0 is no field's code, and has no letter to be framed with (rule 2.8)
-unfoldable pub known_at : Order → List ℕ → ℕ → ℕ → Element
-known_at o h end at = cond (framed h at) (value_at o h end (get_or h at 0) (letter_of (get_or h at 0)) (at + 4)) Bad
+unfoldable pub known_at : Order → List ℕ → ℕ → ℕ → Option Element
+known_at o h end at = cond (framed h at) (value_at o h end (get_or h at 0) (letter_of (get_or h at 0)) (at + 4)) None
 
 -- an unknown field, whose code stands at `at`: behind it comes a variant, which is walked by its signature and passed over (rule 2.13)
-unfoldable pub unknown_at : Order → List ℕ → ℕ → ℕ → Element
-unknown_at o h end at = elim (skipped o h (at + 1) end) [ stop.Bad ↦ Bad | stop.At to ↦ Skip to ]
+unfoldable pub unknown_at : Order → List ℕ → ℕ → ℕ → Option Element
+unknown_at o h end at = elim (skipped o h (at + 1) end) [ None ↦ None | Some to ↦ Some (Skip to) ]
 
 -- a field by its code: from the limit on it is unknown (rules 2.5 and 2.13)
-abbrev pub by_code : Order → List ℕ → ℕ → ℕ → Element
+abbrev pub by_code : Order → List ℕ → ℕ → ℕ → Option Element
 by_code o h end at = cond (ltb (get_or h at 0) code_limit) (known_at o h end at) (unknown_at o h end at)
 
 -- the element behind the padding that starts at `from`, which is zero (rules 2.5 and 2.8)
-unfoldable pub element_at : Order → List ℕ → ℕ → ℕ → Element
-element_at o h end from = cond (all_zero (take (round_up_8 from - from) (drop from h))) (by_code o h end (round_up_8 from)) Bad
+unfoldable pub element_at : Order → List ℕ → ℕ → ℕ → Option Element
+element_at o h end from = cond (all_zero (take (round_up_8 from - from) (drop from h))) (by_code o h end (round_up_8 from)) None
 
 -- ---- all elements
 
 -- the fields of the elements from `from` on, beside those of `fs`: the last one ends at `end`, and no code is repeated (rule 2.8) but those of
 -- unknown fields, which leave `fs` as it is (rule 2.13)
 unfoldable pub walk : ℕ → Order → List ℕ → ℕ → ℕ → Fields → Option Fields
-walk zero o h end from fs = none
+walk zero o h end from fs = None
 walk (suc fuel) o h end from fs =
     elim (eqb from end) [
-      | true ↦ some fs
+      | true ↦ Some fs
       | false ↦
           elim (element_at o h end from) [
-            | Bad ↦ none
-            | Skip stop ↦ walk fuel o h end stop fs
-            | At code at len stop ↦
+            | None ↦ None
+            | Some (Skip stop) ↦ walk fuel o h end stop fs
+            | Some (At code at len stop) ↦
                 elim (present (place_of fs code)) [
-                  | true ↦ none
+                  | true ↦ None
                   | false ↦ walk fuel o h end stop (set fs code (record { at = at; len = len }))
                 ]
           ]
@@ -99,4 +97,4 @@ fields_in o h end = walk (end - fixed_length + 1) o h end fixed_length no_fields
 -- the fields of the head h, or none where the array is malformed; what stands behind the array is padding (rule 2.8)
 unfoldable pub fields_of : List ℕ → Option Fields
 fields_of h =
-    cond (all_zero (drop (fixed_length + array_length h) h)) (fields_in (order_of h) h (fixed_length + array_length h)) none
+    cond (all_zero (drop (fixed_length + array_length h) h)) (fields_in (order_of h) h (fixed_length + array_length h)) None

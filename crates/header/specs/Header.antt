@@ -1,6 +1,5 @@
 -- A head as a whole: for any bytes, what a reader of them answers (rules 2.11 and 2.12).
-use Rattle.std.specs.Prelude.{cond, not, List, ℕ, ltb, length, take}
-use Rattle.std.proofs.Math.Option.{Option, none, some}
+use Rattle.std.specs.Prelude.{cond, not, List, ℕ, ltb, length, take, Option, Some, None}
 use Rattle.header.specs.declared.Header.{Header}
 use Rattle.header.specs.declared.Fixed.{Fixed}
 use Rattle.header.specs.declared.Fixed.TheVariants as fixed
@@ -34,8 +33,8 @@ unfoldable pub judged_head : List ℕ → Fields → Reading
 judged_head h fs = cond (not (good_values (order_of h) h fs)) (Broken 8) (cond (not (has_required (kind_of h) fs)) (Broken 9) (Whole (header_of h fs)))
 
 abbrev pub or_seven : List ℕ → Option Fields → Reading
-or_seven h none = Broken 7
-or_seven h (some fs) = judged_head h fs
+or_seven h None = Broken 7
+or_seven h (Some fs) = judged_head h fs
 
 -- 7 before both, over exactly the bytes of the head (rule 2.11)
 unfoldable pub read_head : List ℕ → Reading

@@ -89,7 +89,7 @@ pub enum Fixed {
     Sizes(usize, usize),
 }
 
-// An element of the array: its code, where its value starts, how long that is, and where the element stops; of an unknown field only that.
+// A good element of the array: its code, where its value starts, how long that is, and where the element stops; of an unknown field only that.
 #[derive(Clone, Copy)]
 pub enum Element {
     At {
@@ -99,5 +99,4 @@ pub enum Element {
         stop: usize,
     },
     Skip(usize),
-    Bad,
 }

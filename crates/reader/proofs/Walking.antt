@@ -1,7 +1,7 @@
 -- The walk's loop: what is to be found is what the rest gives.
+use Rattle.std.specs.Prelude.{Option, Some, None}
 use mathlib.Core.Path.{◌≡◌, refl, sym, ap, ◌∙◌}
 use mathlib.Core.List.{List}
-use mathlib.Core.Option.{Option, none, some}
 use Prim.Native.Nat.{ℕ, suc, ◌+◌, ◌-◌, ◌*◌, ◌<◌}
 use native.Mathlib.Omega.{arith}
 use lib.ListN.{length, set, length-set}
@@ -10,12 +10,16 @@ use mir.Val
 use borrow.Author.Rules.{rules}
 use Rattle.wire.specs.declared.Order.{Order}
 use Rattle.header.specs.declared.Element.{Element}
-use Rattle.header.specs.declared.Element.TheVariants.{At, Skip, Bad}
+use Rattle.header.specs.declared.Element.TheVariants.{At, Skip}
 use Rattle.header.specs.Codes.{code_limit}
 use Rattle.header.specs.Fields.{Fields, place_of, no_fields, element_at, walk, fields_in}
 use Rattle.header.proofs.Walk.{Stands, Passes, element_stands, element_passes, walk_end, walk_bad, walk_skip, walk_again, walk_more}
 use Rattle.reader.specs.Promises.{Inside}
 use Rattle.header.specs.Fixed.{fixed_length}
+
+-- what `?` and then a `match` have found
+pub told : {X : Type 0} {x : Option X} {y z : X} → x ≡ Some y → y ≡ z → x ≡ Some z
+told w q = w ∙ ap Some q
 
 pub record Walking (o : Order) (h : List ℕ) (end : ℕ) (fs : Fields) (from : ℕ) : Type 0 where
   pub fuel : ℕ
@@ -36,14 +40,14 @@ module _ {o : Order} {h : List ℕ} {end : ℕ} {fs : Fields} {from : ℕ} (w : 
   by_step : {x : Option Fields} → ((fuel : ℕ) → walk (suc fuel) o h end from fs ≡ x) → x ≡ fields_in o h end
   by_step step = sym (step_left ∙ step (w.fuel - 1))
 
-  pub walking_ends : from ≡ end → some fs ≡ fields_in o h end
+  pub walking_ends : from ≡ end → Some fs ≡ fields_in o h end
   walking_ends e = by_step (λ fuel. walk_end fuel o h end from fs e)
 
-  module _ (n : from ≡ end → ⊥) {r : Element} (p : r ≡ element_at o h end from) where
-    pub walking_bad : r ≡ Bad → none ≡ fields_in o h end
+  module _ (n : from ≡ end → ⊥) {r : Option Element} (p : r ≡ element_at o h end from) where
+    pub walking_bad : r ≡ None → None ≡ fields_in o h end
     walking_bad q = by_step (λ fuel. walk_bad fuel o h end from fs n (sym p ∙ q))
 
-    module _ {s : ℕ} (q : r ≡ Skip s) where
+    module _ {s : ℕ} (q : r ≡ Some (Skip s)) where
       passes : Passes end from s
       passes = element_passes o h end from (sym p ∙ q)
 
@@ -60,7 +64,7 @@ module _ {o : Order} {h : List ℕ} {end : ℕ} {fs : Fields} {from : ℕ} (w : 
             left = step_left ∙ walk_skip (w.fuel - 1) o h end from fs n (sym p ∙ q);
           }
 
-    module _ {c a l s : ℕ} (q : r ≡ At c a l s) where
+    module _ {c a l s : ℕ} (q : r ≡ Some (At c a l s)) where
       pub stands : Stands end from c a l s
       stands = element_stands o h end from (sym p ∙ q)
 
@@ -73,7 +77,7 @@ module _ {o : Order} {h : List ℕ} {end : ℕ} {fs : Fields} {from : ℕ} (w : 
       pub walking_falls : end - s < end - from
       walking_falls = omega (arith, stands)
 
-      pub walking_again : ((place_of fs c).at ≡ 0 → ⊥) → none ≡ fields_in o h end
+      pub walking_again : ((place_of fs c).at ≡ 0 → ⊥) → None ≡ fields_in o h end
       walking_again z = by_step (λ fuel. walk_again fuel o h end from fs n (sym p ∙ q) z)
 
       pub walking_more : (place_of fs c).at ≡ 0 → Walking o h end (set fs c (record { at = a; len = l })) s

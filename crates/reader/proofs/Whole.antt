@@ -1,4 +1,5 @@
 -- A whole head and any bytes, way by way.
+use Rattle.std.specs.Prelude.{Option, Some, None}
 use mathlib.Core.Path.{◌≡◌, sym, ◌∙◌}
 use mathlib.Core.Bool.{Bool, true, false, not}
 use mathlib.Core.List.{List}
@@ -12,7 +13,6 @@ use Rattle.wire.specs.Bytes.{all_zero}
 use Rattle.wire.specs.Words.{word_at}
 use Rattle.wire.specs.declared.Order.{Order}
 use Rattle.wire.proofs.Words.{rest_at}
-use Rattle.reader.specs.declared.Found.{Found}
 use Rattle.header.specs.declared.Header.{Header}
 use Rattle.header.specs.declared.Place.{Place}
 use Rattle.header.specs.declared.Fixed.{Fixed}
@@ -28,7 +28,7 @@ use Rattle.header.specs.Header.{header_of, judged_head, read_head, read_header}
 use Rattle.header.specs.Promises.{SizedHead, ValuesFit}
 use Rattle.header.proofs.Walk.{array_fits}
 use Rattle.header.proofs.Readings.{read_few, read_broken, read_short, read_whole, head_of}
-use Rattle.reader.specs.Promises.{Inside, Reads, found_in}
+use Rattle.reader.specs.Promises.{Inside, Reads}
 
 -- ---- 8, then 9
 
@@ -89,25 +89,25 @@ module _ (h : List ℕ) (o : Order) (a : ℕ) (w : SizedHead h) (p : o ≡ order
     unfolding read_head fields_of
     unpadded t = rw (array_is, ← rest_at (fixed_length + a) h, ← e, not-true z t)
 
-    module _ (t : not z ≡ false) (f : Found) (i : found_in f ≡ fields_in (order_of h) h (fixed_length + a)) where
-      fields_are : fields_of h ≡ found_in f
+    module _ (t : not z ≡ false) {f : Option Fields} (i : f ≡ fields_in (order_of h) h (fixed_length + a)) where
+      fields_are : fields_of h ≡ f
       unfolding fields_of
       fields_are = rw (array_is, ← rest_at (fixed_length + a) h, ← e, not-false z t, i)
 
-      pub malformed : not f.good ≡ true → Broken 7 ≡ read_head h
+      pub malformed : f ≡ None → Broken 7 ≡ read_head h
       unfolding read_head
-      malformed u = rw (fields_are, not-true f.good u)
+      malformed u = rw (fields_are, u)
 
-      module _ (u : not f.good ≡ false) where
-        pub places_fit : ValuesFit h f.places
-        places_fit = array_fits (order_of h) h (fixed_length + a) f.places array_inside (sym i ∙ rw (not-false f.good u))
+      module _ {fs : Fields} (u : f ≡ Some fs) where
+        pub places_fit : ValuesFit h fs
+        places_fit = array_fits (order_of h) h (fixed_length + a) fs array_inside (sym i ∙ u)
 
-        pub places_read : Reads h o f.places
+        pub places_read : Reads h o fs
         places_read = record { order = p; head = w; fits = places_fit; reply = places_fit.inside reply_serial_code }
 
-        pub well_formed : {r : Reading} → r ≡ judged_head h f.places → r ≡ read_head h
+        pub well_formed : {r : Reading} → r ≡ judged_head h fs → r ≡ read_head h
         unfolding read_head
-        well_formed k = k ∙ rw (fields_are, not-false f.good u)
+        well_formed k = k ∙ rw (fields_are, u)
 
 pub ruleset heads = (array_inside, walk_inside, unpadded, malformed, places_read, well_formed, rules)
 

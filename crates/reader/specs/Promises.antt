@@ -1,6 +1,5 @@
 -- What the reader's functions require and ensure among themselves, in the terms of the definitions of a head.
-use Rattle.std.specs.Prelude.{cond, List, ◌≡◌, ℕ, ◌+◌, ◌≤◌, ◌<◌, length, get_or}
-use Rattle.std.proofs.Math.Option.{Option, none, some}
+use Rattle.std.specs.Prelude.{List, ◌≡◌, ℕ, ◌+◌, ◌≤◌, ◌<◌, length, get_or, Option}
 use Rattle.wire.specs.Words.{round_up_8}
 use Rattle.wire.specs.declared.Order.{Order}
 use Rattle.header.specs.declared.Element.{Element}
@@ -8,7 +7,6 @@ use Rattle.header.specs.Fixed.{fixed_length, head_limit, order_of}
 use Rattle.header.specs.Codes.{code_limit, reply_serial_code}
 use Rattle.header.specs.Fields.{Fields, place_of, element_at}
 use Rattle.header.specs.Promises.{SizedHead, ValuesFit}
-use Rattle.reader.specs.declared.Found.{Found}
 
 -- an array that ends at `end` is read from `from` on, and its padding lies in h
 pub record Inside (h : List ℕ) (end from : ℕ) : Type 0 where
@@ -25,7 +23,7 @@ pub record Known (h : List ℕ) (end at : ℕ) : Type 0 where
   pub code : get_or h at 0 < code_limit
 
 -- the element that a reader of h at `from` finds, in the byte order of h
-abbrev pub element_in : List ℕ → ℕ → ℕ → Element
+abbrev pub element_in : List ℕ → ℕ → ℕ → Option Element
 element_in h end from = element_at (order_of h) h end from
 
 -- what the judgement of a whole head reads: its byte order, and fields whose values lie in it
@@ -34,7 +32,3 @@ pub record Reads (h : List ℕ) (o : Order) (fs : Fields) : Type 0 where
   pub head : SizedHead h
   pub fits : ValuesFit h fs
   pub reply : (place_of fs reply_serial_code).at + (place_of fs reply_serial_code).len ≤ length h
-
--- the fields that a walk has found
-abbrev pub found_in : Found → Option Fields
-found_in f = cond f.good (some f.places) none

@@ -1,5 +1,4 @@
-// A thin layer over the array of header fields: a struct that holds the lent head and a position. `new`, `next` and `field_at` take it apart; `element_in`
-// does the work.
+// A thin layer over the array of header fields: a struct that holds the lent head and a position.
 ghost use Rattle.std.specs.Prelude.{◌≡◌};
 ghost use Rattle.reader.specs.Promises.{Inside, element_in};
 
@@ -13,32 +12,27 @@ pub struct FieldReader<'a> {
     pub at: usize,
 }
 
-// The element behind the padding that starts at `from`, in the head's own byte order.
-fn element_in(head: &[u8], end: usize, from: usize) -> Element
-    requires { Inside head.now end from }
-    ensures { result ≡ element_in head.now end from }
-{
-    super::element_at(super::order_of(head), head, end, from)
-}
+impl<'a> FieldReader<'a> {
+    fn new(head: &'a [u8], end: usize, at: usize) -> FieldReader<'a>
+        ensures { (result.head ≡ head.entry) × (result.end ≡ end) × (result.at ≡ at) }
+    {
+        FieldReader { head, end, at }
+    }
 
-fn new<'a>(head: &'a [u8], end: usize, at: usize) -> FieldReader<'a>
-    ensures { (result.head ≡ head.entry) × (result.end ≡ end) × (result.at ≡ at) }
-{
-    FieldReader { head, end, at }
-}
-
-// The element at the reader's position.
-fn next<'a>(r: FieldReader<'a>) -> Element
-    requires { Inside r.head.now r.end r.at }
-    ensures { result ≡ element_in r.entry.head.now r.entry.end r.entry.at }
-{
-    element_in(r.head, r.end, r.at)
+    // The element at the reader's position, in the head's own byte order.
+    #[tactic(auto, using(crate::proofs::Elements::in_order))]
+    fn element(self) -> Option<Element>
+        requires { Inside self.head.now self.end self.at }
+        ensures { result ≡ element_in self.entry.head.now self.entry.end self.entry.at }
+    {
+        super::element_at(super::order_of(self.head), self.head, self.end, self.at)
+    }
 }
 
 // The same of a head and two numbers: who calls this one sees no reader.
-pub fn field_at(head: &[u8], end: usize, from: usize) -> Element
+pub fn field_at(head: &[u8], end: usize, from: usize) -> Option<Element>
     requires { Inside head.now end from }
     ensures { result ≡ element_in head.now end from }
 {
-    next(new(head, end, from))
+    FieldReader::new(head, end, from).element()
 }

@@ -10,9 +10,8 @@ ghost use Rattle.header.specs.Codes.{code_limit, letter_of};
 ghost use Rattle.header.specs.Fields.{text_in, value_at, framed, known_at, unknown_at, element_at, fields_in};
 ghost use Rattle.header.specs.Header.{header_of, judged_head, read_head, read_header};
 ghost use Rattle.header.specs.Promises.{SizedHead};
-ghost use Rattle.reader.specs.Promises.{Inside, Known, Reads, found_in};
+ghost use Rattle.reader.specs.Promises.{Inside, Known, Reads};
 
-use basics::Stop;
 use header::{
     ARRAY_LIMIT, ARRAY_WORD, BODY_WORD, CODE_LIMIT, DESTINATION_CODE, ERROR_NAME_CODE, Element,
     FIXED_LENGTH, FLAGS_BYTE, Fixed, Header, INTERFACE_CODE, KIND_BYTE, MEMBER_CODE, MESSAGE_LIMIT,
@@ -20,16 +19,10 @@ use header::{
 };
 use wire::Order;
 
-// Where the value of each code stands, if the array is good.
-#[derive(Clone, Copy)]
-pub struct Found {
-    pub good: bool,
-    pub places: [Place; CODE_LIMIT],
-}
-
 // The letter of each code's type: none for 0.
 const LETTERS: [u8; CODE_LIMIT] = [0, b'o', b's', b's', b's', b'u', b's', b's', b'g', b'u'];
 
+#[tactic(auto, unfolding(header::specs::Fixed::order_of))]
 fn order_of(bytes: &[u8]) -> Order
     requires { fixed_length ≤ length bytes.now }
     ensures { result ≡ order_of bytes.now }
@@ -42,6 +35,7 @@ fn order_of(bytes: &[u8]) -> Order
 }
 
 // 4 to 6, and the lengths.
+#[tactic(auto, unfolding(header::specs::Fixed::sizes_of, header::specs::Fixed::message_length, header::specs::Fixed::head_length))]
 fn sizes(bytes: &[u8]) -> Fixed
     requires { fixed_length ≤ length bytes.now }
     ensures { result ≡ sizes_of bytes.now }
@@ -63,6 +57,7 @@ fn sizes(bytes: &[u8]) -> Fixed
 }
 
 // The fixed part of a head: 1 to 6 in their order, or the lengths.
+#[tactic(auto, unfolding(header::specs::Fixed::fixed_part))]
 pub fn fixed_part(bytes: &[u8]) -> Fixed
     requires { fixed_length ≤ length bytes.now }
     ensures { result ≡ fixed_part bytes.now }
@@ -83,6 +78,7 @@ pub fn fixed_part(bytes: &[u8]) -> Fixed
 }
 
 // The letter of a code's type, 0 for code 0.
+#[tactic(auto, using(crate::proofs::Elements::a_letter))]
 fn letter_of(code: usize) -> u8
     requires { code < code_limit }
     ensures { result ≡ letter_of code }
@@ -91,57 +87,61 @@ fn letter_of(code: usize) -> u8
 }
 
 // A text of `len` bytes from `at` on and the zero behind it, if they lie in the array.
-fn text_in(head: &[u8], end: usize, code: usize, at: usize, len: usize) -> Element
+#[tactic(auto, using(crate::proofs::Elements::texts))]
+fn text_in(head: &[u8], end: usize, code: usize, at: usize, len: usize) -> Option<Element>
     requires { (end ≤ length head.now) × (at < 4294967296) × (len < 4294967296) }
     ensures { result ≡ text_in head.now end code at len }
 {
     let stop = at + len;
     if end <= stop {
-        return Element::Bad;
+        return None;
     }
-    if head[stop] == 0 {
-        return Element::At {
-            code,
-            at,
-            len,
-            stop: stop + 1,
-        };
+    if head[stop] != 0 {
+        return None;
     }
-    Element::Bad
+    Some(Element::At {
+        code,
+        at,
+        len,
+        stop: stop + 1,
+    })
 }
 
 // The value at `at`, by its letter.
-fn value_at(order: Order, head: &[u8], end: usize, code: usize, letter: u8, at: usize) -> Element
+fn value_at(
+    order: Order,
+    head: &[u8],
+    end: usize,
+    code: usize,
+    letter: u8,
+    at: usize,
+) -> Option<Element>
     requires { (end ≤ length head.now) × (at ≤ end) × (length head.now ≤ head_limit) }
     ensures { result ≡ value_at order head.now end code letter at }
 {
     if letter == b'g' {
         if end <= at {
-            return Element::Bad;
+            return None;
         }
         return text_in(head, end, code, at + 1, wire::wide(head[at]) as usize);
     }
     if end < at + 4 {
-        return Element::Bad;
+        return None;
     }
     if letter == b'u' {
-        return Element::At {
+        return Some(Element::At {
             code,
             at,
             len: 4,
             stop: at + 4,
-        };
+        });
     }
-    text_in(
-        head,
-        end,
-        code,
-        at + 4,
-        wire::u32_at(order, head, at) as usize,
-    )
+    let len = wire::u32_at(order, head, at) as usize;
+    text_in(head, end, code, at + 4, len)
 }
 
 // The four bytes in front of a value are its code, 1, the code's letter and zero.
+#[tactic(auto, unfolding(header::specs::Fields::framed))]
 fn is_framed(head: &[u8], at: usize) -> bool
     requires { (get_or head.now at 0 < code_limit) × (at + 4 ≤ length head.now) }
     ensures { result ≡ framed head.now at }
@@ -151,42 +151,41 @@ fn is_framed(head: &[u8], at: usize) -> bool
 }
 
 // The field of the table whose code stands at `at`.
-fn known_at(order: Order, head: &[u8], end: usize, at: usize) -> Element
+fn known_at(order: Order, head: &[u8], end: usize, at: usize) -> Option<Element>
     requires { Known head.now end at }
     ensures { result ≡ known_at order head.now end at }
 {
     if end < at + 4 {
-        return Element::Bad;
+        return None;
     }
     if !is_framed(head, at) {
-        return Element::Bad;
+        return None;
     }
     let code = wire::wide(head[at]) as usize;
     value_at(order, head, end, code, letter_of(code), at + 4)
 }
 
 // The unknown field whose code stands at `at`: the signature behind it says how its value is passed over.
-fn unknown_at(order: Order, head: &[u8], end: usize, at: usize) -> Element
+#[tactic(auto, unfolding(header::specs::Fields::unknown_at))]
+fn unknown_at(order: Order, head: &[u8], end: usize, at: usize) -> Option<Element>
     requires { at < end }
     ensures { result ≡ unknown_at order head.now end at }
 {
-    match variant::skip(order, head, at + 1, end) {
-        Stop::At(stop) => Element::Skip(stop),
-        Stop::Bad => Element::Bad,
-    }
+    let stop = variant::skip(order, head, at + 1, end)?;
+    Some(Element::Skip(stop))
 }
 
 // The element behind the padding that starts at `from`.
-fn element_at(order: Order, head: &[u8], end: usize, from: usize) -> Element
+fn element_at(order: Order, head: &[u8], end: usize, from: usize) -> Option<Element>
     requires { Inside head.now end from }
     ensures { result ≡ element_at order head.now end from }
 {
     let at = wire::round_up_8(from);
     if end <= at {
-        return Element::Bad;
+        return None;
     }
     if !wire::is_zero(head, from, at) {
-        return Element::Bad;
+        return None;
     }
     let code = wire::wide(head[at]) as usize;
     if code < CODE_LIMIT {
@@ -195,22 +194,16 @@ fn element_at(order: Order, head: &[u8], end: usize, from: usize) -> Element
     unknown_at(order, head, end, at)
 }
 
-// All elements, in one pass.
-fn walk_all(head: &[u8], end: usize) -> Found
+// Where the value of each code stands, if the array is good: all elements, in one pass.
+fn walk_all(head: &[u8], end: usize) -> Option<[Place; CODE_LIMIT]>
     requires { Inside head.now end fixed_length }
-    ensures { found_in result ≡ fields_in (order_of head.now) head.now end }
+    ensures { result ≡ fields_in (order_of head.now) head.now end }
 {
     let none = Place { at: 0, len: 0 };
     let mut places = [none; CODE_LIMIT];
     let mut from = FIXED_LENGTH;
     while from != end {
-        match fields::field_at(head, end, from) {
-            Element::Bad => {
-                return Found {
-                    good: false,
-                    places,
-                };
-            }
+        match fields::field_at(head, end, from)? {
             Element::Skip(stop) => {
                 from = stop;
             }
@@ -222,17 +215,14 @@ fn walk_all(head: &[u8], end: usize) -> Found
             } => {
                 let seen = places[code];
                 if seen.at != 0 {
-                    return Found {
-                        good: false,
-                        places,
-                    };
+                    return None;
                 }
                 places[code] = Place { at, len };
                 from = stop;
             }
         }
     }
-    Found { good: true, places }
+    Some(places)
 }
 
 fn header_of(order: Order, head: &[u8], places: [Place; CODE_LIMIT]) -> Header
@@ -289,12 +279,10 @@ fn read_head(head: &[u8]) -> Reading
     if !wire::is_zero(head, end, head.len()) {
         return Reading::Broken(7);
     }
-    let found = walk_all(head, end);
-    if !found.good {
-        return Reading::Broken(7);
+    match walk_all(head, end) {
+        Some(places) => judge(order, head, places),
+        None => Reading::Broken(7),
     }
-    let places = found.places;
-    judge(order, head, places)
 }
 
 // The head in front of any bytes.

@@ -37,10 +37,10 @@ fn store(head: &mut [u8], stored: usize, limit: usize, piece: &[u8], used: usize
     requires { Room head.old stored limit piece.now used }
     ensures { Stored head.old stored limit piece.now used result head.new }
 {
-    let k = wire::least(limit - stored, piece.len() - used);
+    let k = (limit - stored).min(piece.len() - used);
     let to = stored + k;
     let end = used + k;
-    wire::copy(&mut head[stored..to], &piece[used..end]);
+    head[stored..to].copy_from_slice(&piece[used..end]);
     k
 }
 
