@@ -10,7 +10,7 @@ ghost use Rattle.places.specs.Places.{places_in, Wrote, Batched};
 ghost use Rattle.retire.specs.Promises.{Retires};
 
 use memory::MEMORY_LENGTH;
-use places::PLACE_LENGTH;
+use places::{PLACE_LENGTH, Report};
 
 // The length of memory that a host lends (rule 10.1).
 #[unsafe(no_mangle)]
@@ -30,7 +30,7 @@ pub extern "C" fn aygeshunt_start(memory: &mut [u8], place: &mut [u8]) -> usize
     if place.len() < PLACE_LENGTH {
         return 0;
     }
-    places::put(place, places::plain(guard::start(memory)));
+    places::put(place, Report::plain(guard::start(memory)));
     1
 }
 
@@ -52,7 +52,7 @@ pub extern "C" fn aygeshunt_connect(
     }
     places::put(
         place,
-        places::connected(guard::connect(image, memory, uid, gids)),
+        Report::from(guard::connect(image, memory, uid, gids)),
     );
     1
 }
@@ -73,7 +73,7 @@ pub extern "C" fn aygeshunt_own(
     if place.len() < PLACE_LENGTH {
         return 0;
     }
-    places::put(place, places::owned(guard::own(image, memory, peer, name)));
+    places::put(place, Report::from(guard::own(image, memory, peer, name)));
     1
 }
 
@@ -92,7 +92,7 @@ pub extern "C" fn aygeshunt_release(
     if place.len() < PLACE_LENGTH {
         return 0;
     }
-    places::put(place, places::plain(guard::release(memory, peer, name)));
+    places::put(place, Report::plain(guard::release(memory, peer, name)));
     1
 }
 
@@ -114,7 +114,7 @@ pub extern "C" fn aygeshunt_piece(
     }
     places::put(
         place,
-        places::taken(guard::piece(image, memory, peer, bytes)),
+        Report::from(guard::piece(image, memory, peer, bytes)),
     );
     1
 }
@@ -147,7 +147,7 @@ pub extern "C" fn aygeshunt_disconnect(memory: &mut [u8], peer: u32, place: &mut
     if place.len() < PLACE_LENGTH {
         return 0;
     }
-    places::put(place, places::gone(guard::disconnect(memory, peer)));
+    places::put(place, Report::from(guard::disconnect(memory, peer)));
     1
 }
 
@@ -166,7 +166,7 @@ pub extern "C" fn aygeshunt_tick(
     if place.len() < PLACE_LENGTH {
         return 0;
     }
-    places::put(place, places::ticked(guard::tick(memory, tick, limit)));
+    places::put(place, Report::from(guard::tick(memory, tick, limit)));
     1
 }
 

@@ -1,101 +1,134 @@
 -- The entries of a script: their lengths, and the layout to its end.
-use mathlib.Core.Path.{◌≡◌, refl, sym, ap, ◌∙◌}
-use mathlib.Core.Bool.{Bool, true, false, not, ◌&&◌, false≢true}
-use mathlib.Core.List.{List, [], ◌∷◌}
-use Prim.Native.Nat.{ℕ, zero, suc, ◌+◌, ◌-◌, ◌%◌, ◌≤◌, ◌<◌}
-use native.Mathlib.Omega.{arith}
-use lib.Dec.{eqb, leb, ltb}
-use lib.ListN.{length, take, drop, length-drop}
-use borrow.Author.Rules.{rules}
-use borrow.Author.Tests.{eq-eqb, ne_eqb, lt-ltb, le-ltb, eqb-true, eqb-false, ltb-true, ltb-false, leb-true, not-true, not-false}
+use Rattle.std.proofs.Common.{◌≡◌, refl, sym, ap, ◌∙◌, Bool, true, false, not, ◌&&◌, List, [], ◌∷◌, ℕ, zero, suc, ◌+◌, ◌-◌, ◌%◌, ◌≤◌, ◌<◌, arith, eqb, leb, ltb, length, take, drop, length-drop, rules, eq-eqb, ne_eqb, lt-ltb, le-ltb, eqb-true, ltb-true, ltb-false, leb-true, Option, Some, None, is_some, unwrap_or}
+use mathlib.Core.Bool.{false≢true}
+use borrow.Author.Tests.{eqb-false, not-true, not-false}
 use Rattle.wire.specs.Words.{word_at}
 use Rattle.wire.specs.declared.Order.TheVariants.{Little}
-use Rattle.wire.proofs.Texts.{both_first, both_second}
+use Rattle.wire.proofs.Texts.{both_first}
 use Rattle.wire.proofs.Words.{rest_at}
-use Rattle.wire.proofs.Tests.{choice, by_test}
+use Rattle.wire.proofs.Tests.{by_test}
 use Rattle.book.specs.Lists.{Call}
 use Rattle.calls.specs.Script.{entry_kind, size_of, argument_of, well_sized, entry_size, layout, script_calls, call_of}
-use Rattle.calls.specs.Steps.{Sized, Entry, Counted}
+use Rattle.calls.specs.declared.Kind.{Kind}
+use Rattle.calls.specs.declared.Kind.TheVariants as kind
+use Rattle.calls.specs.declared.Entry.{Entry}
+use Rattle.calls.specs.Steps.{kind_word, First, Counted}
 
 -- ---- the length that a kind may have
 
-module _ (kind n : ℕ) where
-  pub sized_start : kind ≡ 0 → eqb n 0 ≡ well_sized kind n
+module _ (k : Kind) (n : ℕ) where
+  pub sized_start : k ≡ kind.Start → eqb n 0 ≡ well_sized (kind_word k) n
   unfolding well_sized
-  sized_start e = rw (eq-eqb kind 0 e)
+  sized_start e = rw e refl
 
-  module _ (h : kind ≡ 0 → ⊥) where
-    pub sized_connect : kind ≡ 1 → leb 4 n && eqb (n % 4) 0 ≡ well_sized kind n
-    unfolding well_sized
-    sized_connect e = rw (ne_eqb kind 0 h, eq-eqb kind 1 e)
+  pub sized_connect : k ≡ kind.Connect → leb 4 n && eqb (n % 4) 0 ≡ well_sized (kind_word k) n
+  unfolding well_sized
+  sized_connect e = rw e refl
 
-    module _ (k : kind ≡ 1 → ⊥) where
-      pub sized_tick : kind ≡ 6 → eqb n 16 ≡ well_sized kind n
-      unfolding well_sized
-      sized_tick e = rw (ne_eqb kind 0 h, ne_eqb kind 1 k, eq-eqb kind 6 e)
+  pub sized_own : k ≡ kind.Own → leb 4 n ≡ well_sized (kind_word k) n
+  unfolding well_sized
+  sized_own e = rw e refl
 
-      pub four_words : kind ≡ 6 → well_sized kind n ≡ true → n ≡ 16
-      four_words e w = eqb-true n 16 (sized_tick e ∙ w)
+  pub sized_release : k ≡ kind.Release → leb 4 n ≡ well_sized (kind_word k) n
+  unfolding well_sized
+  sized_release e = rw e refl
 
-      module _ (i : kind ≡ 6 → ⊥) where
-        pub sized_leave : kind ≡ 5 → eqb n 4 ≡ well_sized kind n
-        unfolding well_sized
-        sized_leave e = rw (ne_eqb kind 0 h, ne_eqb kind 1 k, ne_eqb kind 6 i, eq-eqb kind 5 e)
+  pub sized_piece : k ≡ kind.Piece → leb 4 n ≡ well_sized (kind_word k) n
+  unfolding well_sized
+  sized_piece e = rw e refl
 
-        pub sized_peer : (kind ≡ 5 → ⊥) → ltb kind 5 && leb 4 n ≡ well_sized kind n
-        unfolding well_sized
-        sized_peer e = rw (ne_eqb kind 0 h, ne_eqb kind 1 k, ne_eqb kind 6 i, ne_eqb kind 5 e)
+  pub sized_leave : k ≡ kind.Disconnect → eqb n 4 ≡ well_sized (kind_word k) n
+  unfolding well_sized
+  sized_leave e = rw e refl
 
-    -- all but a start begin with a word
-    pub at_least : well_sized kind n ≡ true → 4 ≤ n
-    unfolding well_sized
-    at_least w =
-        choice (λ (b : Bool). b ≡ true → 4 ≤ n) (eqb kind 1) _ _ (λ p e. leb-true 4 n (both_first (leb 4 n) (eqb (n % 4) 0) e))
-        (λ p. choice (λ (b : Bool). b ≡ true → 4 ≤ n) (eqb kind 6) _ _ (λ q e. omega (arith, eqb-true n 16 e))
-        (λ q. choice (λ (b : Bool). b ≡ true → 4 ≤ n) (eqb kind 5) _ _ (λ o e. omega (arith, eqb-true n 4 e))
-        (λ o e. leb-true 4 n (both_second (ltb kind 5) (leb 4 n) e)))) (rw (ne_eqb kind 0 h) at w)
+  pub sized_tick : k ≡ kind.Tick → eqb n 16 ≡ well_sized (kind_word k) n
+  unfolding well_sized
+  sized_tick e = rw e refl
 
-pub ruleset kinds = (sized_start, sized_connect, sized_tick, sized_leave, sized_peer, rules)
+  -- all but a start begin with a word
+  module _ (w : well_sized (kind_word k) n ≡ true) where
+    pub connect_long : k ≡ kind.Connect → 4 ≤ n
+    connect_long e = leb-true 4 n (both_first (leb 4 n) (eqb (n % 4) 0) (sized_connect e ∙ w))
+
+    pub own_long : k ≡ kind.Own → 4 ≤ n
+    own_long e = leb-true 4 n (sized_own e ∙ w)
+
+    pub release_long : k ≡ kind.Release → 4 ≤ n
+    release_long e = leb-true 4 n (sized_release e ∙ w)
+
+    pub piece_long : k ≡ kind.Piece → 4 ≤ n
+    piece_long e = leb-true 4 n (sized_piece e ∙ w)
+
+    pub leave_long : k ≡ kind.Disconnect → 4 ≤ n
+    leave_long e = let f = eqb-true n 4 (sized_leave e ∙ w) in omega arith
+
+    pub tick_words : k ≡ kind.Tick → n ≡ 16
+    tick_words e = eqb-true n 16 (sized_tick e ∙ w)
+
+pub ruleset kinds = (sized_start, sized_connect, sized_own, sized_release, sized_piece, sized_leave, sized_tick, rules)
+
+-- no kind has a word above 6
+sized_above : (k n : ℕ) → 6 < k → well_sized k n ≡ false
+unfolding well_sized
+sized_above k n h =
+    rw (
+      ne_eqb k 0 (λ e. omega arith),
+      ne_eqb k 1 (λ e. omega arith),
+      ne_eqb k 6 (λ e. omega arith),
+      ne_eqb k 5 (λ e. omega arith),
+      le-ltb k 5 (omega arith),
+    )
 
 -- ---- the first entry
 
-pub size_short : (s : List ℕ) → length s < 8 → Sized s 0
+pub size_short : (s : List ℕ) → length s < 8 → entry_size s ≡ 0
 unfolding entry_size
-size_short s h = record { is = rw (lt-ltb (length s) 8 h); inside = omega arith }
+size_short s h = rw (lt-ltb (length s) 8 h)
 
-module _ (s : List ℕ) (h : 8 ≤ length s) (k n : ℕ) (p : k ≡ word_at Little s 0) (q : n ≡ word_at Little s 4) (b : Bool) (e : b ≡ well_sized k n) where
-  pub size_bad : not b ≡ true → Sized s 0
+module _ (s : List ℕ) (h : 8 ≤ length s) where
+  size_bad : well_sized (entry_kind s) (size_of s) ≡ false → entry_size s ≡ 0
   unfolding entry_size
-  size_bad t = let w : well_sized (entry_kind s) (size_of s) ≡ false = rw (← p, ← q) (sym e ∙ not-true b t) in
-      record { is = rw (le-ltb (length s) 8 h, w); inside = omega arith }
+  size_bad w = rw (le-ltb (length s) 8 h, w)
 
-  module _ (t : not b ≡ false) where
-    well : well_sized (entry_kind s) (size_of s) ≡ true
-    well = rw (← p, ← q) (sym e ∙ not-false b t)
+  pub size_unknown : (w : ℕ) → w ≡ word_at Little s 0 → 6 < w → entry_size s ≡ 0
+  size_unknown w e l = size_bad (rw e at (sized_above w (size_of s) l))
 
-    pub size_cut : length s - 8 < n → Sized s 0
-    unfolding entry_size
-    size_cut l =
-        let x : ltb (length s - 8) (size_of s) ≡ true = rw (← q) (lt-ltb (length s - 8) n l) in
-        record { is = rw (le-ltb (length s) 8 h, well, x); inside = omega arith }
+  module _ (k : Kind) (n w : ℕ) (p : w ≡ word_at Little s 0) (q : n ≡ word_at Little s 4) (o : kind_word k ≡ w) (b : Bool) (e : b ≡ well_sized (kind_word k) n) where
+    pub size_untaken : not b ≡ true → entry_size s ≡ 0
+    size_untaken t = size_bad (rw (← q, ← p, ← o) (sym e ∙ not-true b t))
 
-    pub size_good : n ≤ length s - 8 → Sized s (8 + n)
-    unfolding entry_size
-    size_good l =
-        let x : ltb (length s - 8) (size_of s) ≡ false = rw (← q) (le-ltb (length s - 8) n l) in
-        record { is = rw (le-ltb (length s) 8 h, well, x, q); inside = omega arith }
+    module _ (t : not b ≡ false) where
+      well : well_sized (entry_kind s) (size_of s) ≡ true
+      well = rw (← q, ← p, ← o) (sym e ∙ not-false b t)
 
-pub ruleset sizes = (size_short, size_bad, size_cut, size_good, rules)
+      pub size_cut : length s - 8 < n → entry_size s ≡ 0
+      unfolding entry_size
+      size_cut l = let x : ltb (length s - 8) (size_of s) ≡ true = rw (← q) (lt-ltb (length s - 8) n l) in rw (le-ltb (length s) 8 h, well, x)
 
--- an entry of some length stands there
-pub entry_of : (s : List ℕ) → (entry_size s ≡ 0 → ⊥) → Entry s
-unfolding entry_size
-entry_of s h =
-    by_test (ltb (length s) 8) (λ p. absurd (h (rw p)))
-    (λ p. by_test (well_sized (entry_kind s) (size_of s))
-    (λ q. by_test (ltb (length s - 8) (size_of s)) (λ r. absurd (h (rw (p, q, r))))
-    (λ r. record { long = ltb-false (length s) 8 p; inside = ltb-false (length s - 8) (size_of s) r; sized = q }))
-    (λ q. absurd (h (rw (p, q)))))
+      pub size_good : n ≤ length s - 8 → First s (record { kind = k; argument = n })
+      size_good l = record { kind = o ∙ p; argument = q; inside = omega arith; sized = sym e ∙ not-false b t }
+
+pub ruleset sizes = (size_short, size_unknown, size_untaken, size_cut, size_good, rules)
+
+-- how many bytes the entry takes
+module _ {s : List ℕ} {x : Entry} (f : First s x) where
+  pub size_is : 8 + x.argument ≡ entry_size s
+  unfolding entry_size
+  size_is =
+      let i : 8 + x.argument ≤ length s = f.inside in
+      let w : well_sized (entry_kind s) (size_of s) ≡ true = rw (f.kind, f.argument) at f.sized in
+      let z : ltb (length s - 8) (size_of s) ≡ false = rw (← f.argument) (le-ltb (length s - 8) x.argument (omega arith)) in
+      rw (le-ltb (length s) 8 (omega arith), w, z, ← f.argument) refl
+
+  pub size_some : entry_size s ≡ 0 → ⊥
+  size_some e = let g : 8 + x.argument ≡ 0 = size_is ∙ e in omega arith
+
+  pub size_any : 0 < length s
+  size_any = let i : 8 + x.argument ≤ length s = f.inside in omega arith
+
+  -- what is left behind it, as the code cuts it
+  pub behind : take (length s - (8 + x.argument)) (drop (8 + x.argument) s) ≡ drop (entry_size s) s
+  behind = rest_at (8 + x.argument) s ∙ rw size_is
 
 -- ---- one entry on
 
@@ -122,10 +155,6 @@ pub calls_end : (image : List ℕ) (f : ℕ) (s : List ℕ) → length s ≤ 0 �
 unfolding script_calls
 calls_end image zero s h = refl
 calls_end image (suc f) s h = let e : length s ≡ 0 = omega arith in rw (script_calls, eq-eqb (length s) 0 e)
-
--- what is left behind an entry, as the code cuts it
-pub behind : {s : List ℕ} {k : ℕ} → Sized s k → take (length s - k) (drop k s) ≡ drop (entry_size s) s
-behind {s} {k} z = rest_at k s ∙ rw z.is
 
 -- a layout that holds has an entry in front
 pub front_entry : (f : ℕ) (s : List ℕ) → 0 < length s → layout f s ≡ true → entry_size s ≡ 0 → ⊥
@@ -192,24 +221,26 @@ pub counting_begins : (s : List ℕ) → Counting s s 0
 counting_begins s = record { few = omega arith; same = refl; many = λ w image. omega arith }
 
 module _ {s rest : List ℕ} {n : ℕ} (c : Counting s rest n) where
-  module _ (h : 0 < length rest) {k : ℕ} (z : Sized rest k) where
-    pub counting_more : (k ≡ 0 → ⊥) → Counting s (take (length rest - k) (drop k rest)) (n + 1)
-    counting_more e =
-        let l = layout_next rest h (λ x. e (z.is ∙ x)) in
-        rw (behind z)
-        (record {
-          few = omega (arith, c.few, z.inside, z.is, length-drop (entry_size rest) rest);
-          same = c.same ∙ l;
-          many = λ w image. c.many (l ∙ w) image ∙ omega (arith, ap length (calls_next rest h image (l ∙ w)));
-        })
+  pub counting_more : {x : Entry} → First rest x → {k : ℕ} → k ≡ 8 + x.argument → Counting s (take (length rest - k) (drop k rest)) (n + 1)
+  counting_more {x} z q =
+      let h = size_any z in
+      let l = layout_next rest h (size_some z) in
+      let i : 8 + x.argument ≤ length rest = z.inside in
+      rw (q, behind z)
+      (record {
+        few = omega (arith, c.few, size_is z, length-drop (entry_size rest) rest);
+        same = c.same ∙ l;
+        many = λ w image. c.many (l ∙ w) image ∙ omega (arith, ap length (calls_next rest h image (l ∙ w)));
+      })
 
-    pub counting_broken : k ≡ 0 → Counted s (record { whole = false; calls = 0 })
-    counting_broken e =
-        record { whole = sym (c.same ∙ layout_stuck (length rest) rest h (sym z.is ∙ e)); many = λ x. absurd (false≢true x) }
+  pub counting_broken : entry_size rest ≡ 0 → 0 < length rest → Counted s None
+  counting_broken e h =
+      record { whole = sym (c.same ∙ layout_stuck (length rest) rest h e); many = λ k q. absurd (false≢true (ap is_some q)) }
 
-  pub counting_ends : length rest ≤ 0 → Counted s (record { whole = true; calls = n })
+  pub counting_ends : length rest ≡ 0 → Counted s (Some n)
   counting_ends h =
-      let w = layout_end (length rest) rest h in
-      record { whole = sym (c.same ∙ w); many = λ x image. c.many w image ∙ omega (arith, ap length (calls_end image (length rest) rest h)) }
-
-pub ruleset counting = (counting_begins, counting_more, counting_broken, counting_ends, rules)
+      let w = layout_end (length rest) rest (omega arith) in
+      record {
+        whole = sym (c.same ∙ w);
+        many = λ k q image. c.many w image ∙ omega (arith, ap length (calls_end image (length rest) rest (omega arith)), ap (λ (o : Option ℕ). unwrap_or o 0) q);
+      }

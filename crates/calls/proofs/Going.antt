@@ -1,13 +1,6 @@
 -- How far a script has been run, and that it ends as the model says.
-use mathlib.Core.Path.{◌≡◌, refl, sym, ap, ◌∙◌}
-use mathlib.Core.Bool.{true, false, not}
-use mathlib.Core.List.{List, [], ◌∷◌, ◌++◌, append_assoc, append-nil}
-use Prim.Native.Nat.{ℕ, suc, ◌+◌, ◌-◌, ◌*◌, ◌≤◌, ◌<◌}
-use native.Mathlib.Omega.{arith}
-use lib.Dec.{eqb, ltb}
-use lib.ListN.{length, take, drop, length-append, length-drop}
-use borrow.Author.Rules.{rules}
-use borrow.Author.Tests.{eq-eqb, ne_eqb, lt-ltb, le-ltb, eqb-true, eqb-false, not-true, not-false}
+use Rattle.std.proofs.Common.{◌≡◌, refl, sym, ap, ◌∙◌, true, false, not, List, [], ◌∷◌, ◌++◌, append_assoc, append-nil, ℕ, suc, ◌+◌, ◌-◌, ◌*◌, ◌≤◌, ◌<◌, arith, eqb, ltb, length, take, drop, length-append, length-drop, rules, eq-eqb, ne_eqb, lt-ltb, le-ltb, eqb-true, ltb-true, ltb-false, Option, Some, None, is_some, unwrap_or}
+use borrow.Author.Tests.{eqb-false}
 use Rattle.wire.proofs.Words.{rest_at}
 use Rattle.wire.proofs.Tests.{by_test}
 use Rattle.rules.specs.State.{State}
@@ -20,11 +13,11 @@ use Rattle.places.specs.Places.{place_length, places_in, filled}
 use Rattle.places.proofs.Rooms.{shown_length, taken_length, filled_none, filled_length, filled_next}
 use Rattle.book.proofs.List.{empty_claim}
 use Rattle.book.proofs.Runs.{run_append}
-use Rattle.calls.specs.declared.Count.{Count}
+use Rattle.calls.specs.declared.Entry.{Entry}
 use Rattle.calls.specs.Script.{entry_kind, argument_of, entry_size, layout, script_calls, call_of, decode}
 use Rattle.calls.specs.Places.{words_of, outcome, EndsAs}
-use Rattle.calls.specs.Steps.{Stepped, Sized, Entry, Counted, Ready, Replayed}
-use Rattle.calls.proofs.Entries.{entry_of, front_entry, layout_next, calls_next, calls_end, behind}
+use Rattle.calls.specs.Steps.{Stepped, First, Counted, Ready, Replayed}
+use Rattle.calls.proofs.Entries.{front_entry, layout_next, calls_next, calls_end, behind, size_some, size_any}
 
 -- ---- a run has an answer for each call
 
@@ -76,9 +69,9 @@ module _ {image s m₀ x m y rest : List ℕ} {at : ℕ} (g : Going image s m₀
   written : at ≡ place_length * length g.given
   written = g.place ∙ ap (λ (k : ℕ). place_length * k) (run_length g.ran)
 
-  module _ (h : 0 < length rest) where
+  module _ {e : Entry} (z : First rest e) where
     going_room : at + place_length ≤ length y
-    going_room = omega (arith, g.room, g.sized, ap length (calls_next rest h image g.whole))
+    going_room = omega (arith, g.room, g.sized, ap length (calls_next rest (size_any z) image g.whole))
 
     pub going_at : at ≤ length y
     going_at = omega (arith, going_room)
@@ -86,46 +79,40 @@ module _ {image s m₀ x m y rest : List ℕ} {at : ℕ} (g : Going image s m₀
     pub going_place : place_length ≤ length (take (length y - at) (drop at y))
     going_place = rw (rest_at at y) (omega (arith, going_room, length-drop at y))
 
-    pub going_entry : Entry rest
-    going_entry = entry_of rest (front_entry (length rest) rest h g.whole)
+    pub Going-on : (d w : List ℕ) → Stepped image rest m (take (length y - at) (drop at y)) d w → length d ≡ length m
+        → Going image s m₀ x d (take at y ++ (w ++ drop (length y - at) (drop at y))) (take (length rest - (8 + e.argument)) (drop (8 + e.argument) rest))
+        (at + place_length)
+    Going-on d w t same =
+        let n = size_some z in
+        let h = size_any z in
+        let c = call_of image (entry_kind rest) (argument_of rest) in
+        let cs = calls_next rest h image g.whole in
+        let text = filled_next words_of x answer_length g.given t.answer g.text written t.written in
+        let l : length (g.given ++ (t.answer ∷ [])) ≡ length g.given + 1 = length-append g.given (t.answer ∷ []) in
+        rw (behind z)
+        (record {
+          whole = sym (layout_next rest h n) ∙ g.whole;
+          past = g.past ++ (c ∷ []);
+          given = g.given ++ (t.answer ∷ []);
+          ran = run_append g.ran (then t.ran done);
+          all = g.all ∙ rw cs (sym (append_assoc g.past (c ∷ []) (script_calls image (length (drop (entry_size rest) rest)) (drop (entry_size rest) rest))));
+          place = omega (arith, g.place, length-append g.past (c ∷ []));
+          text = text;
+          room = omega (arith, g.room, ap length cs);
+          sized = ap length text ∙ filled_length words_of x answer_length (g.given ++ (t.answer ∷ [])) (omega (arith, l, written, g.room, ap length cs));
+          fits = same ∙ g.fits;
+        })
 
-    pub going_less : {k : ℕ} → Sized rest k → length (take (length rest - k) (drop k rest)) < length rest
-    going_less {k} z =
-        let n = front_entry (length rest) rest h g.whole in
-        let p : k ≡ 0 → ⊥ = λ e. n (sym z.is ∙ e) in
-        omega (arith, ap length (rest_at k rest), length-drop k rest)
-
-    module _ {k : ℕ} (z : Sized rest k) (e w : List ℕ) (t : Stepped image rest m (take (length y - at) (drop at y)) e w) (same : length e ≡ length m) where
-      pub Going-on
-          : Going image s m₀ x e (take at y ++ (w ++ drop (length y - at) (drop at y))) (take (length rest - k) (drop k rest)) (at + place_length)
-      Going-on =
-          let n = front_entry (length rest) rest h g.whole in
-          let c = call_of image (entry_kind rest) (argument_of rest) in
-          let cs = calls_next rest h image g.whole in
-          let text = filled_next words_of x answer_length g.given t.answer g.text written t.written in
-          let l : length (g.given ++ (t.answer ∷ [])) ≡ length g.given + 1 = length-append g.given (t.answer ∷ []) in
-          rw (behind z)
-          (record {
-            whole = sym (layout_next rest h n) ∙ g.whole;
-            past = g.past ++ (c ∷ []);
-            given = g.given ++ (t.answer ∷ []);
-            ran = run_append g.ran (then t.ran done);
-            all = g.all ∙ rw cs (sym (append_assoc g.past (c ∷ []) (script_calls image (length (drop (entry_size rest) rest)) (drop (entry_size rest) rest))));
-            place = omega (arith, g.place, length-append g.past (c ∷ []));
-            text = text;
-            room = omega (arith, g.room, ap length cs);
-            sized = ap length text ∙ filled_length words_of x answer_length (g.given ++ (t.answer ∷ [])) (omega (arith, l, written, g.room, ap length cs));
-            fits = same ∙ g.fits;
-          })
-
-  pub going_ends : length rest ≤ 0 → Replayed image s x m y
-  going_ends h =
+  pub going_ends : entry_size rest ≡ 0 → Replayed image s x m y
+  going_ends z =
+      let h : length rest ≤ 0 = by_test (ltb 0 (length rest)) (λ p. absurd (front_entry (length rest) rest (ltb-true 0 (length rest) p) g.whole z))
+      (ltb-false 0 (length rest)) in
       let c : script_calls image (length s) s ≡ g.past = g.all ∙ ap (λ (v : List Call). g.past ++ v) (calls_end image (length rest) rest h)
       ∙ append-nil g.past in
       let a = empty_claim g.ran in
       record { memory = rw c a.memory; room = rw (c, ← a.answered) g.text }
 
-pub ruleset going = (going_begins, going_at, going_place, going_entry, going_less, Going-on, going_ends, rules)
+pub ruleset going = (going_begins, going_at, going_place, Going-on, going_ends, rules)
 
 -- ---- the whole
 
@@ -140,29 +127,28 @@ start_done m e r d h =
     by_test (eqb (length m) memory_length) (λ q. (eqb-true (length m) memory_length q, rw q at d.memory))
     (λ q. let z : r ≡ 51 = rw q at d.result in absurd (omega arith))
 
-module _ (image s m x : List ℕ) (c : Count) (o : Counted s c) where
-  pub run_broken : not c.whole ≡ true → EndsAs (outcome image s m x) 67 m x
+module _ (image s m x : List ℕ) (c : Option ℕ) (o : Counted s c) where
+  pub run_broken : c ≡ None → EndsAs (outcome image s m x) 67 m x
   unfolding outcome decode
-  run_broken t =
-      let b : layout (length s) s ≡ false = sym o.whole ∙ not-true c.whole t in rw b (record { answer = refl; memory = refl; room = refl })
+  run_broken t = let b : layout (length s) s ≡ false = sym o.whole ∙ ap is_some t in rw b (record { answer = refl; memory = refl; room = refl })
 
-  module _ (t : not c.whole ≡ false) where
+  module _ (n : ℕ) (t : c ≡ Some n) where
     laid : layout (length s) s ≡ true
-    laid = sym o.whole ∙ not-false c.whole t
+    laid = sym o.whole ∙ ap is_some t
 
-    counted : length (script_calls image (length s) s) ≡ c.calls
-    counted = o.many (not-false c.whole t) image
+    counted : length (script_calls image (length s) s) ≡ n
+    counted = o.many n t image
 
-    pub run_full : places_in x < c.calls → EndsAs (outcome image s m x) 68 m x
+    pub run_full : places_in x < n → EndsAs (outcome image s m x) 68 m x
     unfolding outcome decode
-    run_full l = rw (laid, counted, lt-ltb (places_in x) c.calls l) (record { answer = refl; memory = refl; room = refl })
+    run_full l = rw (laid, counted, lt-ltb (places_in x) n l) (record { answer = refl; memory = refl; room = refl })
 
-    module _ (l : c.calls ≤ places_in x) (e : List ℕ) (r : ℕ) (d : Did (start_on m) r e) where
+    module _ (l : n ≤ places_in x) (e : List ℕ) (r : ℕ) (d : Did (start_on m) r e) where
       pub run_unfit : (r ≡ 0 → ⊥) → EndsAs (outcome image s m x) 51 e x
       unfolding outcome decode
       run_unfit h =
           let z = start_refused m e r d h in
-          rw (laid, counted, le-ltb (places_in x) c.calls l, ne_eqb (length m) memory_length z.0) (record { answer = refl; memory = z.1; room = refl })
+          rw (laid, counted, le-ltb (places_in x) n l, ne_eqb (length m) memory_length z.0) (record { answer = refl; memory = z.1; room = refl })
 
       module _ (h : r ≡ 0) where
         pub run_ready : Ready image s e x
@@ -171,7 +157,7 @@ module _ (image s m x : List ℕ) (c : Count) (o : Counted s c) where
         pub run_done : (f y : List ℕ) → Replayed image s x f y → EndsAs (outcome image s m x) 0 f y
         unfolding outcome decode
         run_done f y p =
-            let z : ltb (places_in x) (length (script_calls image (length s) s)) ≡ false = rw counted (le-ltb (places_in x) c.calls l) in
+            let z : ltb (places_in x) (length (script_calls image (length s) s)) ≡ false = rw counted (le-ltb (places_in x) n l) in
             rw (laid, z, eq-eqb (length m) memory_length (start_done m e r d h).0) (record { answer = refl; memory = p.memory; room = p.room })
 
 pub ruleset running = (run_broken, run_full, run_unfit, run_ready, run_done, rules)

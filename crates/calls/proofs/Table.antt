@@ -1,6 +1,5 @@
 -- The worked scripts hold: one statement, which antt computes.
-use mathlib.Core.Path.{◌≡◌, refl}
-use mathlib.Core.Bool.{true}
+use Rattle.std.proofs.Common.{◌≡◌, refl, true}
 use Rattle.wire.specs.Lists.{agrees}
 use Rattle.wire.specs.Bytes.{same}
 use Rattle.wire.specs.Words.{word_at, long_at, word_bytes, long_bytes}

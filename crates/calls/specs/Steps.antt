@@ -1,5 +1,5 @@
 -- The parts of a run: one entry, its call and its place; the count of entries; all of them.
-use Rattle.std.specs.Prelude.{true, List, ◌++◌, ◌≡◌, ℕ, ◌-◌, ◌*◌, ◌/◌, ◌≤◌, min, length, take, drop}
+use Rattle.std.specs.Prelude.{true, List, ◌++◌, ◌≡◌, ℕ, ◌+◌, ◌-◌, ◌*◌, ◌/◌, ◌≤◌, min, length, take, drop, Option, Some, is_some}
 use Rattle.rules.specs.Calls.{empty}
 use Rattle.rules.specs.View.{seen}
 use Rattle.memory.specs.Encoding.{memory_of}
@@ -8,9 +8,21 @@ use Rattle.places.specs.Places.{place_length, place_of, filled, Shows}
 use Rattle.book.specs.Book.{tail_view}
 use Rattle.book.specs.Lists.{Call, Answer, answers, after, Ran}
 use Rattle.calls.specs.declared.Gids.{Gids}
-use Rattle.calls.specs.declared.Count.{Count}
-use Rattle.calls.specs.Script.{entry_kind, size_of, argument_of, well_sized, entry_size, words, layout, script_calls, call_of}
+use Rattle.calls.specs.declared.Kind.{Kind}
+use Rattle.calls.specs.declared.Kind.TheVariants as kind
+use Rattle.calls.specs.declared.Entry.{Entry}
+use Rattle.calls.specs.Script.{entry_kind, size_of, argument_of, well_sized, words, layout, script_calls, call_of}
 use Rattle.calls.specs.Places.{words_of}
+
+-- the word of each kind (rule 12.3)
+abbrev pub kind_word : Kind → ℕ
+kind_word kind.Start = 0
+kind_word kind.Connect = 1
+kind_word kind.Own = 2
+kind_word kind.Release = 3
+kind_word kind.Piece = 4
+kind_word kind.Disconnect = 5
+kind_word kind.Tick = 6
 
 -- the call was made as its contract says, and this is its report
 pub record Reported (c : Call) (m : List ℕ) (r : Report) (e : List ℕ) : Type 0 where
@@ -30,21 +42,17 @@ pub record GidsIn (a : List ℕ) (r : Gids) : Type 0 where
   pub count : r.count ≡ min ((length a - 4) / 4) 17
   pub are : take r.count r.list ≡ words r.count (drop 4 a)
 
--- how long the entry in front of s is
-pub record Sized (s : List ℕ) (r : ℕ) : Type 0 where
-  pub is : r ≡ entry_size s
-  pub inside : r ≤ length s
-
--- an entry stands in front of s
-pub record Entry (s : List ℕ) : Type 0 where
-  pub long : 8 ≤ length s
-  pub inside : size_of s ≤ length s - 8
-  pub sized : well_sized (entry_kind s) (size_of s) ≡ true
+-- a whole entry stands in front of s, with this kind and so many bytes behind its first two words
+pub record First (s : List ℕ) (e : Entry) : Type 0 where
+  pub kind : kind_word e.kind ≡ entry_kind s
+  pub argument : e.argument ≡ size_of s
+  pub inside : 8 + e.argument ≤ length s
+  pub sized : well_sized (kind_word e.kind) e.argument ≡ true
 
 -- the layout holds, and so many calls stand there
-pub record Counted (s : List ℕ) (r : Count) : Type 0 where
-  pub whole : r.whole ≡ layout (length s) s
-  pub many : r.whole ≡ true → (image : List ℕ) → length (script_calls image (length s) s) ≡ r.calls
+pub record Counted (s : List ℕ) (r : Option ℕ) : Type 0 where
+  pub whole : is_some r ≡ layout (length s) s
+  pub many : (n : ℕ) → r ≡ Some n → (image : List ℕ) → length (script_calls image (length s) s) ≡ n
 
 -- ---- all entries
 

@@ -1,19 +1,99 @@
 // Runs a list of calls that stands in bytes, one call after the other on one guard, and writes their answers down.
 #![tactic(auto)]
 
-ghost use Rattle.std.specs.Prelude.{◌≡◌, true, ◌≤◌, length, take};
+ghost use Rattle.std.specs.Prelude.{◌≡◌, true, ◌<◌, ◌≤◌, length, take, IfSome, IfNone, ◌+◌};
 ghost use Rattle.wire.specs.Words.{word_at, long_at};
 ghost use Rattle.wire.specs.declared.Order.TheVariants.{Little};
-ghost use Rattle.memory.specs.Calls.{connect_on, Did};
 ghost use Rattle.book.specs.Lists.{connects, ticks};
 ghost use Rattle.places.specs.Places.{place_length};
-ghost use Rattle.calls.specs.Script.{well_sized, gids_of, peer_call, call_of};
+ghost use Rattle.calls.specs.Script.{well_sized, gids_of, call_of, entry_size};
 ghost use Rattle.calls.specs.Places.{outcome, EndsAs};
-ghost use Rattle.calls.specs.Steps.{Reported, Stepped, GidsIn, Sized, Entry, Counted, Ready, Replayed};
+ghost use Rattle.calls.specs.Steps.{kind_word, Reported, Stepped, GidsIn, First, Counted, Ready, Replayed};
 
 use places::{PLACE_LENGTH, Report};
-use rules::Connected;
 use wire::Order;
+
+// What an entry calls.
+#[derive(Clone, Copy)]
+enum Kind {
+    Start,
+    Connect,
+    Own,
+    Release,
+    Piece,
+    Disconnect,
+    Tick,
+}
+
+impl Kind {
+    fn from_word(word: u32) -> Option<Kind>
+        ensures known { IfSome result (λ k. kind_word k ≡ word) }
+        ensures unknown { IfNone result (6 < word) }
+    {
+        match word {
+            0 => Some(Kind::Start),
+            1 => Some(Kind::Connect),
+            2 => Some(Kind::Own),
+            3 => Some(Kind::Release),
+            4 => Some(Kind::Piece),
+            5 => Some(Kind::Disconnect),
+            6 => Some(Kind::Tick),
+            _ => None,
+        }
+    }
+
+    // An argument may have n bytes.
+    fn takes(self, n: u32) -> bool
+        ensures { result ≡ well_sized (kind_word self) n }
+    {
+        match self {
+            Kind::Start => n == 0,
+            Kind::Connect => (4 <= n) & (n % 4 == 0),
+            Kind::Own => 4 <= n,
+            Kind::Release => 4 <= n,
+            Kind::Piece => 4 <= n,
+            Kind::Disconnect => n == 4,
+            Kind::Tick => n == 16,
+        }
+    }
+}
+
+// The first words of an entry: what it calls, and how many bytes its argument has.
+#[derive(Clone, Copy)]
+struct Entry {
+    kind: Kind,
+    argument: u32,
+}
+
+impl Entry {
+    // The entry in front of a script, where a whole one stands there.
+    fn first(script: &[u8]) -> Option<Entry>
+        ensures entry { IfSome result (First script.now) }
+        ensures broken { IfNone result (entry_size script.now ≡ 0) }
+    {
+        if script.len() < 8 {
+            return None;
+        }
+        let kind = Kind::from_word(wire::u32_at(Order::Little, script, 0))?;
+        let argument = wire::u32_at(Order::Little, script, 4);
+        if !kind.takes(argument) {
+            return None;
+        }
+        if script.len() - 8 < argument as usize {
+            return None;
+        }
+        Some(Entry { kind, argument })
+    }
+
+    // How many bytes the entry takes.
+    fn size(self) -> usize
+        ensures { result ≡ 8 + self.argument }
+    {
+        8 + self.argument as usize
+    }
+}
+
+// ---- one call
 
 // The first `count` of a list of gids: one more than a peer may have at most.
 #[derive(Clone, Copy)]
@@ -22,36 +102,26 @@ struct Gids {
     count: usize,
 }
 
-// Whether a script's layout holds, and its calls.
-#[derive(Clone, Copy)]
-struct Count {
-    whole: bool,
-    calls: usize,
-}
-
-// ---- one call
-
-// The gids behind the uid, up to 17: more are as many as 17 to a guard.
-fn read_gids(argument: &[u8]) -> Gids
-    requires { 4 ≤ length argument.now }
-    ensures { GidsIn argument.now result }
-{
-    let mut list = [0u32; 17];
-    let count = wire::least((argument.len() - 4) / 4, 17);
-    let mut k = 0;
-    while k < count {
-        list[k] = wire::u32_at(Order::Little, argument, 4 + 4 * k);
-        k += 1;
+impl Gids {
+    // The gids behind the uid, up to 17: more are as many as 17 to a guard.
+    fn behind_uid(argument: &[u8]) -> Gids
+        requires { 4 ≤ length argument.now }
+        ensures { GidsIn argument.now result }
+    {
+        let mut list = [0u32; 17];
+        let count = ((argument.len() - 4) / 4).min(17);
+        for k in 0..count {
+            list[k] = wire::u32_at(Order::Little, argument, 4 + 4 * k);
+        }
+        Gids { list, count }
     }
-    Gids { list, count }
-}
 
-// Connects with the first `count` of these gids.
-fn connect_as(image: &[u8], memory: &mut [u8], uid: u32, gids: [u32; 17], count: usize) -> Connected
-    requires { count ≤ 17 }
-    ensures { Did (connect_on image.now memory.old uid (take count gids)) result memory.new }
-{
-    guard::connect(image, memory, uid, &gids[0..count])
+    fn as_slice(&self) -> &[u32]
+        requires { self.now.count ≤ 17 }
+        ensures { result.now ≡ take self.now.count self.now.list }
+    {
+        &self.list[..self.count]
+    }
 }
 
 fn connect(image: &[u8], memory: &mut [u8], argument: &[u8]) -> Report
@@ -60,23 +130,8 @@ fn connect(image: &[u8], memory: &mut [u8], argument: &[u8]) -> Report
         memory.new }
 {
     let uid = wire::u32_at(Order::Little, argument, 0);
-    let gids = read_gids(argument);
-    let list = gids.list;
-    let count = gids.count;
-    places::connected(connect_as(image, memory, uid, list, count))
-}
-
-// A call that begins with a peer's number and has more behind it.
-fn peer_call(image: &[u8], memory: &mut [u8], kind: u32, peer: u32, rest: &[u8]) -> Report
-    ensures { Reported (peer_call image.now kind peer rest.now) memory.old result memory.new }
-{
-    if kind == 2 {
-        return places::owned(guard::own(image, memory, peer, rest));
-    }
-    if kind == 3 {
-        return places::plain(guard::release(memory, peer, rest));
-    }
-    places::taken(guard::piece(image, memory, peer, rest))
+    let gids = Gids::behind_uid(argument);
+    Report::from(guard::connect(image, memory, uid, gids.as_slice()))
 }
 
 fn tick(memory: &mut [u8], argument: &[u8]) -> Report
@@ -85,100 +140,63 @@ fn tick(memory: &mut [u8], argument: &[u8]) -> Report
 {
     let present = wire::u64_at(argument, 0);
     let limit = wire::u64_at(argument, 8);
-    places::ticked(guard::tick(memory, present, limit))
+    Report::from(guard::tick(memory, present, limit))
 }
 
-fn call(image: &[u8], memory: &mut [u8], kind: u32, argument: &[u8]) -> Report
-    requires { well_sized kind (length argument.now) ≡ true }
-    ensures { Reported (call_of image.now kind argument.now) memory.old result memory.new }
+// The number of the peer that a call is about.
+fn peer_in(argument: &[u8]) -> u32
+    requires { 4 ≤ length argument.now }
+    ensures { result ≡ word_at Little argument.now 0 }
 {
-    if kind == 0 {
-        return places::plain(guard::start(memory));
+    wire::u32_at(Order::Little, argument, 0)
+}
+
+fn call(image: &[u8], memory: &mut [u8], kind: Kind, argument: &[u8]) -> Report
+    requires { well_sized (kind_word kind) (length argument.now) ≡ true }
+    ensures { Reported (call_of image.now (kind_word kind) argument.now) memory.old result memory.new }
+{
+    match kind {
+        Kind::Start => Report::plain(guard::start(memory)),
+        Kind::Connect => connect(image, memory, argument),
+        Kind::Own => {
+            let peer = peer_in(argument);
+            Report::from(guard::own(image, memory, peer, &argument[4..]))
+        }
+        Kind::Release => {
+            let peer = peer_in(argument);
+            Report::plain(guard::release(memory, peer, &argument[4..]))
+        }
+        Kind::Piece => {
+            let peer = peer_in(argument);
+            Report::from(guard::piece(image, memory, peer, &argument[4..]))
+        }
+        Kind::Disconnect => Report::from(guard::disconnect(memory, peer_in(argument))),
+        Kind::Tick => tick(memory, argument),
     }
-    if kind == 1 {
-        return connect(image, memory, argument);
-    }
-    if kind == 6 {
-        return tick(memory, argument);
-    }
-    let peer = wire::u32_at(Order::Little, argument, 0);
-    if kind == 5 {
-        return places::gone(guard::disconnect(memory, peer));
-    }
-    peer_call(image, memory, kind, peer, &argument[4..])
 }
 
 // ---- entries
 
-fn is_sized(kind: u32, n: u32) -> bool
-    ensures { result ≡ well_sized kind n }
-{
-    if kind == 0 {
-        return n == 0;
-    }
-    if kind == 1 {
-        return (4 <= n) & (n % 4 == 0);
-    }
-    if kind == 6 {
-        return n == 16;
-    }
-    if kind == 5 {
-        return n == 4;
-    }
-    (kind < 5) & (4 <= n)
-}
-
-// How many bytes the first entry takes, 0 where it is none.
-fn entry_size(s: &[u8]) -> usize
-    ensures { Sized s.now result }
-{
-    if s.len() < 8 {
-        return 0;
-    }
-    let kind = wire::u32_at(Order::Little, s, 0);
-    let n = wire::u32_at(Order::Little, s, 4);
-    if !is_sized(kind, n) {
-        return 0;
-    }
-    let size = n as usize;
-    if s.len() - 8 < size {
-        return 0;
-    }
-    8 + size
-}
-
-// The layout, to the script's very end, and how many calls it has.
-fn count_calls(script: &[u8]) -> Count
+// How many calls a script has, where its layout holds to its very end.
+fn count_calls(script: &[u8]) -> Option<usize>
     ensures { Counted script.now result }
 {
     let mut rest = script;
     let mut n = 0;
-    while 0 < rest.len() {
-        let k = entry_size(rest);
-        if k == 0 {
-            return Count {
-                whole: false,
-                calls: 0,
-            };
-        }
-        rest = &rest[k..];
+    while let Some(entry) = Entry::first(rest) {
+        rest = &rest[entry.size()..];
         n += 1;
     }
-    Count {
-        whole: true,
-        calls: n,
-    }
+    if rest.is_empty() { Some(n) } else { None }
 }
 
 // The first entry's call, and its answer in the first place of the room.
-fn step(image: &[u8], entry: &[u8], memory: &mut [u8], room: &mut [u8])
-    requires { (Entry entry.now) × (place_length ≤ length room.old) }
-    ensures { Stepped image.now entry.now memory.old room.old memory.new room.new }
+fn step(image: &[u8], script: &[u8], entry: Entry, memory: &mut [u8], room: &mut [u8])
+    requires { (First script.now entry) × (place_length ≤ length room.old) }
+    ensures { Stepped image.now script.now memory.old room.old memory.new room.new }
 {
-    let kind = wire::u32_at(Order::Little, entry, 0);
-    let n = wire::u32_at(Order::Little, entry, 4) as usize;
-    let end = 8 + n;
-    let report = call(image, memory, kind, &entry[8..end]);
+    let end = entry.size();
+    let report = call(image, memory, entry.kind, &script[8..end]);
     places::put(room, report);
 }
 
@@ -189,10 +207,9 @@ fn replay(image: &[u8], script: &[u8], memory: &mut [u8], answers: &mut [u8])
 {
     let mut rest = script;
     let mut at = 0;
-    while 0 < rest.len() {
-        let k = entry_size(rest);
-        step(image, rest, memory, &mut answers[at..]);
-        rest = &rest[k..];
+    while let Some(entry) = Entry::first(rest) {
+        step(image, rest, entry, memory, &mut answers[at..]);
+        rest = &rest[entry.size()..];
         at += PLACE_LENGTH;
     }
 }
@@ -202,11 +219,10 @@ pub fn run(image: &[u8], script: &[u8], memory: &mut [u8], answers: &mut [u8]) -
     ensures { EndsAs (outcome image.now script.now memory.old answers.old) result memory.new
         answers.new }
 {
-    let count = count_calls(script);
-    if !count.whole {
+    let Some(calls) = count_calls(script) else {
         return 67;
-    }
-    if answers.len() / PLACE_LENGTH < count.calls {
+    };
+    if answers.len() / PLACE_LENGTH < calls {
         return 68;
     }
     if guard::start(memory) != 0 {

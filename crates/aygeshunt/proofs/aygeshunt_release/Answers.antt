@@ -5,20 +5,5 @@ use Rattle.aygeshunt.proofs.aygeshunt_release.Goals as goal
 pub returns-then-place-lt-PLACE_LENGTH : goal.returns-then-place-lt-PLACE_LENGTH
 returns-then-place-lt-PLACE_LENGTH c = search placing
 
-pub release-requires : goal.release-requires
-release-requires c = search placing
-
-pub plain-requires : goal.plain-requires
-plain-requires c = search placing
-
-pub put-requires : goal.put-requires
-put-requires c = search placing
-
-pub shape_of-memory : goal.shape_of-memory
-shape_of-memory c = search placing
-
-pub shape_of-place : goal.shape_of-place
-shape_of-place c = search placing
-
 pub returns : goal.returns
 returns c = search placing

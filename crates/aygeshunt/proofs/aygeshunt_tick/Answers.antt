@@ -5,20 +5,5 @@ use Rattle.aygeshunt.proofs.aygeshunt_tick.Goals as goal
 pub returns-then-place-lt-PLACE_LENGTH : goal.returns-then-place-lt-PLACE_LENGTH
 returns-then-place-lt-PLACE_LENGTH c = search placing
 
-pub tick-requires : goal.tick-requires
-tick-requires c = search placing
-
-pub ticked-requires : goal.ticked-requires
-ticked-requires c = search placing
-
-pub put-requires : goal.put-requires
-put-requires c = search placing
-
-pub shape_of-memory : goal.shape_of-memory
-shape_of-memory c = search placing
-
-pub shape_of-place : goal.shape_of-place
-shape_of-place c = search placing
-
 pub returns : goal.returns
 returns c = search placing

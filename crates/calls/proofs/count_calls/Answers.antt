@@ -1,33 +1,16 @@
--- `calls::count_calls` meets its contract.
-use Rattle.calls.proofs.Entries.{counting}
+use Rattle.std.proofs.Common.{◌≡◌, ◌<◌, length, arith}
+use Rattle.calls.proofs.Entries.{counting_more, counting_broken, counting_ends}
 use Rattle.calls.proofs.count_calls.Goals as goal
 
-pub loop-rest-init : goal.loop-rest-init
-loop-rest-init c = search counting
+pub loop-entry-preserved : goal.loop-entry-preserved
+loop-entry-preserved c = counting_more c.loop-entry.invariant c.in-Some.ensures.entry c.size.ensures
 
-pub entry_size-k-requires : goal.entry_size-k-requires
-entry_size-k-requires c = search counting
+pub returns-then-is_empty : goal.returns-then-is_empty
+returns-then-is_empty c =
+    let h : length c.loop-entry.rest.now ≡ 0 = grind (arith, c.is_empty.ensures, c.if-is_empty.true) in
+    counting_ends c.loop-entry.invariant h
 
-pub returns-then-k-eq0 : goal.returns-then-k-eq0
-returns-then-k-eq0 c = search counting
-
-pub slice_bounds-rest-count : goal.slice_bounds-rest-count
-slice_bounds-rest-count c = search counting
-
-pub slice_bounds-rest-start : goal.slice_bounds-rest-start
-slice_bounds-rest-start c = search counting
-
-pub slice_bounds-rest-end : goal.slice_bounds-rest-end
-slice_bounds-rest-end c = search counting
-
-pub overflow_add-n : goal.overflow_add-n
-overflow_add-n c = search counting
-
-pub loop-rest-smaller : goal.loop-rest-smaller
-loop-rest-smaller c = search counting
-
-pub loop-rest-preserved : goal.loop-rest-preserved
-loop-rest-preserved c = search counting
-
-pub returns : goal.returns
-returns c = search counting
+pub returns-else-is_empty : goal.returns-else-is_empty
+returns-else-is_empty c =
+    let h : 0 < length c.loop-entry.rest.now = grind (arith, c.is_empty.ensures, c.if-is_empty.false) in
+    counting_broken c.loop-entry.invariant c.in_default.ensures.broken h
