@@ -8,7 +8,6 @@ ghost use Rattle.image.specs.Promises.{GoodImage};
 ghost use Rattle.policy_vectors.specs.Short.{Short};
 
 use header::{Header, Place};
-use image::Section;
 use policy::{Decider, Decision, Uid};
 use std::io;
 
@@ -216,10 +215,6 @@ fn letter(d: Decision) -> usize {
     }
 }
 
-fn letter_of(section: Section, ruling: usize) -> usize {
-    letter(decide::decision_of(section, ruling))
-}
-
 fn ask_connect(image: &[u8], out: &mut [u8])
     requires { GoodImage image.now }
 {
@@ -228,7 +223,7 @@ fn ask_connect(image: &[u8], out: &mut [u8])
         byte(
             out,
             (uid - 5) as usize,
-            letter_of(Section::Connect, decide::connect(image, Uid(uid), &gids)),
+            letter(decide::connect(image, Uid(uid), &gids)),
         );
     }
 }
@@ -242,7 +237,7 @@ fn ask_own(image: &[u8], name: &[u8], at: usize, out: &mut [u8])
         byte(
             out,
             at + (uid - 5) as usize,
-            letter_of(Section::Own, decide::own(image, Uid(uid), &gids, name)),
+            letter(decide::own(image, Uid(uid), &gids, name)),
         );
     }
 }
@@ -294,7 +289,7 @@ fn decide_pass(
     direction: u8,
     names: &[u8],
     head: &[u8; 30],
-) -> usize
+) -> Decision
     requires { (at < 4096) × GoodImage image.now }
 {
     let uid = (5 + choose(seed, at + 4) % 3) as u32;
@@ -317,9 +312,9 @@ fn ask_both(
     requires { (at < 4096) × (to < 64) × GoodImage image.now }
 {
     let sends = decide_pass(image, seed, at, is_bare, policy::SEND, names, head);
-    byte(out, to, letter_of(Section::Transaction, sends));
+    byte(out, to, letter(sends));
     let receives = decide_pass(image, seed, at, is_bare, policy::RECEIVE, names, head);
-    byte(out, to + 12, letter_of(Section::Transaction, receives));
+    byte(out, to + 12, letter(receives));
 }
 
 fn ask_pass(image: &[u8], seed: usize, names: &[u8], head: &[u8; 30], out: &mut [u8])
