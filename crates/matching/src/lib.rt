@@ -1,7 +1,7 @@
 // Whether a rule is about a peer, a name or a message.
 #![tactic(auto)]
 
-ghost use Rattle.std.specs.Prelude.{◌≡◌, ◌+◌, ◌*◌, ◌≤◌, ◌<◌, length, drop};
+ghost use Rattle.std.specs.Prelude.{◌≡◌, ◌+◌, ◌*◌, ◌≤◌, ◌<◌, length, drop, get_or};
 ghost use Rattle.wire.specs.Bytes.{same};
 ghost use Rattle.image.specs.Image.{name_span, rule_size};
 ghost use Rattle.image.specs.Rules.{span_at, text_of, rule_from};
@@ -45,7 +45,8 @@ fn subject_fits(context: u8, subject: u32, uid: Uid, gids: &[u32]) -> bool
 // The name of the cell in front is the given one.
 fn cell_holds(cells: &[u8], name: &[u8]) -> bool
     requires { name_width ≤ length cells.now }
-    ensures { result ≡ same (name_of cells.now) name.now }
+    ensures holds { result ≡ same (name_of cells.now) name.now }
+    ensures byte { get_or cells.now 0 0 < 256 }
 {
     let to = 1 + wire::wide(cells[0]) as usize;
     wire::equal(&cells[1..to], name)
@@ -170,12 +171,10 @@ fn name_fits(image: &[u8], at: usize, names: &[u8]) -> bool
     if name.len() == 0 {
         return true;
     }
-    let mut cells = names;
-    while NAME_WIDTH <= cells.len() {
-        if cell_holds(cells, name) {
+    for cell in names.chunks_exact(NAME_WIDTH) {
+        if cell_holds(cell, name) {
             return true;
         }
-        cells = &cells[NAME_WIDTH..];
     }
     false
 }
