@@ -40,13 +40,16 @@ fn last_of<F: Fn(usize) -> bool>(
     None
 }
 
+// The contexts of rules, the highest first: a range in reverse takes up to 2 % more instructions.
+const CONTEXTS: [u8; 4] = [3, 2, 1, 0];
+
 // The last rule of the highest context decides.
 fn search<F: Fn(usize) -> bool>(image: &[u8], section: Section, fits: F) -> Decision
     requires { GoodImage image.now × Testable (F.pre fits) section image.now }
     ensures { (matches : ℕ → Bool) → Tells (F.post fits) section image.now matches
         → result ≡ decision_in section image.now (decides_in section image.now matches) }
 {
-    for context in (0..4).rev() {
+    for context in CONTEXTS {
         if let Some(i) = last_of(image, section, context, &fits) {
             let at = section.offset(image) + section.size() * i;
             return Decision {
