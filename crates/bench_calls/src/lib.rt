@@ -10,7 +10,7 @@ ghost use Rattle.memory.specs.Good.{good};
 ghost use Rattle.matching.specs.Promises.{Within};
 
 use header::{Header, Place, Reading};
-use image::{Outcome, Section};
+use image::Outcome;
 use names::Form;
 use policy::{Decider, Decision, Uid};
 
@@ -144,8 +144,8 @@ pub extern "C" fn bench_decide(
     match image::check(image) {
         Outcome::Good => {
             let header = message(kind, places, head);
-            let ruling = decide::transact(image, direction, Uid(uid), gids, names, head, header);
-            decision_number(decide::decision_of(Section::Transaction, ruling))
+            let uid = Uid(uid);
+            decision_number(decide::transact(image, direction, uid, gids, names, head, header))
         }
         Outcome::Bad => 1,
     }

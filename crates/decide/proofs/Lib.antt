@@ -1,4 +1,1 @@
-mod Rulings
-mod Section
-mod Decisions
-mod Transactions
+mod Down

@@ -4,3 +4,4 @@ pub mod RuleHolds
 pub mod Answers
 mod Prefixes
 pub mod Bench
+mod Every

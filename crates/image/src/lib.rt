@@ -4,7 +4,7 @@
 ghost use Rattle.std.specs.Prelude.{◌≡◌, ◌+◌, ◌*◌, ◌≤◌, ◌<◌, length};
 ghost use Rattle.wire.specs.Words.{word_at};
 ghost use Rattle.wire.specs.declared.Order.TheVariants.{Little};
-ghost use Rattle.image.specs.Image.{sections_at, rule_count_at, subject_word, span_width, name_span, rule_size};
+ghost use Rattle.image.specs.Image.{sections_at, rule_count, rule_offset, rule_count_at, subject_word, span_width, name_span, rule_size};
 ghost use Rattle.image.specs.Rules.{span_at, text_of, rule_from};
 ghost use Rattle.image.specs.Good.{good_counts, good_sections, good_header, good_string, good_or_any, good_owned, good_strings, good_subject, good_matcher};
 ghost use Rattle.image.specs.Good.{good_rule, good_section, outcome_of, without_prefixes};
@@ -76,6 +76,46 @@ pub const CONNECT_SIZE: usize = SUBJECT_WORD + 4;
 pub const OWN_SIZE: usize = NAME_SPAN + SPAN_WIDTH;
 
 pub const TRANSACTION_SIZE: usize = MEMBER_SPAN + SPAN_WIDTH;
+
+impl Section {
+    // How many bytes a rule of the section has.
+    pub fn size(self) -> usize
+        ensures { result ≡ rule_size self }
+    {
+        match self {
+            Section::Connect => CONNECT_SIZE,
+            Section::Own => OWN_SIZE,
+            Section::Transaction => TRANSACTION_SIZE,
+        }
+    }
+
+    // Where the header has the section's count; behind it stands the section's offset.
+    fn count_at(self) -> usize
+        ensures { (result ≡ rule_count_at self) × (result ≤ 20) }
+    {
+        match self {
+            Section::Connect => CONNECT_COUNT,
+            Section::Own => OWN_COUNT,
+            Section::Transaction => TRANSACTION_COUNT,
+        }
+    }
+
+    // How many rules the section has.
+    pub fn count(self, image: &[u8]) -> usize
+        requires { sections_at ≤ length image.now }
+        ensures { result ≡ rule_count self image.now }
+    {
+        word(image, self.count_at())
+    }
+
+    // Where its first rule begins.
+    pub fn offset(self, image: &[u8]) -> usize
+        requires { sections_at ≤ length image.now }
+        ensures { (result ≡ rule_offset self image.now) × (result < 4294967296) }
+    {
+        word(image, self.count_at() + 4)
+    }
+}
 
 // The little-endian number in the four bytes at `at`.
 pub fn word(image: &[u8], at: usize) -> usize
@@ -253,33 +293,14 @@ pub fn text(image: &[u8], strings: usize, at: usize) -> &[u8]
 
 // ---- the image
 
-// Where the header has the section's count; behind it stands the section's offset.
-fn count_at(section: Section) -> usize
-    ensures { (result ≡ rule_count_at section) × (result ≤ 20) }
-{
-    match section {
-        Section::Connect => CONNECT_COUNT,
-        Section::Own => OWN_COUNT,
-        Section::Transaction => TRANSACTION_COUNT,
-    }
-}
-
 // Every rule of the section.
 fn are_rules(section: Section, image: &[u8]) -> bool
     requires { GoodImageHeader image.now }
     ensures { result ≡ good_section section image.now }
 {
     let strings = word(image, STRING_OFFSET);
-    let at = count_at(section);
-    let from = word(image, at + 4);
-    let mut i = word(image, at);
-    while 0 < i {
-        i -= 1;
-        if !is_rule(section, image, strings, from, i) {
-            return false;
-        }
-    }
-    true
+    let from = section.offset(image);
+    (0..section.count(image)).all(|i| is_rule(section, image, strings, from, i))
 }
 
 // The whole image is tested, whatever its caller goes on to read.

@@ -13,7 +13,6 @@ use Rattle.policy.specs.Decisions.{send, receive, transaction_decision}
 use Rattle.policy.specs.declared.Uid.{Uid}
 use Rattle.policy.specs.declared.Decision.{Decision}
 use Rattle.policy.proofs.Cells.{bus_names}
-use Rattle.decide.specs.Rulings.{decision_of}
 use Rattle.rules.specs.Judge.{refusal, judgement_by}
 use Rattle.rules.specs.declared.Judgement.{Judgement}
 use Rattle.rules.specs.declared.Receiver.TheVariants as to
@@ -26,10 +25,10 @@ use Rattle.slots.specs.Slots.{peer_at, Seated, GidsOf}
 use Rattle.slots.specs.declared.Gids.{Gids}
 use Rattle.judge.specs.Steps.{Asks, Says, ToBus, Reaches}
 
-pub ask_is : (image : List ℕ) (direction : ℕ) (uid : Uid) (gids : List ℕ) (count : ℕ) (names : List (List ℕ)) (x : Message) (n : ℕ)
-    → decision_of Transaction n ≡ transaction_decision image direction uid (take (count - 0) (drop 0 gids)) names x
-    → (r : Decision) → r ≡ decision_of Transaction n → r ≡ transaction_decision image direction uid (take count gids) names x
-ask_is image direction uid gids count names x n e r q = q ∙ e ∙ rw (sub-zero count)
+pub ask_is : (image : List ℕ) (direction : ℕ) (uid : Uid) (gids : List ℕ) (count : ℕ) (names : List (List ℕ)) (x : Message) (r : Decision)
+    → r ≡ transaction_decision image direction uid (take (count - 0) (drop 0 gids)) names x
+    → r ≡ transaction_decision image direction uid (take count gids) names x
+ask_is image direction uid gids count names x r e = e ∙ rw (sub-zero count)
 
 pub ruleset asking = (ask_is, rules)
 

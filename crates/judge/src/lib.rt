@@ -15,7 +15,6 @@ ghost use Rattle.judge.specs.Steps.{Asks, Says, ToBus, Reaches, ToAll, Delivers,
 
 use addresses::Destination;
 use header::{CALL, ERROR, Header, RETURN, SIGNAL};
-use image::Section;
 use memory::{FIRST_NAME, GID_ROOM, NAME_WIDTH, SLOT_LENGTH, SLOTS_AT, UID_AT};
 use policy::{Decision, Uid};
 use rules::{Judgement, Receiver, judged_by, refused};
@@ -37,8 +36,7 @@ fn ask(
     ensures { result ≡ transaction_decision image.now direction uid (take count gids) (names_in names.now)
         (message_of head.now header) }
 {
-    let ruling = decide::transact(image, direction, uid, &gids[0..count], names, head, header);
-    decide::decision_of(Section::Transaction, ruling)
+    decide::transact(image, direction, uid, &gids[0..count], names, head, header)
 }
 
 // The same, asked of the peer of slot i.

@@ -1,10 +1,12 @@
 -- A rule's name among those that the other party owns: a law for each way through the search of the cells.
 use mathlib.Core.Path.{◌≡◌, sym, ap, ◌∙◌}
 use mathlib.Core.Bool.{Bool, true, false}
-use mathlib.Core.List.{List}
+use mathlib.Core.List.{List, [], ◌∷◌, ◌++◌}
 use Prim.Native.Nat.{ℕ, ◌+◌, ◌-◌, ◌≤◌, ◌<◌}
-use lib.ListN.{length, take, drop}
-use borrow.Author.Rules.{rules}
+use lib.ListN.{length, take, drop, get_or, length-append}
+use native.Mathlib.Omega.{arith}
+use Rattle.std.proofs.Math.Seq.{drop-append_seam, take-length}
+use Rattle.std.proofs.lemmas.List.{take-append-le}
 use borrow.Author.Tests.{ne_eqb}
 use Rattle.wire.specs.Bytes.{same}
 use Rattle.image.specs.Image.{name_span}
@@ -33,15 +35,31 @@ module _ {image : List ℕ} (at : ℕ) (names : List ℕ) (c : Cited image (at +
     unfolding name_fits
     seeking_begins n = record { among = among_begins; fits = rw (ne_eqb (rule_from image at).name.len 0 (λ k. n (len ∙ k)), ← is) }
 
+-- the cell in front of others
+front_is : (cell behind : List ℕ) → length cell ≡ name_width → get_or cell 0 0 < 256 → name_of (cell ++ behind) ≡ name_of cell
+front_is [] behind l b = absurd (omega (arith, l))
+front_is (x ∷ xs) behind l b = take-append-le x xs behind (omega (arith, l, b))
+
+behind_is : (cell behind : List ℕ) → length cell ≡ name_width
+    → take (length (cell ++ behind) - name_width) (drop name_width (cell ++ behind)) ≡ behind
+behind_is cell behind l =
+    let n : length (cell ++ behind) - name_width ≡ length behind = omega (arith, length-append cell behind, l) in
+    rw (n, ← l, drop-append_seam cell behind) (take-length behind)
+
 module _ {image : List ℕ} {at : ℕ} {names name cells : List ℕ} (u : Seeking image at names name cells) where
   pub seeking_ends : length cells < name_width → false ≡ name_fits image (rule_from image at) (names_in names)
   seeking_ends h = sym (u.fits ∙ among_ends u.among h)
 
-  module _ (h : name_width ≤ length cells) {b : Bool} (e : b ≡ same (name_of cells) name) where
+  module _ (cell behind : List ℕ) (r : cells ≡ cell ++ behind) (l : length cell ≡ name_width) (f : get_or cell 0 0 < 256) {b : Bool}
+      (e : b ≡ same (name_of cell) name) where
+    room : name_width ≤ length cells
+    room = omega (arith, ap length r, length-append cell behind, l)
+
+    front : b ≡ same (name_of cells) name
+    front = rw (r, front_is cell behind l f) e
+
     pub seeking_here : b ≡ true → true ≡ name_fits image (rule_from image at) (names_in names)
-    seeking_here t = sym (u.fits ∙ among_here u.among h e t)
+    seeking_here t = sym (u.fits ∙ among_here u.among room front t)
 
-    pub seeking_more : b ≡ false → Seeking image at names name (take (length cells - name_width) (drop name_width cells))
-    seeking_more t = record { among = among_more u.among h e t; fits = u.fits }
-
-pub ruleset seeking = (name_any, seeking_begins, seeking_ends, seeking_here, seeking_more, rules)
+    pub seeking_more : b ≡ false → Seeking image at names name behind
+    seeking_more t = record { among = rw (r, behind_is cell behind l) at (among_more u.among room front t); fits = u.fits }

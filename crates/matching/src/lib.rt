@@ -1,43 +1,30 @@
 // Whether a rule is about a peer, a name or a message.
 #![tactic(auto)]
 
-ghost use Rattle.std.specs.Prelude.{◌≡◌, ◌+◌, ◌*◌, ◌≤◌, ◌<◌, length, drop};
+ghost use Rattle.std.specs.Prelude.{◌≡◌, ◌+◌, ◌*◌, ◌≤◌, ◌<◌, length, drop, get_or};
 ghost use Rattle.wire.specs.Bytes.{same};
 ghost use Rattle.image.specs.Image.{name_span, rule_size};
 ghost use Rattle.image.specs.Rules.{span_at, text_of, rule_from};
 ghost use Rattle.image.specs.declared.Section.TheVariants.{Connect};
 ghost use Rattle.policy.specs.Names.{name_width, name_of, names_in};
-ghost use Rattle.policy.specs.Subjects.{same_user, in_groups, subject_fits};
-ghost use Rattle.policy.specs.Matching.{connect_fits, owned_fits, own_fits, part_fits, field_of, message_of, interface_fits, parts_fit, name_fits, transaction_fits};
+ghost use Rattle.policy.specs.Subjects.{in_groups, subject_fits};
+ghost use Rattle.policy.specs.Matching.{connect_fits, owned_fits, own_fits, part_fits, field_of, message_of, interface_fits, parts_fit, name_fits, transaction_fits, transaction_matches};
 ghost use Rattle.matching.specs.Promises.{Cited, OwnAt, PartAsked, InterfaceAsked, RuleAsked};
 
 use header::{Header, Place};
 use image::{
-    INTERFACE_SPAN, LEN_OFFSET, MATCHER_BYTE, MEMBER_SPAN, NAME_SPAN, PATH_SPAN, STRING_OFFSET,
-    SUBJECT_WORD, TYPE_BYTE, VERDICT_BYTE, word,
+    DIRECTION_BYTE, INTERFACE_SPAN, LEN_OFFSET, MATCHER_BYTE, MEMBER_SPAN, NAME_SPAN, PATH_SPAN,
+    STRING_OFFSET, SUBJECT_WORD, TYPE_BYTE, VERDICT_BYTE, word,
 };
 use policy::{Gid, NAME_WIDTH, Uid};
 
 // ---- subjects
 
-fn same_user(a: Uid, b: Uid) -> bool
-    ensures { result ≡ same_user a b }
-{
-    a.0 == b.0
-}
-
 // The group is one of the gids.
 fn in_groups(gids: &[u32], group: Gid) -> bool
     ensures { result ≡ in_groups gids.now group }
 {
-    let mut i = 0;
-    while i < gids.len() {
-        if gids[i] == group.0 {
-            return true;
-        }
-        i += 1;
-    }
-    false
+    gids.contains(&group.0)
 }
 
 // The subject of a rule of the context fits the peer.
@@ -48,7 +35,7 @@ fn subject_fits(context: u8, subject: u32, uid: Uid, gids: &[u32]) -> bool
         return in_groups(gids, Gid(subject));
     }
     if context == 2 {
-        return same_user(uid, Uid(subject));
+        return uid == Uid(subject);
     }
     true
 }
@@ -58,7 +45,8 @@ fn subject_fits(context: u8, subject: u32, uid: Uid, gids: &[u32]) -> bool
 // The name of the cell in front is the given one.
 fn cell_holds(cells: &[u8], name: &[u8]) -> bool
     requires { name_width ≤ length cells.now }
-    ensures { result ≡ same (name_of cells.now) name.now }
+    ensures holds { result ≡ same (name_of cells.now) name.now }
+    ensures byte { get_or cells.now 0 0 < 256 }
 {
     let to = 1 + wire::wide(cells[0]) as usize;
     wire::equal(&cells[1..to], name)
@@ -84,7 +72,7 @@ pub fn connect_fits(image: &[u8], at: usize, uid: Uid, gids: &[u32]) -> bool
     }
     let id = wire::u32_at(wire::Order::Little, image, at + SUBJECT_WORD);
     if matcher == 1 {
-        return same_user(uid, Uid(id));
+        return uid == Uid(id);
     }
     in_groups(gids, Gid(id))
 }
@@ -145,9 +133,9 @@ fn interface_fits(image: &[u8], at: usize, head: &[u8], place: Place) -> bool
     part_fits(image, at + INTERFACE_SPAN, head, place)
 }
 
-fn parts_fit(image: &[u8], at: usize, head: &[u8], header: Header) -> bool
-    requires { RuleAsked image.now at head.now header }
-    ensures { result ≡ parts_fit image.now (rule_from image.now at) (message_of head.now header) }
+fn parts_fit(image: &[u8], at: usize, head: &[u8], header: &Header) -> bool
+    requires { RuleAsked image.now at head.now header.now }
+    ensures { result ≡ parts_fit image.now (rule_from image.now at) (message_of head.now header.now) }
 {
     if !part_fits(image, at + PATH_SPAN, head, header.path) {
         return false;
@@ -159,16 +147,9 @@ fn parts_fit(image: &[u8], at: usize, head: &[u8], header: Header) -> bool
 }
 
 // Everything of the rule but its direction and its name.
-pub fn rule_fits(
-    image: &[u8],
-    at: usize,
-    uid: Uid,
-    gids: &[u32],
-    head: &[u8],
-    header: Header,
-) -> bool
-    requires { RuleAsked image.now at head.now header }
-    ensures { result ≡ transaction_fits image.now (rule_from image.now at) uid gids.now (message_of head.now header) }
+fn rule_fits(image: &[u8], at: usize, uid: Uid, gids: &[u32], head: &[u8], header: &Header) -> bool
+    requires { RuleAsked image.now at head.now header.now }
+    ensures { result ≡ transaction_fits image.now (rule_from image.now at) uid gids.now (message_of head.now header.now) }
 {
     let of = image[at + TYPE_BYTE];
     if (of != 0) & (of != header.kind) {
@@ -182,7 +163,7 @@ pub fn rule_fits(
 }
 
 // The name of the rule at `at` is any, or one of the names in the cells: each is compared, whichever was addressed (rule 6.6).
-pub fn name_fits(image: &[u8], at: usize, names: &[u8]) -> bool
+fn name_fits(image: &[u8], at: usize, names: &[u8]) -> bool
     requires { Cited image.now (at + name_span) }
     ensures { result ≡ name_fits image.now (rule_from image.now at) (names_in names.now) }
 {
@@ -190,12 +171,29 @@ pub fn name_fits(image: &[u8], at: usize, names: &[u8]) -> bool
     if name.len() == 0 {
         return true;
     }
-    let mut cells = names;
-    while NAME_WIDTH <= cells.len() {
-        if cell_holds(cells, name) {
+    for cell in names.chunks_exact(NAME_WIDTH) {
+        if cell_holds(cell, name) {
             return true;
         }
-        cells = &cells[NAME_WIDTH..];
     }
     false
+}
+
+pub fn transaction_matches(
+    image: &[u8],
+    at: usize,
+    direction: u8,
+    uid: Uid,
+    gids: &[u32],
+    names: &[u8],
+    head: &[u8],
+    header: &Header,
+) -> bool
+    requires { RuleAsked image.now at head.now header.now }
+    ensures { result ≡ transaction_matches image.now (rule_from image.now at) direction uid gids.now (names_in names.now)
+        (message_of head.now header.now) }
+{
+    image[at + DIRECTION_BYTE] == direction
+        && rule_fits(image, at, uid, gids, head, header)
+        && name_fits(image, at, names)
 }

@@ -12,7 +12,6 @@ use Rattle.policy.specs.Names.{name_limit, cell_of, owns, name_width}
 use Rattle.policy.specs.Decisions.{own_decision}
 use Rattle.policy.specs.declared.Uid.{Uid}
 use Rattle.policy.specs.declared.Decision.{Decision}
-use Rattle.decide.specs.Rulings.{decision_of}
 use Rattle.rules.specs.State.{is_peer}
 use Rattle.rules.specs.Addresses.{ownable}
 use Rattle.rules.specs.Calls.{is_owner, no_own, own}
@@ -36,10 +35,9 @@ use Rattle.slots.proofs.Zeros.{zero_rest}
 
 -- ---- what the policy is asked
 
-pub own_front : (image : List ℕ) (uid : Uid) (gids : List ℕ) (count : ℕ) (name : List ℕ) (n : ℕ)
-    → decision_of Own n ≡ own_decision image uid (take (count - 0) gids) name
-    → (r : Decision) → r ≡ decision_of Own n → r ≡ own_decision image uid (take count gids) name
-own_front image uid gids count name n e r q = q ∙ e ∙ rw (sub-zero count)
+pub own_front : (image : List ℕ) (uid : Uid) (gids : List ℕ) (count : ℕ) (name : List ℕ) (r : Decision)
+    → r ≡ own_decision image uid (take (count - 0) gids) name → r ≡ own_decision image uid (take count gids) name
+own_front image uid gids count name r e = e ∙ rw (sub-zero count)
 
 pub own_is : (image m name : List ℕ) (i u : ℕ) (g : Gids) (r : Decision) → GidsOf m i g → u ≡ word_at Little m (slot_start i + uid_at)
     → r ≡ own_decision image (record { 0 = u }) (take g.count g.list) name

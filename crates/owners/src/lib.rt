@@ -14,7 +14,6 @@ ghost use Rattle.slots.specs.Slots.{peer_at, Seated};
 ghost use Rattle.owners.specs.Writes.{name_bytes, Naming};
 ghost use Rattle.owners.specs.Steps.{granted, claimed, obtained, given_up};
 
-use image::Section;
 use memory::{
     FIRST_NAME, GID_ROOM, NAME_WIDTH, NAMES_AT, NAMES_LENGTH, SLOT_LENGTH, SLOTS_AT, UID_AT,
 };
@@ -28,8 +27,7 @@ fn decide_as(image: &[u8], uid: Uid, gids: [u32; GID_ROOM], count: usize, name: 
     requires { (GoodImage image.now) × (count ≤ gid_room) }
     ensures { result ≡ own_decision image.now uid (take count gids) name.now }
 {
-    let ruling = decide::own(image, uid, &gids[0..count], name);
-    decide::decision_of(Section::Own, ruling)
+    decide::own(image, uid, &gids[0..count], name)
 }
 
 // What policy decides about the name, for the peer of slot i.

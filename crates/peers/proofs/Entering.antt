@@ -6,7 +6,6 @@ use Rattle.wire.specs.Words.{word_bytes}
 use Rattle.image.specs.declared.Section.TheVariants.{Connect}
 use Rattle.policy.specs.Decisions.{connect_decision}
 use Rattle.policy.specs.declared.Decision.{Decision}
-use Rattle.decide.specs.Rulings.{decision_of}
 use Rattle.stream.specs.Tail.{tails}
 use Rattle.rules.specs.State.{peer, is_free}
 use Rattle.rules.specs.Calls.{newcomer, connect, no_connect, connected_by}
@@ -90,11 +89,7 @@ module _ (image m : List ℕ) (f : Octets m) (g : Held m) (uid : ℕ) (gids : Li
   unfolding connect
   connect_many h r d = did_stay m f g r (connect tails image (state_of m) uid gids) (rw (lt-ltb 16 (length gids) h, d))
 
-  module _ (h : length gids ≤ gid_room) (n : ℕ) (o : decision_of Connect n ≡ connect_decision image (record { 0 = uid }) gids) (b : Decision)
-      (q : b ≡ decision_of Connect n) where
-    e : b ≡ connect_decision image (record { 0 = uid }) gids
-    e = q ∙ o
-
+  module _ (h : length gids ≤ gid_room) (b : Decision) (e : b ≡ connect_decision image (record { 0 = uid }) gids) where
     pub connect_denied : not b.allow ≡ true → (k r : Connected) → k ≡ no_connect 36 → r ≡ connected_by b.rule k
         → Did (stored (connect tails image (state_of m) uid gids)) r m
     unfolding connect

@@ -14,7 +14,6 @@ ghost use Rattle.peers.specs.Writes.{new_bytes};
 ghost use Rattle.peers.specs.Steps.{Free, admitted, entered, slots_without};
 
 use endings::Ending;
-use image::Section;
 use memory::{FIRST_GID, GIDS_AT, SLOT_LENGTH, SLOTS_AT, TAKEN_AT, UID_AT};
 use policy::Uid;
 use rules::{Connected, Gone, connected_by, no_connect, no_gone};
@@ -73,8 +72,7 @@ pub fn connect(image: &[u8], memory: &mut [u8], uid: u32, gids: &[u32]) -> Conne
     if 16 < gids.len() {
         return no_connect(37);
     }
-    let ruling = decide::connect(image, Uid(uid), gids);
-    let decision = decide::decision_of(Section::Connect, ruling);
+    let decision = decide::connect(image, Uid(uid), gids);
     let rule = decision.rule;
     if !decision.allow {
         return connected_by(rule, no_connect(36));

@@ -8,10 +8,10 @@ ghost use Rattle.policy.specs.Names.{cell_of, bus_name};
 use image::Section;
 
 // A user and a group are types of their own: a subject test takes the one or the other.
-#[derive(Clone, Copy)]
+#[derive(Clone, Copy, PartialEq)]
 pub struct Uid(pub u32);
 
-#[derive(Clone, Copy)]
+#[derive(Clone, Copy, PartialEq)]
 pub struct Gid(pub u32);
 
 // Who decides: the rule at a position of a section, from 0, or none, since none matches.

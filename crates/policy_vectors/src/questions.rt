@@ -6,8 +6,8 @@ ghost use Rattle.policy_vectors.specs.Short.{Short};
 use crate::choices::Choices;
 use crate::texts::{F, FOO_BAR, HEAD, I_F, M, ORG_FOO, ORG_FOO_BAR, ORG_FOOBAR, P, P_Q, Text};
 use header::{CALL, Header, Place, SIGNAL};
-use image::{Outcome, Section};
-use policy::{Decider, RECEIVE, SEND, Uid};
+use image::Outcome;
+use policy::{Decider, Decision, RECEIVE, SEND, Uid};
 use std::alloc::AllocError;
 
 // How a message is asked about.
@@ -49,16 +49,15 @@ impl<'a> Questions<'a> {
 
     fn ask_connect(self, letters: &mut String) -> Result<(), AllocError> {
         for uid in 5..8 {
-            let ruling = decide::connect(self.image, Uid(uid), &[6, 8]);
-            letters.push(letter(Section::Connect, ruling))?;
+            letters.push(letter(decide::connect(self.image, Uid(uid), &[6, 8])))?;
         }
         Ok(())
     }
 
     fn ask_own(self, name: Text, letters: &mut String) -> Result<(), AllocError> {
         for uid in 5..8 {
-            let ruling = decide::own(self.image, Uid(uid), &[6, 8], name.bytes());
-            letters.push(letter(Section::Own, ruling))?;
+            let decision = decide::own(self.image, Uid(uid), &[6, 8], name.bytes());
+            letters.push(letter(decision))?;
         }
         Ok(())
     }
@@ -79,10 +78,10 @@ impl<'a> Questions<'a> {
             let uid = Uid(choices.pick(4, [5, 6, 7]));
             let gids = [choices.pick(5, [5, 6, 7]), 8];
             let header = message(choices, form);
-            let ruling = decide::transact(
+            let decision = decide::transact(
                 self.image, direction, uid, &gids, self.names, &HEAD, header,
             );
-            letters.push(letter(Section::Transaction, ruling))?;
+            letters.push(letter(decision))?;
         }
         Ok(())
     }
@@ -114,9 +113,8 @@ fn message(choices: Choices, form: Form) -> Header
     }
 }
 
-// The letter of the decision that a search has told in one number.
-fn letter(section: Section, ruling: usize) -> char {
-    let decision = decide::decision_of(section, ruling);
+// The letter of a decision: a capital one where it allows.
+fn letter(decision: Decision) -> char {
     let first = if decision.allow { b'A' } else { b'a' };
     match decision.rule {
         Decider::Nobody => '.',

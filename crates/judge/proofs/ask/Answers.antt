@@ -11,11 +11,8 @@ slice_bounds-transact-start c = search asking
 pub slice_bounds-transact-end : goal.slice_bounds-transact-end
 slice_bounds-transact-end c = search asking
 
-pub transact-ruling-requires : goal.transact-ruling-requires
-transact-ruling-requires c = search asking
-
-pub decision_of-requires : goal.decision_of-requires
-decision_of-requires c = search asking
+pub transact-requires : goal.transact-requires
+transact-requires c = search asking
 
 pub returns : goal.returns
 returns c = search asking

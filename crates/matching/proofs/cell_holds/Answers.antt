@@ -26,5 +26,5 @@ slice_bounds-equal-end c = search cuts
 pub equal-requires : goal.equal-requires
 equal-requires c = search cuts
 
-pub returns : goal.returns
-returns c = search cuts
+pub returns-clause-holds : goal.returns-clause-holds
+returns-clause-holds c = search cuts

@@ -17,9 +17,6 @@ overflow_add-at c = search fits
 pub u32_at-id-requires : goal.u32_at-id-requires
 u32_at-id-requires c = search fits
 
-pub same_user-requires : goal.same_user-requires
-same_user-requires c = search fits
-
 pub returns-then-matcher-eq1 : goal.returns-then-matcher-eq1
 returns-then-matcher-eq1 c = search fits
 

@@ -8,9 +8,6 @@ in_groups-requires c = search subjects
 pub returns-then-context-eq1 : goal.returns-then-context-eq1
 returns-then-context-eq1 c = search subjects
 
-pub same_user-requires : goal.same_user-requires
-same_user-requires c = search subjects
-
 pub returns-then-context-eq2 : goal.returns-then-context-eq2
 returns-then-context-eq2 c = search subjects
 

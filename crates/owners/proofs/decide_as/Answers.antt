@@ -11,11 +11,8 @@ slice_bounds-own-start c = search asking
 pub slice_bounds-own-end : goal.slice_bounds-own-end
 slice_bounds-own-end c = search asking
 
-pub own-ruling-requires : goal.own-ruling-requires
-own-ruling-requires c = search asking
-
-pub decision_of-requires : goal.decision_of-requires
-decision_of-requires c = search asking
+pub own-requires : goal.own-requires
+own-requires c = search asking
 
 pub returns : goal.returns
 returns c = search asking

@@ -8,11 +8,8 @@ no_connect-requires c = search connecting
 pub returns-then-gids-gt16 : goal.returns-then-gids-gt16
 returns-then-gids-gt16 c = search connecting
 
-pub connect-ruling-requires : goal.connect-ruling-requires
-connect-ruling-requires c = search connecting
-
-pub decision_of-decision-requires : goal.decision_of-decision-requires
-decision_of-decision-requires c = search connecting
+pub connect-decision-requires : goal.connect-decision-requires
+connect-decision-requires c = search connecting
 
 pub no_connect-requires-then-not-decision : goal.no_connect-requires-then-not-decision
 no_connect-requires-then-not-decision c = search connecting
