@@ -1,12 +1,5 @@
 -- How far a batch has come: the calls made, their reports in the room, and what is still to come of the series.
-use mathlib.Core.Path.{◌≡◌, refl, sym, ap, ◌∙◌}
-use mathlib.Core.Bool.{Bool, true, false, not, ◌&&◌}
-use mathlib.Core.List.{List, [], ◌∷◌, ◌++◌, append_assoc, append-nil}
-use Prim.Native.Nat.{ℕ, suc, ◌+◌, ◌-◌, ◌*◌, ◌/◌, ◌≤◌, ◌<◌}
-use native.Mathlib.Omega.{arith}
-use lib.Dec.{ltb}
-use lib.ListN.{length, take, drop, length-append, length-drop}
-use borrow.Author.Rules.{rules}
+use Rattle.std.proofs.Common.{◌≡◌, refl, sym, ap, ◌∙◌, Bool, true, false, not, ◌&&◌, List, [], ◌∷◌, ◌++◌, append_assoc, append-nil, ℕ, suc, ◌+◌, ◌-◌, ◌*◌, ◌/◌, ◌≤◌, ◌<◌, arith, ltb, length, take, drop, length-append, length-drop, rules}
 use borrow.Author.Tests.{not-true, not-false}
 use Rattle.wire.specs.Bytes.{Below}
 use Rattle.wire.proofs.Words.{Octets, rest_at}
@@ -160,9 +153,13 @@ module _ {image : List ℕ} {n : ℕ} {m₀ p x : List ℕ} {limit : ℕ} {m y r
   going_left = omega (arith, g.came.took)
 
   pub going_ends : limit ≤ written
-      → Batched (stored (series (pieces image n) (places_in x) (state_of m₀) p)) x (record { written = written; taken = length p - length rest }) m y
+      → Batched (stored (series (pieces image n) (places_in x) (state_of m₀) p)) x (record { written = limit; taken = length p - length rest }) m y
   unfolding series
-  going_ends h = let s : written ≤ limit = g.came.some in let e : limit - written ≡ 0 = omega arith in came_ends (rw e at g.came)
+  going_ends h =
+      let s : written ≤ limit = g.came.some in
+      let e : limit - written ≡ 0 = omega arith in
+      let w : written ≡ limit = omega arith in
+      rw w at (came_ends (rw e at g.came))
 
   module _ (h : written < limit) where
     going_room : place_length * written + place_length ≤ length y

@@ -1,9 +1,5 @@
 -- One call of a batch, and a refusal of all of it: the report is in the room's first place.
-use mathlib.Core.Path.{◌≡◌, refl, sym, ap, ◌∙◌}
-use mathlib.Core.List.{List, ◌++◌}
-use Prim.Native.Nat.{ℕ}
-use lib.ListN.{drop}
-use borrow.Author.Rules.{rules}
+use Rattle.std.proofs.Common.{◌≡◌, refl, sym, ap, ◌∙◌, List, ◌++◌, ℕ, drop, rules}
 use Rattle.stream.specs.Tail.{tails}
 use Rattle.rules.specs.Calls.{no_piece}
 use Rattle.rules.specs.Places.{taken_words}

@@ -10,7 +10,7 @@ ghost use Rattle.memory.specs.Calls.{stored};
 ghost use Rattle.places.specs.Places.{place_length, places_in, Batched};
 ghost use Rattle.batches.specs.Steps.{pieces, Stepped, Refused};
 
-use places::PLACE_LENGTH;
+use places::{PLACE_LENGTH, Report};
 use rules::{Batch, Taken, no_piece};
 
 // One call of a batch, with its report in the first place of the room.
@@ -19,7 +19,7 @@ fn step(image: &[u8], memory: &mut [u8], peer: u32, bytes: &[u8], room: &mut [u8
     ensures { Stepped image.now peer memory.old bytes.now room.old result memory.new room.new }
 {
     let taken = pieces::piece(image, memory, peer, bytes);
-    places::put(room, places::taken(taken));
+    places::put(room, Report::from(taken));
     taken
 }
 
@@ -31,24 +31,20 @@ pub fn batch(image: &[u8], memory: &mut [u8], peer: u32, bytes: &[u8], room: &mu
 {
     let limit = room.len() / PLACE_LENGTH;
     let mut rest = bytes;
-    let mut written = 0;
-    while written < limit {
+    for written in 0..limit {
         let at = PLACE_LENGTH * written;
         let t = step(image, memory, peer, rest, &mut room[at..]);
-        let judgement = t.judgement;
-        let taken = t.taken;
-        let is_on = rules::goes_on(judgement.answer, taken, rest.len());
-        rest = &rest[taken..];
-        written += 1;
+        let is_on = rules::goes_on(t.judgement.answer, t.taken, rest.len());
+        rest = &rest[t.taken..];
         if !is_on {
             return Batch {
-                written,
+                written: written + 1,
                 taken: bytes.len() - rest.len(),
             };
         }
     }
     Batch {
-        written,
+        written: limit,
         taken: bytes.len() - rest.len(),
     }
 }
@@ -58,7 +54,7 @@ pub fn refused(answer: u8, room: &mut [u8]) -> Batch
     requires { place_length ≤ length room.old }
     ensures { Refused answer room.old result room.new }
 {
-    places::put(room, places::taken(no_piece(answer)));
+    places::put(room, Report::from(no_piece(answer)));
     Batch {
         written: 1,
         taken: 0,

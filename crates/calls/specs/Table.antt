@@ -1,12 +1,11 @@
 -- Worked scripts, as a table: the calls that stand in bytes, and the seven words of an answer (rules 8.11 and 12.3).
-use Rattle.std.specs.Prelude.{List, [], ◌∷◌, ◌++◌, ℕ, length, take}
+use Rattle.std.specs.Prelude.{List, [], ◌∷◌, ◌++◌, ℕ, length, take, Some, None}
 use Rattle.std.proofs.Math.Option.{Option, none, some}
 use Rattle.wire.specs.Bytes.{byte}
 use Rattle.wire.specs.Words.{word_bytes, long_bytes}
 use Rattle.image.specs.declared.Section.TheVariants as of
 use Rattle.policy.specs.declared.Decider.TheVariants.{Nobody, Rule}
 use Rattle.rules.specs.declared.Receiver.TheVariants as to
-use Rattle.rules.specs.declared.Shown.TheVariants.{Nothing, By}
 use Rattle.book.specs.Lists.{Call, starts, connects, claims, releases, offers, leaves, ticks, Answer, plain, connected, owned, taken, gone, ticked}
 use Rattle.calls.specs.Script.{decode}
 use Rattle.calls.specs.Places.{words_of}
@@ -67,12 +66,12 @@ script_table =
     ∷ (script (entry_of 7 (word_bytes 9)), 67 ∷ [])
     ∷ (script (take 11 (entry_of 5 (word_bytes 9))), 67 ∷ [])  -- an argument is whole
     ∷ (report (plain 35), 35 ∷ 0 ∷ 0 ∷ 0 ∷ 0 ∷ 0 ∷ 0 ∷ [])
-    ∷ (report (connected (record { answer = 0; number = 3; slot = 2; rule = By (Rule of.Connect 4) })), 0 ∷ 0 ∷ 0 ∷ 3 ∷ 2 ∷ 1 ∷ 4 ∷ [])
-    ∷ (report (connected (record { answer = 36; number = 0; slot = 0; rule = By Nobody })), 36 ∷ 0 ∷ 0 ∷ 0 ∷ 0 ∷ 2 ∷ 0 ∷ [])
-    ∷ (report (owned (record { answer = 34; rule = By (Rule of.Own 7) })), 34 ∷ 0 ∷ 0 ∷ 0 ∷ 0 ∷ 1 ∷ 7 ∷ [])
-    ∷ (report (taken (record { judgement = record { answer = 0; receiver = to.Slots 5 2; rule = Nothing }; taken = 48 })), 0 ∷ 48 ∷ 3 ∷ 5 ∷ 2 ∷ 0 ∷ 0 ∷ [])
+    ∷ (report (connected (record { answer = 0; number = 3; slot = 2; rule = Some (Rule of.Connect 4) })), 0 ∷ 0 ∷ 0 ∷ 3 ∷ 2 ∷ 1 ∷ 4 ∷ [])
+    ∷ (report (connected (record { answer = 36; number = 0; slot = 0; rule = Some Nobody })), 36 ∷ 0 ∷ 0 ∷ 0 ∷ 0 ∷ 2 ∷ 0 ∷ [])
+    ∷ (report (owned (record { answer = 34; rule = Some (Rule of.Own 7) })), 34 ∷ 0 ∷ 0 ∷ 0 ∷ 0 ∷ 1 ∷ 7 ∷ [])
+    ∷ (report (taken (record { judgement = record { answer = 0; receiver = to.Slots 5 2; rule = None }; taken = 48 })), 0 ∷ 48 ∷ 3 ∷ 5 ∷ 2 ∷ 0 ∷ 0 ∷ [])
     ∷ (
-      report (taken (record { judgement = record { answer = 23; receiver = to.Nobody; rule = By (Rule of.Transaction 9) }; taken = 64 })),
+      report (taken (record { judgement = record { answer = 23; receiver = to.Nobody; rule = Some (Rule of.Transaction 9) }; taken = 64 })),
       23 ∷ 64 ∷ 0 ∷ 0 ∷ 0 ∷ 1 ∷ 9 ∷ [],
     )
     ∷ (report (gone (record { answer = 0; bytes = 10 })), 0 ∷ 0 ∷ 0 ∷ 10 ∷ 0 ∷ 0 ∷ 0 ∷ [])

@@ -2,9 +2,9 @@
 #![tactic(auto)]
 
 ghost use Rattle.std.specs.Prelude.{◌≡◌};
-ghost use Rattle.image.specs.Good.{image_answer};
 ghost use Rattle.memory.specs.Calls.{start_on, connect_on, own_on, release_on, piece_on, batch_on, disconnect_on, tick_on, Did};
 ghost use Rattle.places.specs.Places.{places_in, Batched};
+ghost use Rattle.guard.specs.Tested.{memory_test, call_test};
 
 use image::Outcome;
 use memory::MEMORY_LENGTH;
@@ -13,13 +13,24 @@ use rules::{
     Batch, Connected, Gone, Owned, Taken, Ticked, no_connect, no_gone, no_own, no_piece, no_tick,
 };
 
-// What a call that takes this image answers before all else (rules 5.9 and 8.1); 0 where it goes on.
-fn image_answer(image: &[u8]) -> u8
-    ensures { result ≡ image_answer image.now }
+// Memory that a call goes on with; other memory is answered 51 (rules 8.1 and 10.6).
+fn test_memory(memory: &[u8]) -> Result<(), u8>
+    ensures { result ≡ memory_test memory.now }
+{
+    if audit::is_good(memory) {
+        Ok(())
+    } else {
+        Err(51)
+    }
+}
+
+// The image and the memory that a call goes on with: the image is tested first (rules 5.9 and 8.1).
+fn test(image: &[u8], memory: &[u8]) -> Result<(), u8>
+    ensures { result ≡ call_test image.now memory.now }
 {
     match image::check(image) {
-        Outcome::Good => 0,
-        Outcome::Bad => 50,
+        Outcome::Good => test_memory(memory),
+        Outcome::Bad => Err(50),
     }
 }
 
@@ -30,7 +41,7 @@ pub fn start(memory: &mut [u8]) -> u8
     if memory.len() != MEMORY_LENGTH {
         return 51;
     }
-    wire::wipe(memory);
+    memory.fill(0);
     0
 }
 
@@ -38,52 +49,40 @@ pub fn start(memory: &mut [u8]) -> u8
 pub fn connect(image: &[u8], memory: &mut [u8], uid: u32, gids: &[u32]) -> Connected
     ensures { Did (connect_on image.now memory.old uid gids.now) result memory.new }
 {
-    let answer = image_answer(image);
-    if answer != 0 {
-        return no_connect(answer);
+    match test(image, memory) {
+        Ok(()) => peers::connect(image, memory, uid, gids),
+        Err(answer) => no_connect(answer),
     }
-    if !audit::is_good(memory) {
-        return no_connect(51);
-    }
-    peers::connect(image, memory, uid, gids)
 }
 
 // A peer asks to own a well-known name (rule 8.4); who decided is shown (rule 8.10).
 pub fn own(image: &[u8], memory: &mut [u8], peer: u32, name: &[u8]) -> Owned
     ensures { Did (own_on image.now memory.old peer name.now) result memory.new }
 {
-    let answer = image_answer(image);
-    if answer != 0 {
-        return no_own(answer);
+    match test(image, memory) {
+        Ok(()) => owners::own(image, memory, peer, name),
+        Err(answer) => no_own(answer),
     }
-    if !audit::is_good(memory) {
-        return no_own(51);
-    }
-    owners::own(image, memory, peer, name)
 }
 
 // A peer gives a name up (rule 8.5).
 pub fn release(memory: &mut [u8], peer: u32, name: &[u8]) -> u8
     ensures { Did (release_on memory.old peer name.now) result memory.new }
 {
-    if !audit::is_good(memory) {
-        return 51;
+    match test_memory(memory) {
+        Ok(()) => owners::release(memory, peer, name),
+        Err(answer) => answer,
     }
-    owners::release(memory, peer, name)
 }
 
 // A piece of a peer's stream: at most one message of it is taken and judged (rules 8.6 and 9.2).
 pub fn piece(image: &[u8], memory: &mut [u8], peer: u32, bytes: &[u8]) -> Taken
     ensures { Did (piece_on image.now memory.old peer bytes.now) result memory.new }
 {
-    let answer = image_answer(image);
-    if answer != 0 {
-        return no_piece(answer);
+    match test(image, memory) {
+        Ok(()) => pieces::piece(image, memory, peer, bytes),
+        Err(answer) => no_piece(answer),
     }
-    if !audit::is_good(memory) {
-        return no_piece(51);
-    }
-    pieces::piece(image, memory, peer, bytes)
 }
 
 // A piece of a peer's stream, offered message after message until it or the places of a lent room are used up (rule 9.6).
@@ -97,32 +96,28 @@ pub fn batch(image: &[u8], memory: &mut [u8], peer: u32, bytes: &[u8], room: &mu
             taken: 0,
         };
     }
-    let answer = image_answer(image);
-    if answer != 0 {
-        return batches::refused(answer, room);
+    match test(image, memory) {
+        Ok(()) => batches::batch(image, memory, peer, bytes, room),
+        Err(answer) => batches::refused(answer, room),
     }
-    if !audit::is_good(memory) {
-        return batches::refused(51, room);
-    }
-    batches::batch(image, memory, peer, bytes, room)
 }
 
 // A peer goes: its names and its pending calls, made and awaited, end (rule 8.7).
 pub fn disconnect(memory: &mut [u8], peer: u32) -> Gone
     ensures { Did (disconnect_on memory.old peer) result memory.new }
 {
-    if !audit::is_good(memory) {
-        return no_gone(51);
+    match test_memory(memory) {
+        Ok(()) => peers::disconnect(memory, peer),
+        Err(answer) => no_gone(answer),
     }
-    peers::disconnect(memory, peer)
 }
 
 // Sets the tick, and ends every pending call that is at least `limit` ticks old (rule 8.12).
 pub fn tick(memory: &mut [u8], tick: u64, limit: u64) -> Ticked
     ensures { Did (tick_on memory.old tick limit) result memory.new }
 {
-    if !audit::is_good(memory) {
-        return no_tick(51);
+    match test_memory(memory) {
+        Ok(()) => endings::tick(memory, tick, limit),
+        Err(answer) => no_tick(answer),
     }
-    endings::tick(memory, tick, limit)
 }

@@ -1,7 +1,8 @@
 // The guard's calls, each with the line that it comes to.
 use crate::{ALLOW, messages};
 use memory::MEMORY_LENGTH;
-use rules::{Receiver, Shown, Taken};
+use policy::Decider;
+use rules::{Receiver, Taken};
 use std::io;
 
 pub fn number(rt: &impl Print, before: &[u8], n: u64) -> io::Result<()> {
@@ -31,7 +32,7 @@ pub fn receiver(rt: &impl Print, r: Receiver) -> io::Result<()> {
 }
 
 // Who decided, where that is shown.
-pub fn rule(rt: &impl Print, shown: Shown) -> io::Result<()> {
+pub fn rule(rt: &impl Print, shown: Option<Decider>) -> io::Result<()> {
     let r = rules::rule_numbers(shown);
     if r.kind == 1 {
         number(rt, b", rule ", r.position as u64)?;

@@ -1,20 +1,12 @@
 -- The mask of a signal's receivers, from the last slot down.
-use mathlib.Core.Path.{◌≡◌, sym, ap, ◌∙◌}
-use mathlib.Core.Bool.{Bool, true, false}
-use mathlib.Core.List.{List, map}
-use Prim.Native.Nat.{ℕ, ◌+◌, ◌-◌, ◌*◌, ◌≤◌, ◌<◌}
-use native.Mathlib.Omega.{arith}
-use native.Mathlib.Nat.{lt_of_lt_of_le}
+use Rattle.std.proofs.Common.{◌≡◌, sym, ap, ◌∙◌, Bool, true, false, List, map, ℕ, ◌+◌, ◌-◌, ◌*◌, ◌≤◌, ◌<◌, arith, lt_of_lt_of_le, pow_mono, length, drop, get_or, rules, None}
 use lib.Count.{ones}
-use lib.Pow.{pow_mono}
-use lib.ListN.{length, drop, get_or, length-map, get_or-map}
-use borrow.Author.Rules.{rules}
+use lib.ListN.{length-map, get_or-map}
 use Rattle.header.specs.declared.Header.{Header}
 use Rattle.policy.specs.Matching.{message_of}
 use Rattle.rules.specs.State.{free}
 use Rattle.rules.specs.Judge.{bit, mask_of, count_of, reaches}
 use Rattle.rules.specs.declared.Receiver.TheVariants as to
-use Rattle.rules.specs.declared.Shown.TheVariants.{Nothing}
 use Rattle.rules.proofs.Mask.{mask_ones, mask_from, mask_past, mask_room}
 use Rattle.memory.specs.Encoding.{state_of}
 use Rattle.memory.proofs.Reading.{sixteen}
@@ -65,11 +57,11 @@ module _ {image m : List ℕ} {i : ℕ} {head : List ℕ} {x : Header} {mask k :
         is = e ∙ sym (mask_from (bits image m i head x) (k - 1) (omega (arith, bits_length image m i head x)) ∙ rw (b, f, g.is));
       }
 
-  pub masking_ends : k ≤ 0 → ToAll image m i head x (record { answer = 0; receiver = to.Slots mask (ones mask); rule = Nothing })
+  pub masking_ends : k ≤ 0 → ToAll image m i head x (record { answer = 0; receiver = to.Slots mask (ones mask); rule = None })
   masking_ends h =
       let z : k ≡ 0 = omega arith in
       let e : mask ≡ mask_of (bits image m i head x) = rw z at g.is in
       let f : ones mask ≡ count_of (bits image m i head x) = ap ones e ∙ mask_ones (bits image m i head x) in
-      record { is = λ j. record { answer = 0; receiver = to.Slots (e j) (f j); rule = Nothing } }
+      record { is = λ j. record { answer = 0; receiver = to.Slots (e j) (f j); rule = None } }
 
 pub ruleset masking = (masking_begins, masking_room, masking_more, masking_ends, rules)

@@ -1,9 +1,5 @@
 -- A call or a signal to one peer.
-use mathlib.Core.Path.{◌≡◌, refl, sym, ◌∙◌}
-use mathlib.Core.Bool.{true, false, not}
-use mathlib.Core.List.{List}
-use Prim.Native.Nat.{ℕ}
-use borrow.Author.Rules.{rules}
+use Rattle.std.proofs.Common.{◌≡◌, refl, sym, ◌∙◌, true, false, not, List, ℕ, rules, None}
 use borrow.Author.Tests.{not-true, not-false}
 use Rattle.wire.proofs.Words.{Octets}
 use Rattle.header.specs.declared.Header.{Header}
@@ -14,7 +10,6 @@ use Rattle.stream.specs.Tail.{Tail}
 use Rattle.rules.specs.Judge.{Judged, refusal, judgement_by, judged_by, expects_reply}
 use Rattle.rules.specs.declared.Judgement.{Judgement}
 use Rattle.rules.specs.declared.Receiver.TheVariants as to
-use Rattle.rules.specs.declared.Shown.TheVariants.{Nothing}
 use Rattle.memory.specs.Places.{number_at}
 use Rattle.slots.specs.Slots.{peer_at, Seated}
 use Rattle.waits.specs.Waits.{JudgementLeft}
@@ -29,7 +24,7 @@ module _ {m : List ℕ} {i j : ℕ} (x : Header) {c : ℕ} (e : c ≡ number_at 
   delivers_call y w = record { left = rw y (w.left (peer_at m j) x (sym e) refl) }
 
   pub delivers_signal : Seated m i → Octets m → expects_reply x ≡ false
-      → Delivers m i j x (record { answer = 0; receiver = to.Peer c; rule = Nothing }) m
+      → Delivers m i j x (record { answer = 0; receiver = to.Peer c; rule = None }) m
   delivers_signal p b y = record { left = rw y (left_as_is p b (rw e)) }
 
 pub ruleset delivering = (delivers_call, delivers_signal, rules)

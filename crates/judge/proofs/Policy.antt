@@ -1,12 +1,6 @@
 -- What policy says, asked of one slot about the names of another's or of the bus.
-use mathlib.Core.Path.{◌≡◌, sym, ◌∙◌}
-use mathlib.Core.Bool.{Bool, true, false, not}
-use mathlib.Core.List.{List, [], ◌∷◌}
-use Prim.Native.Nat.{ℕ, ◌+◌, ◌-◌, ◌*◌, ◌<◌}
-use native.Mathlib.Omega.{arith}
+use Rattle.std.proofs.Common.{◌≡◌, sym, ◌∙◌, Bool, true, false, not, List, [], ◌∷◌, ℕ, ◌+◌, ◌-◌, ◌*◌, ◌<◌, arith, length, take, drop, rules, Some}
 use native.Mathlib.Nat.{sub-zero}
-use lib.ListN.{length, take, drop}
-use borrow.Author.Rules.{rules}
 use borrow.Author.Tests.{not-true, not-false}
 use Rattle.wire.specs.Words.{word_at}
 use Rattle.wire.specs.declared.Order.TheVariants.{Little}
@@ -23,7 +17,6 @@ use Rattle.decide.specs.Rulings.{decision_of}
 use Rattle.rules.specs.Judge.{refusal, judgement_by}
 use Rattle.rules.specs.declared.Judgement.{Judgement}
 use Rattle.rules.specs.declared.Receiver.TheVariants as to
-use Rattle.rules.specs.declared.Shown.TheVariants.{By}
 use Rattle.memory.specs.Layout.{slot_start, first_name, uid_at}
 use Rattle.memory.specs.Places.{number_at}
 use Rattle.memory.proofs.Reading.{slot_free, slot_peer}
@@ -76,7 +69,7 @@ module _ (image m : List ℕ) (i : ℕ) (head : List ℕ) (x : Header) {cell : L
   pub bus_denied : not d.allow ≡ true → {j k : Judgement} → k ≡ refusal 22 → j ≡ judgement_by d.rule k → ToBus image m i head x j
   bus_denied t p q = record { is = q ∙ rw (p, says, not-true d.allow t) }
 
-  pub bus_passed : not d.allow ≡ false → ToBus image m i head x (record { answer = 0; receiver = to.Bus; rule = By d.rule })
+  pub bus_passed : not d.allow ≡ false → ToBus image m i head x (record { answer = 0; receiver = to.Bus; rule = Some d.rule })
   bus_passed t = record { is = rw (says, not-false d.allow t) }
 
 pub ruleset to_bus_lem = (bus_denied, bus_passed, rules)

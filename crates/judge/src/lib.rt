@@ -18,7 +18,7 @@ use header::{CALL, ERROR, Header, RETURN, SIGNAL};
 use image::Section;
 use memory::{FIRST_NAME, GID_ROOM, NAME_WIDTH, SLOT_LENGTH, SLOTS_AT, UID_AT};
 use policy::{Decision, Uid};
-use rules::{Judgement, Receiver, Shown, judged_by, refused};
+use rules::{Judgement, Receiver, judged_by, refused};
 
 // ---- policy
 
@@ -104,7 +104,7 @@ fn to_bus(image: &[u8], memory: &[u8], i: usize, head: &[u8], header: Header) ->
     Judgement {
         answer: 0,
         receiver: Receiver::Bus,
-        rule: Shown::By(rule),
+        rule: Some(rule),
     }
 }
 
@@ -146,7 +146,7 @@ fn to_all(image: &[u8], memory: &[u8], i: usize, head: &[u8], header: Header) ->
     Judgement {
         answer: 0,
         receiver: Receiver::Slots(mask, u16::count_ones(mask)),
-        rule: Shown::Nothing,
+        rule: None,
     }
 }
 
@@ -164,7 +164,7 @@ fn deliver(memory: &mut [u8], i: usize, j: usize, header: Header) -> Judgement
     Judgement {
         answer: 0,
         receiver: Receiver::Peer(receiver),
-        rule: Shown::Nothing,
+        rule: None,
     }
 }
 

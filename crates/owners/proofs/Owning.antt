@@ -1,15 +1,7 @@
 -- Each way through own.
-use mathlib.Core.Path.{◌≡◌, refl, sym, ap, ◌∙◌}
-use mathlib.Core.Bool.{Bool, true, false, not}
-use mathlib.Core.List.{List, [], ◌∷◌, ◌++◌, append_assoc}
-use Prim.Native.Nat.{ℕ, ◌+◌, ◌-◌, ◌*◌, ◌≤◌, ◌<◌}
-use native.Mathlib.Omega.{arith}
+use Rattle.std.proofs.Common.{◌≡◌, refl, sym, ap, ◌∙◌, Bool, true, false, not, List, [], ◌∷◌, ◌++◌, append_assoc, ℕ, ◌+◌, ◌-◌, ◌*◌, ◌≤◌, ◌<◌, arith, add-one, length, take, drop, set, replicate, length-set, drop-drop, take-take, take-suc-set, drop-set-lt, rules, lt-ltb, le-ltb, le-leb, Some}
 use native.Mathlib.Nat.{sub-zero}
-use native.Mathlib.Numerals.{add-one}
-use lib.ListN.{length, take, drop, set, replicate, length-set}
-use lib.Seq.{drop-drop, take-take, take-suc-set, drop-set-lt}
-use borrow.Author.Rules.{rules}
-use borrow.Author.Tests.{lt-ltb, le-ltb, le-leb, lt-leb, not-true, not-false}
+use borrow.Author.Tests.{lt-leb, not-true, not-false}
 use Rattle.wire.specs.Words.{word_at, word_bytes}
 use Rattle.wire.specs.declared.Order.TheVariants.{Little}
 use Rattle.wire.proofs.Words.{Octets, octets_below, put_at_lem}
@@ -25,7 +17,6 @@ use Rattle.rules.specs.State.{is_peer}
 use Rattle.rules.specs.Addresses.{ownable}
 use Rattle.rules.specs.Calls.{is_owner, no_own, own}
 use Rattle.rules.specs.declared.Owned.{Owned}
-use Rattle.rules.specs.declared.Shown.TheVariants.{By}
 use Rattle.memory.specs.Layout.{slot_start, names_at, first_name, name_room, names_length, uid_at}
 use Rattle.memory.specs.Encoding.{state_of}
 use Rattle.memory.specs.Sound.{Held}
@@ -170,14 +161,14 @@ module _ (image m : List ℕ) (f : Octets m) (g : Held m) (n i : ℕ) (e : Found
         did_stay m f g r (own image (state_of m) n name) (rw (peer_place n m i e q, peer_some n m i e q, ← eb, not-true b t, k))
 
     module _ (t : not b ≡ false) (d : Decision) (ed : d ≡ own_decision image (record { 0 = (peer_at m i).uid }) (peer_at m i).gids name) where
-      pub own_denied : d.allow ≡ false → Did (stored (own image (state_of m) n name)) (record { answer = 32; rule = By d.rule }) m
+      pub own_denied : d.allow ≡ false → Did (stored (own image (state_of m) n name)) (record { answer = 32; rule = Some d.rule }) m
       unfolding own
       own_denied s =
-          did_stay m f g (record { answer = 32; rule = By d.rule }) (own image (state_of m) n name)
+          did_stay m f g (record { answer = 32; rule = Some d.rule }) (own image (state_of m) n name)
           (rw (peer_place n m i e q, peer_some n m i e q, ← eb, not-false b t, ← ed, s))
 
       pub own_obtained : d.allow ≡ true → (r : ℕ) (m₁ : List ℕ) → Did (stored (obtained m i name)) r m₁
-          → Did (stored (own image (state_of m) n name)) (record { answer = r; rule = By d.rule }) m₁
+          → Did (stored (own image (state_of m) n name)) (record { answer = r; rule = Some d.rule }) m₁
       unfolding own obtained
       own_obtained s r m₁ x =
           rw (peer_place n m i e q, peer_some n m i e q, ← eb, not-false b t, ← ed, s) (record { result = rw x.result; memory = x.memory })

@@ -19,7 +19,7 @@ use memory::{
     FIRST_NAME, GID_ROOM, NAME_WIDTH, NAMES_AT, NAMES_LENGTH, SLOT_LENGTH, SLOTS_AT, UID_AT,
 };
 use policy::{Decision, Uid};
-use rules::{Owned, Shown, no_own};
+use rules::{Owned, no_own};
 
 // ---- own
 
@@ -118,7 +118,7 @@ pub fn own(image: &[u8], memory: &mut [u8], peer: u32, name: &[u8]) -> Owned
     };
     Owned {
         answer,
-        rule: Shown::By(rule),
+        rule: Some(rule),
     }
 }
 

@@ -1,12 +1,6 @@
 -- Each way through connect.
-use mathlib.Core.Path.{◌≡◌, refl, sym, ap, ◌∙◌}
-use mathlib.Core.Bool.{true, false, not}
-use mathlib.Core.List.{List, ◌++◌, append_assoc}
-use Prim.Native.Nat.{ℕ, ◌+◌, ◌-◌, ◌*◌, ◌≤◌, ◌<◌}
-use native.Mathlib.Omega.{arith}
-use lib.ListN.{length, take, drop, replicate}
-use borrow.Author.Rules.{rules}
-use borrow.Author.Tests.{lt-ltb, le-ltb, not-true, not-false}
+use Rattle.std.proofs.Common.{◌≡◌, refl, sym, ap, ◌∙◌, true, false, not, List, ◌++◌, append_assoc, ℕ, ◌+◌, ◌-◌, ◌*◌, ◌≤◌, ◌<◌, arith, length, take, drop, replicate, rules, lt-ltb, le-ltb, None}
+use borrow.Author.Tests.{not-true, not-false}
 use Rattle.wire.proofs.Words.{Octets, octets_below}
 use Rattle.wire.specs.Words.{word_bytes}
 use Rattle.image.specs.declared.Section.TheVariants.{Connect}
@@ -27,7 +21,6 @@ use Rattle.memory.proofs.Frame.{free_bytes}
 use Rattle.memory.proofs.Newcomer.{newcomer_spread}
 use Rattle.memory.proofs.Good.{seated}
 use Rattle.rules.specs.declared.Connected.{Connected}
-use Rattle.rules.specs.declared.Shown.TheVariants.{Nothing}
 use Rattle.peers.specs.Writes.{new_bytes}
 use Rattle.peers.specs.Steps.{Free, admitted, entered}
 use Rattle.slots.proofs.Zeros.{zero_rest}
@@ -82,7 +75,7 @@ module _ (m : List ℕ) (f : Octets m) (g : Held m) (i : ℕ) (e : FoundSlot is_
         (rw (found_first is_free m i e, sixteen m, lt-ltb i 16 within, le-ltb (state_of m).last 4294967295 (omega arith), d))
 
     pub enter_seated : (l ≡ 4294967295 → ⊥) → l < 4294967296 → (m₁ : List ℕ) → m₁ ≡ admitted m i (l + 1) uid gids
-        → Did (stored (entered m uid gids)) (record { answer = 0; number = l + 1; slot = i; rule = Nothing }) m₁
+        → Did (stored (entered m uid gids)) (record { answer = 0; number = l + 1; slot = i; rule = None }) m₁
     unfolding entered admitted
     enter_seated z k m₁ e₁ =
         rw (found_first is_free m i e, sixteen m, lt-ltb i 16 within, lt-ltb (state_of m).last 4294967295 (omega arith), ← el)

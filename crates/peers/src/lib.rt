@@ -17,7 +17,7 @@ use endings::Ending;
 use image::Section;
 use memory::{FIRST_GID, GIDS_AT, SLOT_LENGTH, SLOTS_AT, TAKEN_AT, UID_AT};
 use policy::Uid;
-use rules::{Connected, Gone, Shown, connected_by, no_connect, no_gone};
+use rules::{Connected, Gone, connected_by, no_connect, no_gone};
 
 // ---- connect
 
@@ -61,7 +61,7 @@ fn enter(memory: &mut [u8], uid: u32, gids: &[u32]) -> Connected
         answer: 0,
         number: last + 1,
         slot,
-        rule: Shown::Nothing,
+        rule: None,
     }
 }
 

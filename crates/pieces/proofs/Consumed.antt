@@ -1,11 +1,7 @@
 -- A whole message: its head stands in its slot, and memory is good once its stream is cleared.
-use mathlib.Core.Path.{◌≡◌, refl, sym, ap, ◌∙◌}
-use mathlib.Core.Bool.{false}
-use mathlib.Core.List.{List, ◌++◌, append_assoc}
-use Prim.Native.Nat.{ℕ, ◌+◌, ◌-◌, ◌≤◌, ◌<◌}
-use native.Mathlib.Omega.{arith}
-use lib.ListN.{length, take, drop, get_or, replicate, length-append, length-take, length-drop, length-replicate}
-use lib.Seq.{take_at, drop_at, drop-drop, take-append-le, length-take-le}
+use Rattle.std.proofs.Common.{◌≡◌, refl, sym, ap, ◌∙◌, false, List, ◌++◌, append_assoc, ℕ, ◌+◌, ◌-◌, ◌≤◌, ◌<◌, arith, length, take, drop, get_or, replicate, length-append, length-take, length-drop, take_at, drop_at, drop-drop, length-take-le}
+use lib.ListN.{length-replicate}
+use lib.Seq.{take-append-le}
 use Rattle.wire.specs.Bytes.{pad}
 use Rattle.wire.specs.Words.{word_bytes}
 use Rattle.wire.proofs.Texts.{impossible, pad_length}

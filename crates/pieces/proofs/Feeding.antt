@@ -1,11 +1,5 @@
 -- The bytes of a stream in its slot: its counts, its head, zeros; and what an offer leaves of them.
-use mathlib.Core.Path.{◌≡◌, sym, ap, subst, ◌∙◌}
-use mathlib.Core.List.{List, [], ◌++◌, append-nil}
-use Prim.Native.Nat.{ℕ, ◌≤◌, ◌<◌, min}
-use native.Mathlib.Omega.{arith}
-use lib.ListN.{length, take, drop, length-drop, drop_of_length-le}
-use lib.Seq.{take_at, drop_at, drop-drop, take_all, length-take-le}
-use borrow.Author.Rules.{rules}
+use Rattle.std.proofs.Common.{◌≡◌, sym, ap, subst, ◌∙◌, List, [], ◌++◌, append-nil, ℕ, ◌≤◌, ◌<◌, min, arith, length, take, drop, length-drop, drop_of_length-le, take_at, drop_at, drop-drop, take_all, length-take-le, rules}
 use Rattle.wire.specs.Bytes.{pad}
 use Rattle.wire.specs.Words.{word_at, word_bytes}
 use Rattle.wire.specs.declared.Order.TheVariants.{Little}

@@ -1,11 +1,6 @@
 -- What a piece comes to, case by case.
-use mathlib.Core.Path.{◌≡◌, sym, ap, ◌∙◌}
-use mathlib.Core.Bool.{Bool, true, false}
-use mathlib.Core.List.{List}
-use Prim.Native.Nat.{ℕ, ◌-◌}
+use Rattle.std.proofs.Common.{◌≡◌, sym, ap, ◌∙◌, Bool, true, false, List, ℕ, ◌-◌, take, rules}
 use native.Mathlib.Nat.{sub-zero}
-use lib.ListN.{take}
-use borrow.Author.Rules.{rules}
 use Rattle.wire.proofs.Words.{Octets}
 use Rattle.wire.specs.Bytes.{pad}
 use Rattle.header.specs.declared.Header.{Header}

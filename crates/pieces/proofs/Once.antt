@@ -1,13 +1,7 @@
 -- A message that is whole in its piece is judged where it stands: its stream is between two messages before and after.
-use mathlib.Core.Path.{◌≡◌, refl, sym, ap, ◌∙◌}
-use mathlib.Core.Bool.{false}
-use mathlib.Core.List.{List}
-use Prim.Native.Nat.{ℕ, ◌+◌, ◌-◌, ◌≤◌}
-use native.Mathlib.Omega.{arith}
+use Rattle.std.proofs.Common.{◌≡◌, refl, sym, ap, ◌∙◌, false, List, ℕ, ◌+◌, ◌-◌, ◌≤◌, arith, length, take, length-take-le, rules}
 use native.Mathlib.Nat.{sub-zero}
-use lib.ListN.{length, take}
-use lib.Seq.{length-take-le, set-get_or}
-use borrow.Author.Rules.{rules}
+use lib.Seq.{set-get_or}
 use Rattle.wire.proofs.Words.{Octets}
 use Rattle.wire.specs.Words.{word_at}
 use Rattle.wire.specs.declared.Order.TheVariants.{Little}

@@ -1,12 +1,6 @@
 -- The stream of a slot, in good memory.
-use mathlib.Core.Path.{◌≡◌, refl, sym, ap, subst, ◌∙◌}
-use mathlib.Core.Bool.{Bool, false}
-use mathlib.Core.List.{List, ◌++◌, append_assoc}
-use Prim.Native.Nat.{ℕ, ◌+◌, ◌-◌, ◌≤◌, min, ◌<◌}
-use native.Mathlib.Omega.{arith}
-use lib.ListN.{length, take, drop, get_or, replicate, length-drop, replicate-append-replicate}
-use lib.Seq.{drop-drop, take-take, length-take-le}
-use borrow.Author.Rules.{rules}
+use Rattle.std.proofs.Common.{◌≡◌, refl, sym, ap, subst, ◌∙◌, Bool, false, List, ◌++◌, append_assoc, ℕ, ◌+◌, ◌-◌, ◌≤◌, min, ◌<◌, arith, length, take, drop, get_or, replicate, length-drop, drop-drop, take-take, length-take-le, rules}
+use lib.ListN.{replicate-append-replicate}
 use Rattle.wire.specs.Bytes.{pad}
 use Rattle.wire.specs.Words.{word_at, word_bytes}
 use Rattle.wire.specs.declared.Order.TheVariants.{Little}

@@ -19,7 +19,7 @@ use memory::{
     BYTE_OFFSET, FIRST_BYTE, HEAD_AT, HEAD_OFFSET, HEAD_ROOM, SLOT_LENGTH, SLOTS_AT, STREAM_LENGTH,
     TAKEN_AT,
 };
-use rules::{Judgement, Receiver, Shown, Taken, no_piece};
+use rules::{Judgement, Taken, no_piece, refused};
 use stream::{Advance, Event, Stream};
 use wire::Order;
 
@@ -70,7 +70,7 @@ fn settle_at(memory: &mut [u8], i: usize, n: usize)
 {
     let from = SLOTS_AT + SLOT_LENGTH * i + TAKEN_AT;
     let end = from + (BYTE_OFFSET + n);
-    wire::wipe(&mut memory[from..end]);
+    memory[from..end].fill(0);
 }
 
 // A copy of the first n bytes of the head that slot i keeps.
@@ -81,7 +81,7 @@ fn head_of(memory: &[u8], i: usize, n: usize) -> [u8; HEAD_ROOM]
     let mut head = [0u8; HEAD_ROOM];
     let from = SLOTS_AT + SLOT_LENGTH * i + FIRST_BYTE;
     let to = from + n;
-    wire::copy(&mut head[0..n], &memory[from..to]);
+    head[0..n].copy_from_slice(&memory[from..to]);
     head
 }
 
@@ -105,29 +105,12 @@ fn piece_at(image: &[u8], memory: &mut [u8], i: usize, bytes: &[u8]) -> Taken
 {
     let a = feed_at(memory, i, bytes);
     let taken = a.taken;
-    let event = a.event;
-    match event {
-        Event::More => Taken {
-            judgement: Judgement {
-                answer: 10,
-                receiver: Receiver::Nobody,
-                rule: Shown::Nothing,
-            },
-            taken,
-        },
-        Event::Broken(answer) => Taken {
-            judgement: Judgement {
-                answer,
-                receiver: Receiver::Nobody,
-                rule: Shown::Nothing,
-            },
-            taken,
-        },
-        Event::Whole(header) => Taken {
-            judgement: judge_at(image, memory, i, header),
-            taken,
-        },
-    }
+    let judgement = match a.event {
+        Event::More => refused(10),
+        Event::Broken(answer) => refused(answer),
+        Event::Whole(header) => judge_at(image, memory, i, header),
+    };
+    Taken { judgement, taken }
 }
 
 // How long a whole message is: its head and its body.

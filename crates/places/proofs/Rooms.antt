@@ -1,14 +1,5 @@
 -- A room and its places: how long they are, one written, and one more behind those that were.
-use mathlib.Core.Path.{◌≡◌, refl, sym, ap, ◌∙◌}
-use mathlib.Core.Bool.{true, false}
-use mathlib.Core.List.{List, [], ◌∷◌, ◌++◌, append_assoc, append-nil}
-use Prim.Native.Nat.{ℕ, ◌+◌, ◌-◌, ◌*◌, ◌≤◌, ◌<◌}
-use native.Mathlib.Omega.{arith}
-use lib.Dec.{eqb}
-use lib.ListN.{length, take, drop, length-append, length-drop, drop_of_length-le}
-use lib.Seq.{take_at, drop_at, drop-drop}
-use borrow.Author.Rules.{rules}
-use borrow.Author.Tests.{eq-eqb, ne_eqb}
+use Rattle.std.proofs.Common.{◌≡◌, refl, sym, ap, ◌∙◌, true, false, List, [], ◌∷◌, ◌++◌, append_assoc, append-nil, ℕ, ◌+◌, ◌-◌, ◌*◌, ◌≤◌, ◌<◌, arith, eqb, length, take, drop, length-append, length-drop, drop_of_length-le, take_at, drop_at, drop-drop, eq-eqb, ne_eqb, Option, Some, None}
 use Rattle.wire.specs.Words.{word_bytes}
 use Rattle.wire.proofs.Words.{word_length, rest_at}
 use Rattle.tables.specs.Tables.{cells}
@@ -19,8 +10,6 @@ use Rattle.policy.specs.declared.Decider.TheVariants.{Nobody, Rule}
 use Rattle.rules.specs.Places.{receiver_words, shown_words, taken_words}
 use Rattle.rules.specs.declared.Receiver.{Receiver}
 use Rattle.rules.specs.declared.Receiver.TheVariants as to
-use Rattle.rules.specs.declared.Shown.{Shown}
-use Rattle.rules.specs.declared.Shown.TheVariants.{Nothing, By}
 use Rattle.rules.specs.declared.Taken.{Taken}
 use Rattle.places.specs.Places.{place_length, place_of, places_in, filled}
 
@@ -34,9 +23,9 @@ by_two : (d : Decider) → length (decider_words d) ≡ 2
 by_two Nobody = refl
 by_two (Rule s i) = refl
 
-pub shown_length : (x : Shown) → length (shown_words x) ≡ 2
-shown_length Nothing = refl
-shown_length (By d) = by_two d
+pub shown_length : (x : Option Decider) → length (shown_words x) ≡ 2
+shown_length None = refl
+shown_length (Some d) = by_two d
 
 receiver_length : (r : Receiver) → length (receiver_words r) ≡ 3
 receiver_length to.Nobody = refl
@@ -67,8 +56,6 @@ pub place_put : (room ws u : List ℕ) → length ws ≡ 7 → u ≡ take 0 room
     → u ≡ place_of ws ++ drop place_length room
 unfolding place_of
 place_put room ws u e q = let k : 0 + 4 * length ws ≡ place_length = omega arith in q ∙ rw k
-
-pub ruleset putting = (place_put, rules)
 
 -- ---- a room with reports in front
 

@@ -5,7 +5,8 @@ ghost use Rattle.std.specs.Prelude.{◌≡◌, [], ◌∷◌, ◌++◌, ◌%◌,
 ghost use Rattle.rules.specs.Places.{receiver_words, shown_words, plain_words, connected_words, owned_words, taken_words, gone_words, ticked_words};
 ghost use Rattle.places.specs.Places.{place_of, place_length, report_words, Shows};
 
-use rules::{Connected, Gone, Owned, Receiver, RuleNumbers, Shown, Taken, Ticked, rule_numbers};
+use policy::Decider;
+use rules::{Connected, Gone, Owned, Receiver, RuleNumbers, Taken, Ticked, rule_numbers};
 
 pub const PLACE_LENGTH: usize = 28;
 
@@ -31,22 +32,22 @@ pub fn put(room: &mut [u8], report: Report)
     requires { place_length ≤ length room.old }
     ensures { room.new ≡ place_of (report_words report) ++ drop place_length room.old }
 {
-    let mut words = [0u32; 7];
-    words[0] = report.answer;
-    words[1] = report.taken;
-    words[2] = report.kind;
-    words[3] = report.number;
-    words[4] = report.count;
-    let rule = report.rule;
-    words[5] = rule.kind;
-    words[6] = rule.position;
-    tables::put_words(room, 0, &words[0..7]);
+    let words = [
+        report.answer,
+        report.taken,
+        report.kind,
+        report.number,
+        report.count,
+        report.rule.kind,
+        report.rule.position,
+    ];
+    tables::put_words(room, 0, &words);
 }
 
 // ---- what a call reports, as numbers
 
 // The numbers of a call that is not about a message: an answer, two numbers of its own, and who decided.
-fn own_report(answer: u8, number: u32, count: u32, shown: Shown) -> Report
+fn own_report(answer: u8, number: u32, count: u32, shown: Option<Decider>) -> Report
     ensures { report_words result ≡ answer ∷ 0 ∷ 0 ∷ number ∷ count ∷ shown_words shown }
 {
     Report {
@@ -59,84 +60,72 @@ fn own_report(answer: u8, number: u32, count: u32, shown: Shown) -> Report
     }
 }
 
-pub fn plain(answer: u8) -> Report
-    ensures { Shows (plain_words answer) result }
-{
-    own_report(answer, 0, 0, Shown::Nothing)
-}
-
-pub fn connected(c: Connected) -> Report
-    ensures { Shows (connected_words c) result }
-{
-    let shown = c.rule;
-    own_report(c.answer, c.number, low(c.slot), shown)
-}
-
-pub fn owned(o: Owned) -> Report
-    ensures { Shows (owned_words o) result }
-{
-    let shown = o.rule;
-    own_report(o.answer, 0, 0, shown)
-}
-
-pub fn gone(g: Gone) -> Report
-    ensures { Shows (gone_words g) result }
-{
-    own_report(g.answer, g.bytes, 0, Shown::Nothing)
-}
-
-pub fn ticked(t: Ticked) -> Report
-    ensures { Shows (ticked_words t) result }
-{
-    own_report(t.answer, t.ended, 0, Shown::Nothing)
-}
-
-// The report of a piece to that receiver.
-fn to_receiver(answer: u32, taken: u32, receiver: Receiver, rule: RuleNumbers) -> Report
-    ensures { report_words result ≡ answer ∷ taken ∷ (receiver_words receiver ++ (rule.kind ∷ rule.position ∷ [])) }
-{
-    match receiver {
-        Receiver::Nobody => Report {
-            answer,
-            taken,
-            kind: 0,
-            number: 0,
-            count: 0,
-            rule,
-        },
-        Receiver::Bus => Report {
-            answer,
-            taken,
-            kind: 1,
-            number: 0,
-            count: 0,
-            rule,
-        },
-        Receiver::Peer(number) => Report {
-            answer,
-            taken,
-            kind: 2,
-            number,
-            count: 0,
-            rule,
-        },
-        Receiver::Slots(mask, count) => Report {
-            answer,
-            taken,
-            kind: 3,
-            number: mask as u32,
-            count,
-            rule,
-        },
+impl Report {
+    // The numbers of a call that reports its answer alone.
+    pub fn plain(answer: u8) -> Report
+        ensures { Shows (plain_words answer) result }
+    {
+        own_report(answer, 0, 0, None)
     }
 }
 
-pub fn taken(t: Taken) -> Report
-    ensures { Shows (taken_words t) result }
+impl From<Connected> for Report {
+    ghost from_gives = { λ c r. Shows (connected_words c) r };
+
+    fn from(c: Connected) -> Report {
+        own_report(c.answer, c.number, low(c.slot), c.rule)
+    }
+}
+
+impl From<Owned> for Report {
+    ghost from_gives = { λ o r. Shows (owned_words o) r };
+
+    fn from(o: Owned) -> Report {
+        own_report(o.answer, 0, 0, o.rule)
+    }
+}
+
+impl From<Gone> for Report {
+    ghost from_gives = { λ g r. Shows (gone_words g) r };
+
+    fn from(g: Gone) -> Report {
+        own_report(g.answer, g.bytes, 0, None)
+    }
+}
+
+impl From<Ticked> for Report {
+    ghost from_gives = { λ t r. Shows (ticked_words t) r };
+
+    fn from(t: Ticked) -> Report {
+        own_report(t.answer, t.ended, 0, None)
+    }
+}
+
+// A receiver's kind, the peer's number or the mask, and the count of set slots.
+fn receiver_numbers(receiver: Receiver) -> (u32, u32, u32)
+    ensures { result.0 ∷ result.1 ∷ result.2 ∷ [] ≡ receiver_words receiver }
 {
-    let judgement = t.judgement;
-    let receiver = judgement.receiver;
-    let shown = judgement.rule;
-    let rule = rule_numbers(shown);
-    to_receiver(judgement.answer as u32, low(t.taken), receiver, rule)
+    match receiver {
+        Receiver::Nobody => (0, 0, 0),
+        Receiver::Bus => (1, 0, 0),
+        Receiver::Peer(number) => (2, number, 0),
+        Receiver::Slots(mask, count) => (3, mask as u32, count),
+    }
+}
+
+impl From<Taken> for Report {
+    ghost from_gives = { λ t r. Shows (taken_words t) r };
+
+    fn from(t: Taken) -> Report {
+        let judgement = t.judgement;
+        let (kind, number, count) = receiver_numbers(judgement.receiver);
+        Report {
+            answer: judgement.answer as u32,
+            taken: low(t.taken),
+            kind,
+            number,
+            count,
+            rule: rule_numbers(judgement.rule),
+        }
+    }
 }

@@ -2,7 +2,8 @@
 use crate::file;
 use crate::file::Reader;
 use crate::rows::LEDGER_LENGTH;
-use rules::{Receiver, Shown};
+use policy::Decider;
+use rules::Receiver;
 
 // What one part came to: how many bytes were offered, and how many were taken.
 #[derive(Clone, Copy)]
@@ -11,7 +12,7 @@ struct Part {
     taken: usize,
     answer: u8,
     receiver: Receiver,
-    rule: Shown,
+    rule: Option<Decider>,
 }
 
 #[derive(Clone, Copy)]
@@ -19,7 +20,7 @@ pub struct Feeding {
     pub taken: u64,
     pub answer: u8,
     pub receiver: Receiver,
-    pub rule: Shown,
+    pub rule: Option<Decider>,
 }
 
 // A receiver in numbers: 0 nobody, 1 the bus, 2 a peer, 3 a mask of slots.

@@ -5,7 +5,7 @@ use mathlib.Core.List.{List, [], ◌∷◌, map}
 use Prim.Native.Nat.{ℕ, ◌+◌, ◌≤◌, ◌<◌}
 use native.Mathlib.Omega.{arith}
 use lib.Dec.{ltb}
-use lib.ListN.{length, get_or, get_or-map}
+use lib.ListN.{get_or, get_or-map}
 use borrow.Author.Tests.{ltb-false, le-ltb, lt-ltb}
 use Rattle.rules.specs.State.{Pending, Slot, free, peer, State}
 use Rattle.rules.specs.Pending.{expired, remove_calls, count_slot, count_in, pending_in, pending_all}

@@ -23,7 +23,6 @@ use Rattle.rules.specs.Pending.{is_to, ended, remove_calls}
 use Rattle.rules.specs.Awaited.{is_waiting, awaited}
 use Rattle.rules.specs.Judge.{Judged, expects_reply, reply_to, reply, is_reply, judged}
 use Rattle.rules.specs.Calls.{slot_at, disconnect_at, disconnect}
-use Rattle.rules.specs.declared.Receiver.TheVariants as to
 use Rattle.rules.proofs.First.{first_set, taken_below, number_found}
 use Rattle.wire.proofs.Tests.{choice}
 use Rattle.rules.proofs.View.{chosen}

@@ -1,13 +1,8 @@
 -- What a report shows is who decided (rules 6.9, 7.12 and 8.10), whatever image, state, peers, streams and arguments there are: a rule of the section that
 -- was asked, or that none matched, which goes with no answer but 22, 23, 32 and 36.
-use mathlib.Core.Path.{◌≡◌, refl, sym, ap, subst, ◌∙◌}
-use mathlib.Core.Logic.{◌⊎◌, inl, inr}
-use mathlib.Core.Bool.{Bool, true, false, not, cond, false≢true}
-use mathlib.Core.List.{List, [], ◌∷◌}
-use Prim.Native.Nat.{ℕ, ◌<◌}
-use lib.Dec.{eqb, ltb}
-use lib.ListN.{length, get_or}
-use borrow.Author.Tests.{eqb-true, eqb-false}
+use Rattle.std.proofs.Common.{◌≡◌, refl, sym, ap, subst, ◌∙◌, ◌⊎◌, inl, inr, Bool, true, false, not, cond, List, [], ◌∷◌, ℕ, ◌<◌, eqb, ltb, length, get_or, eqb-true, Option, Some, None}
+use mathlib.Core.Bool.{false≢true}
+use borrow.Author.Tests.{eqb-false}
 use Rattle.wire.proofs.Tests.{clash, choice, by_test}
 use Rattle.image.specs.Image.{rule_count}
 use Rattle.image.specs.declared.Section.{Section}
@@ -29,8 +24,6 @@ use Rattle.rules.specs.Judge.{reply_to, reply, to_slot, directed, is_reply, judg
 use Rattle.rules.specs.Calls.{Step, stays, no_connect, connect_at, connect, no_own, own_new, own_at, slot_at, own, offered, piece_at, piece}
 use Rattle.rules.specs.Shows.{ShowsRightly, ShownRule, MessageShows, nothing, sends, receives}
 use Rattle.rules.specs.declared.Receiver.TheVariants as to
-use Rattle.rules.specs.declared.Shown.{Shown}
-use Rattle.rules.specs.declared.Shown.TheVariants.{Nothing, By}
 use Rattle.rules.specs.declared.Judgement.{Judgement}
 use Rattle.rules.specs.declared.Connected.{Connected}
 use Rattle.rules.specs.declared.Owned.{Owned}
@@ -39,11 +32,11 @@ use Rattle.rules.specs.declared.Taken.{Taken}
 -- ---- any section
 
 -- where nothing is shown, nobody is
-abbrev is_by : Shown → Bool
-is_by Nothing = false
-is_by (By d) = true
+abbrev is_by : Option Decider → Bool
+is_by None = false
+is_by (Some d) = true
 
-unshown : {r : Shown} {d : Decider} → r ≡ Nothing → r ≡ By d → ⊥
+unshown : {r : Option Decider} {d : Decider} → r ≡ None → r ≡ Some d → ⊥
 unshown p q = false≢true (sym (ap is_by p) ∙ ap is_by q)
 
 -- an answer that denials have and nothing else tells whether it was allowed
@@ -56,14 +49,14 @@ refuses a n h = by_test (eqb a n) (λ e. eqb-true a n e) (λ e. absurd (false≢
 
 module _ (s : Section) (image : List ℕ) (hits : ℕ → Bool) where
   -- a rule that is shown is one of the section, matches, and its verdict is what was decided
-  pub shown_position : (allow : Bool) (r : Shown) (t : Section) (i : ℕ) → ShowsRightly s image hits allow r → r ≡ By (Rule t i)
+  pub shown_position : (allow : Bool) (r : Option Decider) (t : Section) (i : ℕ) → ShowsRightly s image hits allow r → r ≡ Some (Rule t i)
       → ShownRule s image hits allow t i
   shown_position allow r t i h e =
       let n = subst (ShowsRightly s image hits allow) e h in
       record { asked = n.0; inside = n.1.0.inside; fits = n.1.0.fits; verdict = n.1.1 }
 
   -- where none matched, it was denied
-  denied : (a n : ℕ) (r : Shown) → ShowsRightly s image hits (not (eqb a n)) r → r ≡ By Nobody → a ≡ n
+  denied : (a n : ℕ) (r : Option Decider) → ShowsRightly s image hits (not (eqb a n)) r → r ≡ Some Nobody → a ≡ n
   denied a n r h e = refuses a n (subst (ShowsRightly s image hits (not (eqb a n))) e h).1
 
   -- a decision shows rightly by an answer that it has where it denies and nowhere else
@@ -95,7 +88,7 @@ module _ {S : Type 0} (O : Streams S) (image : List ℕ) (s : State S) (uid : �
       (connect_at O s (first_by is_free s.slots) uid gids) (stays s (no_connect 36))
       (search (choice (λ (z : Step S Connected). eqb z.result.answer 36 ≡ false))) refl)
 
-  pub connect_none_matched : connect_report.rule ≡ By Nobody → connect_report.answer ≡ 36
+  pub connect_none_matched : connect_report.rule ≡ Some Nobody → connect_report.answer ≡ 36
   connect_none_matched n =
       by_test (ltb 16 (length gids)) (λ e. absurd (unshown (ap (λ (r : Connected). r.rule) (connect_unshown e)) n))
       (λ e. denied Connect image (connect_hits image (record { 0 = uid }) gids) connect_report.answer 36 connect_report.rule (connect_shows e) n)
@@ -130,7 +123,7 @@ module _ {S : Type 0} (image : List ℕ) (s : State S) (n : ℕ) (name : List �
         (search (choice (λ (z : Step S ℕ). eqb z.result 32 ≡ false))) refl)
         (λ e. absurd (clash h e)))
 
-  pub own_none_matched : own_report.rule ≡ By Nobody → own_report.answer ≡ 32
+  pub own_none_matched : own_report.rule ≡ Some Nobody → own_report.answer ≡ 32
   own_none_matched e = go (slot_at s (first_by (is_peer n) s.slots)) refl
     where
       go : (y : Slot S) → slot_at s (first_by (is_peer n) s.slots) ≡ y → own_report.answer ≡ 32
@@ -146,7 +139,7 @@ module _ {S : Type 0} (image : List ℕ) (s : State S) (sender : Peer S) where
   abbrev answer_of : Judged S → ℕ
   answer_of j = j.judgement.answer
 
-  abbrev rule_of : Judged S → Shown
+  abbrev rule_of : Judged S → Option Decider
   rule_of j = j.judgement.rule
 
   abbrev send_hits : List (List ℕ) → Message → ℕ → Bool
@@ -202,19 +195,19 @@ module _ {S : Type 0} (image : List ℕ) (s : State S) (sender : Peer S) where
 
   -- ---- all else shows nothing
 
-  reply_to_unshown : (j : ℕ) (y : Slot S) (x : Header) → rule_of (reply_to s j sender y x) ≡ Nothing
+  reply_to_unshown : (j : ℕ) (y : Slot S) (x : Header) → rule_of (reply_to s j sender y x) ≡ None
   reply_to_unshown j free x = refl
-  reply_to_unshown j (peer caller) x = search (choice (λ (j : Judged S). rule_of j ≡ Nothing))
+  reply_to_unshown j (peer caller) x = search (choice (λ (j : Judged S). rule_of j ≡ None))
 
   -- replies, passed or 24
-  pub reply_unshown : (a : Address) (x : Header) → rule_of (reply s sender a x) ≡ Nothing
+  pub reply_unshown : (a : Address) (x : Header) → rule_of (reply s sender a x) ≡ None
   reply_unshown undirected x = refl
   reply_unshown bus x = refl
   reply_unshown unknown x = refl
   reply_unshown (slot j) x = reply_to_unshown j (get_or s.slots j free) x
 
   -- what goes to everybody
-  pub all_unshown : (m : Message) → rule_of (to_all image s sender m) ≡ Nothing
+  pub all_unshown : (m : Message) → rule_of (to_all image s sender m) ≡ None
   all_unshown m = refl
 
   -- what goes to nobody: 21
@@ -284,13 +277,13 @@ module _ {S : Type 0} (O : Streams S) (image : List ℕ) where
 
 module _ (image : List ℕ) (j : Judgement) where
   -- none matched: 22 or 23
-  pub none_matched : MessageShows image j → j.rule ≡ By Nobody → (j.answer ≡ 22) ⊎ (j.answer ≡ 23)
+  pub none_matched : MessageShows image j → j.rule ≡ Some Nobody → (j.answer ≡ 22) ⊎ (j.answer ≡ 23)
   none_matched (nothing n) e = absurd (unshown n e)
   none_matched (sends uid gids names m h) e = inl (denied Transaction image (transaction_hits image send uid gids names m) j.answer 22 j.rule h e)
   none_matched (receives uid gids names m h) e = inr (denied Transaction image (transaction_hits image receive uid gids names m) j.answer 23 j.rule h e)
 
   -- a rule: one of the transaction section
-  pub rule_inside : (t : Section) (i : ℕ) → MessageShows image j → j.rule ≡ By (Rule t i) → (t ≡ Transaction) × (i < rule_count Transaction image)
+  pub rule_inside : (t : Section) (i : ℕ) → MessageShows image j → j.rule ≡ Some (Rule t i) → (t ≡ Transaction) × (i < rule_count Transaction image)
   rule_inside t i (nothing n) e = absurd (unshown n e)
   rule_inside t i (sends uid gids names m h) e =
       let r = shown_position Transaction image (transaction_hits image send uid gids names m) (not (eqb j.answer 22)) j.rule t i h e in

@@ -1,6 +1,6 @@
 -- The guard's calls, once, over any streams: what each reports and the state that it leaves. Each is asked with a good image and good memory: 50 and 51
 -- come before, in crates/memory/specs/Calls.antt.
-use Rattle.std.specs.Prelude.{Bool, false, cond, List, [], ◌∷◌, ◌++◌, map, ℕ, ◌+◌, ltb, leb, length, get_or, set, replicate}
+use Rattle.std.specs.Prelude.{Bool, false, cond, List, [], ◌∷◌, ◌++◌, map, ℕ, ◌+◌, ltb, leb, length, get_or, set, replicate, Some, None}
 use Rattle.wire.specs.Bytes.{same}
 use Rattle.policy.specs.Names.{owns}
 use Rattle.policy.specs.Decisions.{connect_decision, own_decision}
@@ -10,7 +10,6 @@ use Rattle.rules.specs.State.{Slot, free, peer, Peer, State, is_free, is_peer, f
 use Rattle.rules.specs.Addresses.{ownable}
 use Rattle.rules.specs.Pending.{is_to, expired, remove_calls, count_in}
 use Rattle.rules.specs.Judge.{refusal, judged}
-use Rattle.rules.specs.declared.Shown.TheVariants.{Nothing, By}
 use Rattle.rules.specs.declared.Connected.{Connected}
 use Rattle.rules.specs.declared.Owned.{Owned}
 use Rattle.rules.specs.declared.Taken.{Taken}
@@ -33,11 +32,11 @@ empty = record { last = 0; tick = 0; slots = replicate 16 free }
 
 -- a refused connect reports its answer and zeros (rule 8.1)
 abbrev pub no_connect : ℕ → Connected
-no_connect a = record { answer = a; number = 0; slot = 0; rule = Nothing }
+no_connect a = record { answer = a; number = 0; slot = 0; rule = None }
 
 -- who decided is shown (rule 8.10)
 abbrev pub connected_by : Decider → Connected → Connected
-connected_by d r = record { answer = r.answer; number = r.number; slot = r.slot; rule = By d }
+connected_by d r = record { answer = r.answer; number = r.number; slot = r.slot; rule = Some d }
 
 abbrev pub connect_by : {S : Type 0} → Decider → Step S Connected → Step S Connected
 connect_by d s = record { state = s.state; result = connected_by d s.result }
@@ -51,7 +50,7 @@ abbrev pub seated : {S : Type 0} → Streams S → State S → ℕ → ℕ → L
 seated O s i uid gids =
     record {
       state = record { last = s.last + 1; tick = s.tick; slots = set s.slots i (peer (newcomer O (s.last + 1) uid gids)) };
-      result = record { answer = 0; number = s.last + 1; slot = i; rule = Nothing };
+      result = record { answer = 0; number = s.last + 1; slot = i; rule = None };
     }
 
 -- i is the lowest free slot, or their count where none is free: that is 38, and tested before 39 (rules 7.1 and 8.3)
@@ -72,11 +71,11 @@ connect O image s uid gids =
 
 -- own's answer, which no rule goes with
 abbrev pub no_own : ℕ → Owned
-no_own a = record { answer = a; rule = Nothing }
+no_own a = record { answer = a; rule = None }
 
 -- who decided is shown (rule 8.10)
 abbrev pub own_by : {S : Type 0} → Decider → Step S ℕ → Step S Owned
-own_by d s = record { state = s.state; result = record { answer = s.result; rule = By d } }
+own_by d s = record { state = s.state; result = record { answer = s.result; rule = Some d } }
 
 -- the slot's peer owns the name (rule 8.4)
 abbrev pub is_owner : {S : Type 0} → List ℕ → Slot S → Bool

@@ -1,5 +1,5 @@
 -- The judgement of a whole message: its answer, its receiver, who decided, and the state that it leaves.
-use Rattle.std.specs.Prelude.{Bool, true, false, cond, ◌&&◌, ◌||◌, List, [], ◌∷◌, ◌++◌, map, ℕ, ◌+◌, ◌*◌, ◌%◌, eqb, ltb, leb, length, get_or}
+use Rattle.std.specs.Prelude.{Bool, true, false, cond, ◌&&◌, ◌||◌, List, [], ◌∷◌, ◌++◌, map, ℕ, ◌+◌, ◌*◌, ◌%◌, eqb, ltb, leb, length, get_or, Some, None}
 use Rattle.header.specs.Codes.{call, return, error}
 use Rattle.header.specs.declared.Header.{Header}
 use Rattle.policy.specs.Names.{bus_name}
@@ -12,7 +12,6 @@ use Rattle.rules.specs.Addresses.{Address, undirected, bus, slot, unknown, resol
 use Rattle.rules.specs.Pending.{awaits, ended}
 use Rattle.rules.specs.declared.Receiver.{Receiver}
 use Rattle.rules.specs.declared.Receiver.TheVariants as to
-use Rattle.rules.specs.declared.Shown.TheVariants.{Nothing, By}
 use Rattle.rules.specs.declared.Judgement.{Judgement}
 
 pub record Judged (S : Type 0) : Type 0 where
@@ -21,7 +20,7 @@ pub record Judged (S : Type 0) : Type 0 where
 
 -- an answer that no receiver goes with (rule 7.4), and no rule
 abbrev pub refusal : ℕ → Judgement
-refusal a = record { answer = a; receiver = to.Nobody; rule = Nothing }
+refusal a = record { answer = a; receiver = to.Nobody; rule = None }
 
 -- a refused message changes nothing
 abbrev pub refused : {S : Type 0} → State S → ℕ → Judged S
@@ -29,11 +28,11 @@ refused s a = record { judgement = refusal a; state = s }
 
 -- a message that passes is answered 0 with its receiver (rule 7.4)
 abbrev pub passed : {S : Type 0} → State S → Receiver → Judged S
-passed s r = record { judgement = record { answer = 0; receiver = r; rule = Nothing }; state = s }
+passed s r = record { judgement = record { answer = 0; receiver = r; rule = None }; state = s }
 
 -- who decided is shown (rule 7.12)
 abbrev pub judgement_by : Decider → Judgement → Judgement
-judgement_by d j = record { answer = j.answer; receiver = j.receiver; rule = By d }
+judgement_by d j = record { answer = j.answer; receiver = j.receiver; rule = Some d }
 
 abbrev pub judged_by : {S : Type 0} → Decider → Judged S → Judged S
 judged_by d j = record { judgement = judgement_by d j.judgement; state = j.state }

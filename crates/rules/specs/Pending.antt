@@ -1,5 +1,5 @@
 -- Calls that await their replies.
-use Rattle.std.specs.Prelude.{Bool, true, false, cond, ◌&&◌, List, [], ◌∷◌, ℕ, ◌+◌, ◌-◌, eqb, leb, length}
+use Rattle.std.specs.Prelude.{Bool, cond, ◌&&◌, List, [], ◌∷◌, ℕ, ◌+◌, ◌-◌, eqb, leb, length}
 use Rattle.wire.specs.Lists.{any}
 use Rattle.rules.specs.State.{Pending, Slot, free, peer, drop_first, with_pending}
 

@@ -1,8 +1,7 @@
 -- Reports as numbers, for what is written and printed, and whether an offering goes on after one (rules 7.4, 8.11 and 9.5).
-use Rattle.std.specs.Prelude.{Bool, not, ◌&&◌, ◌||◌, List, [], ◌∷◌, ◌++◌, ℕ, eqb, leb, ltb, length}
+use Rattle.std.specs.Prelude.{Bool, not, ◌&&◌, ◌||◌, List, [], ◌∷◌, ◌++◌, ℕ, eqb, leb, ltb, length, Option, Some, None}
 use Rattle.policy.specs.Decisions.{decider_words}
-use Rattle.rules.specs.declared.Shown.{Shown}
-use Rattle.rules.specs.declared.Shown.TheVariants.{Nothing, By}
+use Rattle.policy.specs.declared.Decider.{Decider}
 use Rattle.rules.specs.declared.Receiver.{Receiver}
 use Rattle.rules.specs.declared.Receiver.TheVariants as to
 use Rattle.rules.specs.declared.Connected.{Connected}
@@ -19,9 +18,9 @@ receiver_words (to.Peer n) = 2 ∷ n ∷ 0 ∷ []
 receiver_words (to.Slots mask count) = 3 ∷ mask ∷ count ∷ []
 
 -- who decided, in two numbers, and zeros where nothing is shown (rule 6.9)
-abbrev pub shown_words : Shown → List ℕ
-shown_words Nothing = 0 ∷ 0 ∷ []
-shown_words (By d) = decider_words d
+abbrev pub shown_words : Option Decider → List ℕ
+shown_words None = 0 ∷ 0 ∷ []
+shown_words (Some d) = decider_words d
 
 -- ---- a report in seven words: answer, bytes taken, a receiver or what is reported in its place, and who decided (rule 8.11)
 

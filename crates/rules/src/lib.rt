@@ -20,19 +20,12 @@ pub enum Receiver {
     Slots(u16, u32),
 }
 
-// Who decided, where a report shows it.
-#[derive(Clone, Copy)]
-pub enum Shown {
-    Nothing,
-    By(Decider),
-}
-
-// An answer number, the receiver, and who decided.
+// An answer number, the receiver, and who decided, where a report shows it.
 #[derive(Clone, Copy)]
 pub struct Judgement {
     pub answer: u8,
     pub receiver: Receiver,
-    pub rule: Shown,
+    pub rule: Option<Decider>,
 }
 
 // What connect reports: the peer's number and its slot, 0s where it is refused, and who decided.
@@ -41,14 +34,14 @@ pub struct Connected {
     pub answer: u8,
     pub number: u32,
     pub slot: usize,
-    pub rule: Shown,
+    pub rule: Option<Decider>,
 }
 
 // What own reports: its answer, and who decided.
 #[derive(Clone, Copy)]
 pub struct Owned {
     pub answer: u8,
-    pub rule: Shown,
+    pub rule: Option<Decider>,
 }
 
 // Who decided, in two numbers.
@@ -92,7 +85,7 @@ pub fn refused(answer: u8) -> Judgement
     Judgement {
         answer,
         receiver: Receiver::Nobody,
-        rule: Shown::Nothing,
+        rule: None,
     }
 }
 
@@ -104,7 +97,7 @@ pub fn judged_by(rule: Decider, judgement: Judgement) -> Judgement
     Judgement {
         answer: judgement.answer,
         receiver,
-        rule: Shown::By(rule),
+        rule: Some(rule),
     }
 }
 
@@ -115,7 +108,7 @@ pub fn no_connect(answer: u8) -> Connected
         answer,
         number: 0,
         slot: 0,
-        rule: Shown::Nothing,
+        rule: None,
     }
 }
 
@@ -127,17 +120,14 @@ pub fn connected_by(rule: Decider, connected: Connected) -> Connected
         answer: connected.answer,
         number: connected.number,
         slot: connected.slot,
-        rule: Shown::By(rule),
+        rule: Some(rule),
     }
 }
 
 pub fn no_own(answer: u8) -> Owned
     ensures { result ≡ no_own answer }
 {
-    Owned {
-        answer,
-        rule: Shown::Nothing,
-    }
+    Owned { answer, rule: None }
 }
 
 pub fn no_piece(answer: u8) -> Taken
@@ -147,7 +137,7 @@ pub fn no_piece(answer: u8) -> Taken
         judgement: Judgement {
             answer,
             receiver: Receiver::Nobody,
-            rule: Shown::Nothing,
+            rule: None,
         },
         taken: 0,
     }
@@ -179,15 +169,15 @@ fn decider_numbers(decider: Decider) -> RuleNumbers
 }
 
 // Who decided, in two numbers, and zeros where nothing is shown.
-pub fn rule_numbers(shown: Shown) -> RuleNumbers
+pub fn rule_numbers(shown: Option<Decider>) -> RuleNumbers
     ensures { result.kind ∷ result.position ∷ [] ≡ shown_words shown }
 {
     match shown {
-        Shown::Nothing => RuleNumbers {
+        None => RuleNumbers {
             kind: 0,
             position: 0,
         },
-        Shown::By(decider) => decider_numbers(decider),
+        Some(decider) => decider_numbers(decider),
     }
 }
 

@@ -1,13 +1,6 @@
 -- A call that waits, and a reply that ends the wait.
-use mathlib.Core.Path.{◌≡◌, refl, sym, ◌∙◌}
-use mathlib.Core.List.{List}
-use Prim.Native.Nat.{ℕ, ◌≤◌, ◌<◌}
-use native.Mathlib.Omega.{arith}
-use native.Mathlib.Nat.{zero-add}
-use lib.Dec.{ltb}
-use lib.ListN.{length}
-use borrow.Author.Rules.{rules}
-use borrow.Author.Tests.{le-leb, lt-leb, lt-ltb, le-ltb}
+use Rattle.std.proofs.Common.{◌≡◌, refl, sym, ◌∙◌, List, ℕ, ◌≤◌, ◌<◌, arith, zero-add, ltb, length, rules, le-leb, lt-ltb, le-ltb, None}
+use borrow.Author.Tests.{lt-leb}
 use Rattle.wire.proofs.Words.{Octets}
 use Rattle.header.specs.declared.Header.{Header}
 use Rattle.rules.specs.State.{first_by}
@@ -15,7 +8,6 @@ use Rattle.rules.specs.Pending.{is_call, awaits}
 use Rattle.rules.specs.Judge.{refusal}
 use Rattle.rules.specs.declared.Judgement.{Judgement}
 use Rattle.rules.specs.declared.Receiver.TheVariants as to
-use Rattle.rules.specs.declared.Shown.TheVariants.{Nothing}
 use Rattle.rules.proofs.Waits.{awaits_first}
 use Rattle.memory.specs.Encoding.{state_of}
 use Rattle.memory.specs.Places.{number_at}
@@ -52,7 +44,7 @@ module _ {m : List ℕ} {i n : ℕ} (g : Seated m i) (h : n ≡ length (peer_at 
         let t = le-leb 16 (length (peer_at m i).pending) (omega arith) in
         record { left = λ p x e y. rw (e, y, waits_is h a, le-ltb f n l, t) (left_as_is g b q) }
 
-    pub wait_begins : n < 16 → {m' : List ℕ} → Began m i c s m' → Waits m i c s (record { answer = 0; receiver = to.Peer c; rule = Nothing }) m'
+    pub wait_begins : n < 16 → {m' : List ℕ} → Began m i c s m' → Waits m i c s (record { answer = 0; receiver = to.Peer c; rule = None }) m'
     wait_begins k z =
         let t = lt-leb 16 (length (peer_at m i).pending) (omega arith) in
         record { left = λ p x e y. rw (e, y, waits_is h a, le-ltb f n l, t) (record { judgement = refl; memory = z.is }) }
@@ -67,7 +59,7 @@ module _ {m : List ℕ} {i j : ℕ} (p : Seated m i) (x : Header) (b : Octets m)
   reply_none l q = record { left = rw (← e, waits_is h a, le-ltb f n l) (left_as_is p b q) }
 
   pub reply_ends : f < n → {d : ℕ} → d ≡ number_at m j → {m' : List ℕ} → CallRemoved m j f m'
-      → RepliesTo m i j x (record { answer = 0; receiver = to.Peer d; rule = Nothing }) m'
+      → RepliesTo m i j x (record { answer = 0; receiver = to.Peer d; rule = None }) m'
   reply_ends l q g =
       let w = ended_without c x.reply_serial (peer_at m j).pending in
       record { left = rw (← e, waits_is h a, lt-ltb f n l) (record { judgement = rw q; memory = rw (w, place h a) g.is }) }

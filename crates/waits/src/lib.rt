@@ -12,7 +12,7 @@ use memory::{
     CALL_WIDTH, FIRST_CALLEE, PENDING_AT, PENDING_LENGTH, SERIAL_OFFSET, SLOT_LENGTH, SLOTS_AT,
     TICK_OFFSET,
 };
-use rules::{Judgement, Receiver, Shown, refused};
+use rules::{Judgement, Receiver, refused};
 
 // Writes a pending call at a place.
 fn put_call(memory: &mut [u8], at: usize, callee: u32, serial: u32, tick: u64)
@@ -72,7 +72,7 @@ pub fn wait(memory: &mut [u8], i: usize, callee: u32, serial: u32) -> Judgement
     Judgement {
         answer: 0,
         receiver: Receiver::Peer(callee),
-        rule: Shown::Nothing,
+        rule: None,
     }
 }
 
@@ -92,6 +92,6 @@ pub fn reply_to(memory: &mut [u8], i: usize, j: usize, header: Header) -> Judgem
     Judgement {
         answer: 0,
         receiver: Receiver::Peer(caller),
-        rule: Shown::Nothing,
+        rule: None,
     }
 }

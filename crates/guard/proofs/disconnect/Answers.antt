@@ -1,32 +1,16 @@
--- `guard::disconnect` meets its contract.
+use Rattle.std.proofs.Common.{rules}
+use Rattle.rules.specs.Calls.{no_gone}
 use Rattle.memory.specs.Calls.{disconnect_on}
-use Rattle.guard.proofs.Tested.{calls}
+use Rattle.guard.proofs.Tested.{memory_refused, calls}
 use Rattle.guard.proofs.disconnect.Goals as goal
 
-pub is_good-requires : goal.is_good-requires
-unfolding disconnect_on
-is_good-requires c = search calls
-
-pub no_gone-requires : goal.no_gone-requires
-unfolding disconnect_on
-no_gone-requires c = search calls
-
-pub shape_of-memory-then-not-is_good : goal.shape_of-memory-then-not-is_good
-unfolding disconnect_on
-shape_of-memory-then-not-is_good c = search calls
-
-pub returns-then-not-is_good : goal.returns-then-not-is_good
-unfolding disconnect_on
-returns-then-not-is_good c = search calls
-
 pub disconnect-requires : goal.disconnect-requires
-unfolding disconnect_on
 disconnect-requires c = search calls
 
-pub shape_of-memory : goal.shape_of-memory
+pub returns-in-Ok : goal.returns-in-Ok
 unfolding disconnect_on
-shape_of-memory c = search calls
+returns-in-Ok c = search calls
 
-pub returns : goal.returns
+pub returns-in-Err : goal.returns-in-Err
 unfolding disconnect_on
-returns c = search calls
+returns-in-Err c = search (memory_refused no_gone, rules)

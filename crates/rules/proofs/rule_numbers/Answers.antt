@@ -11,8 +11,8 @@ enum_known-shown c = search numbers
 pub decider_numbers-requires : goal.decider_numbers-requires
 decider_numbers-requires c = search numbers
 
-pub returns-in-Nothing : goal.returns-in-Nothing
-returns-in-Nothing c = search numbers
+pub returns-in-None : goal.returns-in-None
+returns-in-None c = search numbers
 
-pub returns-in-By : goal.returns-in-By
-returns-in-By c = search numbers
+pub returns-in-Some : goal.returns-in-Some
+returns-in-Some c = search numbers

@@ -1,9 +1,0 @@
--- `places::plain` meets its contract.
-use Rattle.places.proofs.Numbers.{saying}
-use Rattle.places.proofs.plain.Goals as goal
-
-pub own_report-requires : goal.own_report-requires
-own_report-requires c = search saying
-
-pub returns : goal.returns
-returns c = search saying
