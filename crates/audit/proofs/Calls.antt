@@ -2,9 +2,9 @@
 use mathlib.Core.Path.{◌≡◌, refl, sym, ◌∙◌}
 use mathlib.Core.Bool.{Bool, true, false, not, ◌&&◌, and-false}
 use mathlib.Core.List.{List, [], ◌∷◌}
-use Prim.Native.Nat.{ℕ, zero, suc, ◌+◌, ◌-◌, ◌≤◌, ◌<◌}
+use Prim.Native.Nat.{ℕ, min, zero, suc, ◌+◌, ◌-◌, ◌≤◌, ◌<◌}
 use native.Mathlib.Omega.{arith}
-use Rattle.std.proofs.Common.{Option, is_none, leb}
+use Rattle.std.proofs.Common.{Option, is_some, leb}
 use lib.ListN.{length, drop, length-drop, drop_of_length-le}
 use borrow.Author.Rules.{rules}
 use borrow.Author.Tests.{le-leb, lt-leb, lt-ltb, le-ltb, leb-true, ne_eqb, not-true, not-false}
@@ -23,7 +23,7 @@ use Rattle.slots.specs.Slots.{peer_at, FoundIn}
 use Rattle.slots.proofs.Cells.{calls_next}
 use Rattle.slots.proofs.Searches.{found_some}
 use Rattle.audit.specs.Tests.{callee_at, serial_at, call_tick_at, Above, call_test}
-use Rattle.audit.proofs.Found.{found_any, not_some, some_not}
+use Rattle.audit.proofs.Found.{found_any, not_not}
 
 -- a serial below all those of a list is none of them
 below_all : (c s l : ℕ) (ws : List Pending) → s < l → every (λ w. leb l w.serial) ws ≡ true → awaits c s ws ≡ false
@@ -46,18 +46,18 @@ module _ (m : List ℕ) (i j c s t : ℕ) (p : c ≡ callee_at m i j) (q : s ≡
   call_newer n w h = rw (← w, lt-leb n t h, and-false)
 
   module _ (f : Option ℕ) (g : FoundSlot (is_peer c) m 0 f) where
-    pub call_gone : is_none f ≡ true → false ≡ call_test m i j t
+    pub call_gone : {y : Bool} → is_some f ≡ not y → y ≡ true → false ≡ call_test m i j t
     unfolding call_test
-    call_gone h = rw (← p, found_any (is_peer c) m 0 f g, some_not f, h)
+    call_gone e h = rw (← p, found_any (is_peer c) m 0 f g, e, h)
 
-    pub call_first : is_none f ≡ false → (s ≡ 0 → ⊥) → (n : ℕ) → n ≡ call_tick_at m i j → n ≤ t → (l : ℕ) → s < l → Above m i (j + 1) l → true ≡ call_test m i j t
+    pub call_first : {y : Bool} → is_some f ≡ not y → y ≡ false → (s ≡ 0 → ⊥) → (n : ℕ) → n ≡ call_tick_at m i j → n ≤ t → (l : ℕ) → s < l → Above m i (j + 1) l → true ≡ call_test m i j t
     unfolding call_test
-    call_first h z n w o l k a =
+    call_first e h z n w o l k a =
         rw (
           ← p,
           ← q,
           found_any (is_peer c) m 0 f g,
-          some_not f,
+          e,
           h,
           le-leb 1 s (omega arith),
           ← w,
@@ -65,25 +65,26 @@ module _ (m : List ℕ) (i j c s t : ℕ) (p : c ≡ callee_at m i j) (q : s ≡
           below_all c s l (drop (j + 1) (peer_at m i).pending) k a.are,
         )
 
-    pub call_good : is_none f ≡ false → (s ≡ 0 → ⊥) → (n : ℕ) → n ≡ call_tick_at m i j → n ≤ t → (r : Option ℕ)
+    pub call_good : {y : Bool} → is_some f ≡ not y → y ≡ false → (s ≡ 0 → ⊥) → (n : ℕ) → n ≡ call_tick_at m i j → n ≤ t → (r : Option ℕ)
         → FoundIn (is_call c s) (peer_at m i).pending (j + 1) r
-        → is_none r ≡ call_test m i j t
+        → {x : Bool} → is_some r ≡ not x → x ≡ call_test m i j t
     unfolding call_test
-    call_good h z n w o r a =
+    call_good e h z n w o r a {x} d =
         let ps = (peer_at m i).pending in
         rw (
           ← p,
           ← q,
           found_any (is_peer c) m 0 f g,
-          some_not f,
+          e,
           h,
           le-leb 1 s (omega arith),
           ← w,
           le-leb n t o,
           awaits_first c s (drop (j + 1) ps),
           found_some (is_call c s) ps (j + 1) r a,
+          d,
         )
-        (sym (not_some r))
+        (not_not x)
 
 pub ruleset call_tests = (call_gone, call_zero, call_newer, call_first, call_good, rules)
 
@@ -123,12 +124,12 @@ module _ {m : List ℕ} {i tick least j : ℕ} (l : Calling m i tick least j) (h
     unfolding good_pending distinct awaits call_test
     step = rw (calls_next m i (j - 1) calling_inside)
 
-    pub calling_more : not r ≡ false → (s : ℕ) → s ≡ serial_at m i (j - 1) → (n : ℕ) → n ≤ least → n ≤ s → Calling m i tick n (j - 1)
-    calling_more t s q n a b =
+    pub calling_more : not r ≡ false → (s : ℕ) → s ≡ serial_at m i (j - 1) → (n : ℕ) → n ≡ min least s → Calling m i tick n (j - 1)
+    calling_more t s q n a =
         record {
           few = l.few;
           inside = omega (arith, l.inside);
-          above = record { are = above_next n a (omega arith) };
+          above = record { are = above_next n (omega arith) (omega arith) };
           good = step ∙ rw (← e, not-false r t, back) l.good;
         }
       where

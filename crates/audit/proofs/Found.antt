@@ -1,5 +1,5 @@
 -- Whether a slot passes, by what a search came to.
-use Rattle.std.proofs.Common.{◌≡◌, refl, sym, ap, ◌∙◌, Option, Some, None, is_some, is_none, IfSome, unwrap_or, ◌<◌}
+use Rattle.std.proofs.Common.{◌≡◌, refl, sym, ap, ◌∙◌, Option, Some, None, is_some, true, false, IfSome, unwrap_or, ◌<◌}
 use mathlib.Core.Bool.{Bool, not}
 use mathlib.Core.List.{List}
 use Prim.Native.Nat.{ℕ, ◌-◌}
@@ -17,13 +17,9 @@ use Rattle.memory.proofs.Reading.{sixteen}
 use Rattle.memory.specs.Places.{FoundSlot}
 use Rattle.slots.proofs.Cells.{before}
 
-pub not_some : {A : Type 0} (r : Option A) → not (is_some r) ≡ is_none r
-not_some None = refl
-not_some (Some x) = refl
-
-pub some_not : {A : Type 0} (r : Option A) → is_some r ≡ not (is_none r)
-some_not None = refl
-some_not (Some x) = refl
+pub not_not : (z : Bool) → z ≡ not (not z)
+not_not true = refl
+not_not false = refl
 
 pub found_any : (t : Slot Tail → Bool) (m : List ℕ) (from : ℕ) (r : Option ℕ) → FoundSlot t m from r → any t (drop from (state_of m).slots) ≡ is_some r
 found_any t m from r f =

@@ -71,21 +71,22 @@ module _ (m : List ℕ) (i n last tick : ℕ) (e : n ≡ number_at m i) where
   peer_high h = rw (← e, lt-leb n last h, and-false)
 
   module _ (h : i < 16) (f : Option ℕ) (g : FoundSlot (is_peer n) m (i + 1) f) where
-    pub peer_twice : is_some f ≡ true → false ≡ good_peer (state_of m).slots last tick (peer_at m i) (drop (i + 1) (state_of m).slots)
+    pub peer_twice : {y : Bool} → y ≡ is_some f → y ≡ true → false ≡ good_peer (state_of m).slots last tick (peer_at m i) (drop (i + 1) (state_of m).slots)
     unfolding good_peer
-    peer_twice k = rw (← e, found_any (is_peer n) m (i + 1) f g, k, and-false)
+    peer_twice d k = rw (← e, found_any (is_peer n) m (i + 1) f g, ← d, k, and-false)
 
-    pub peer_good : 1 ≤ n → n ≤ last → is_some f ≡ false → (p q r : Bool) → p ≡ good_pending (state_of m).slots tick (peer_at m i).pending
+    pub peer_good : 1 ≤ n → n ≤ last → {y : Bool} → y ≡ is_some f → y ≡ false → (p q r : Bool) → p ≡ good_pending (state_of m).slots tick (peer_at m i).pending
         → q ≡ good_names (peer_at m i).names (drop (i + 1) (state_of m).slots)
         → r ≡ good_tail (peer_at m i).stream
         → p && q && r ≡ good_peer (state_of m).slots last tick (peer_at m i) (drop (i + 1) (state_of m).slots)
     unfolding good_peer
-    peer_good a b c p q r x y z =
+    peer_good a b d c p q r x y z =
         rw (
           ← e,
           le-leb 1 n a,
           le-leb n last b,
           found_any (is_peer n) m (i + 1) f g,
+          ← d,
           c,
           le-leb (length (peer_at m i).gids) gid_room (omega (arith, gids_many m (slot_start i))),
           le-leb (length (peer_at m i).pending) call_room (omega (arith, pending_many m (slot_start i))),

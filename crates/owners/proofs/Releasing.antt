@@ -1,4 +1,5 @@
 -- Each way through release.
+use Rattle.std.proofs.Common.{Some, None}
 use mathlib.Core.Path.{◌≡◌, refl, sym, ap, ◌∙◌}
 use mathlib.Core.Bool.{Bool, true, false, not}
 use mathlib.Core.List.{List, ◌++◌}
@@ -75,19 +76,19 @@ pub ruleset giving = (give_none, give_table, give_done, rules)
 
 -- ---- 30, 31
 
-module _ (m : List ℕ) (f : Octets m) (g : Held m) (n i : ℕ) (e : FoundSlot (is_peer n) m 0 i) (name : List ℕ) where
-  pub release_none : i ≡ 16 → Did (stored (release (state_of m) n name)) 30 m
+module _ (m : List ℕ) (f : Octets m) (g : Held m) (n : ℕ) (name : List ℕ) where
+  pub release_none : FoundSlot (is_peer n) m 0 None → Did (stored (release (state_of m) n name)) 30 m
   unfolding release
-  release_none q = did_stay m f g 30 (release (state_of m) n name) (rw (peer_none n m i e q))
+  release_none e = did_stay m f g 30 (release (state_of m) n name) (rw (peer_none n m e))
 
-  module _ (q : i ≡ 16 → ⊥) (b : Bool) (eb : b ≡ ownable name) where
+  module _ (i : ℕ) (e : FoundSlot (is_peer n) m 0 (Some i)) (b : Bool) (eb : b ≡ ownable name) where
     pub release_bad : not b ≡ true → Did (stored (release (state_of m) n name)) 31 m
     unfolding release
     release_bad t =
-        did_stay m f g 31 (release (state_of m) n name) (rw (peer_place n m i e q, peer_some n m i e q, ← eb, not-true b t))
+        did_stay m f g 31 (release (state_of m) n name) (rw (peer_place n m i e, peer_some n m i e, ← eb, not-true b t))
 
     pub release_given : not b ≡ false → (r : ℕ) (m₁ : List ℕ) → Did (stored (given_up m i name)) r m₁ → Did (stored (release (state_of m) n name)) r m₁
     unfolding release given_up
-    release_given t r m₁ x = rw (peer_place n m i e q, peer_some n m i e q, ← eb, not-false b t) x
+    release_given t r m₁ x = rw (peer_place n m i e, peer_some n m i e, ← eb, not-false b t) x
 
 pub ruleset releasing = (release_none, release_bad, release_given, peer_seated, rules)
