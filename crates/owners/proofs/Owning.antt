@@ -14,7 +14,7 @@ use Rattle.policy.specs.Decisions.{own_decision}
 use Rattle.policy.specs.declared.Uid.{Uid}
 use Rattle.policy.specs.declared.Decision.{Decision}
 use Rattle.decide.specs.Rulings.{decision_of}
-use Rattle.rules.specs.State.{is_peer}
+use Rattle.rules.specs.State.{is_peer, first_by}
 use Rattle.rules.specs.Addresses.{ownable}
 use Rattle.rules.specs.Calls.{is_owner, no_own, own}
 use Rattle.rules.specs.declared.Owned.{Owned}
@@ -28,8 +28,7 @@ use Rattle.memory.proofs.Find.{found_first}
 use Rattle.memory.proofs.Frame.{cell_length}
 use Rattle.memory.proofs.Again.{ownable_short}
 use Rattle.memory.proofs.Puts.{names_stand, name_appended}
-use Rattle.slots.specs.Slots.{peer_at, Seated, GidsOf}
-use Rattle.slots.specs.declared.Gids.{Gids}
+use Rattle.slots.specs.Slots.{peer_at, Seated}
 use Rattle.owners.specs.Writes.{name_bytes, Naming}
 use Rattle.owners.specs.Steps.{granted, claimed, obtained}
 use Rattle.slots.proofs.Found.{did_stay, peer_none, peer_place, peer_some, peer_seated, counted}
@@ -37,17 +36,12 @@ use Rattle.slots.proofs.Zeros.{zero_rest}
 
 -- ---- what the policy is asked
 
-pub own_front : (image : List ℕ) (uid : Uid) (gids : List ℕ) (count : ℕ) (name : List ℕ) (n : ℕ)
-    → decision_of Own n ≡ own_decision image uid (take (count - 0) gids) name
-    → (r : Decision) → r ≡ decision_of Own n → r ≡ own_decision image uid (take count gids) name
-own_front image uid gids count name n e r q = q ∙ e ∙ rw (sub-zero count)
+pub own_is : (image m name gids : List ℕ) (i u n : ℕ) → gids ≡ (peer_at m i).gids → u ≡ word_at Little m (slot_start i + uid_at)
+    → decision_of Own n ≡ own_decision image (record { 0 = u }) gids name
+    → (r : Decision) → r ≡ decision_of Own n → r ≡ own_decision image (record { 0 = (peer_at m i).uid }) (peer_at m i).gids name
+own_is image m name gids i u n h e d r q = q ∙ d ∙ rw (h, e)
 
-pub own_is : (image m name : List ℕ) (i u : ℕ) (g : Gids) (r : Decision) → GidsOf m i g → u ≡ word_at Little m (slot_start i + uid_at)
-    → r ≡ own_decision image (record { 0 = u }) (take g.count g.list) name
-    → r ≡ own_decision image (record { 0 = (peer_at m i).uid }) (peer_at m i).gids name
-own_is image m name i u g r h e q = q ∙ rw (h.are, e)
-
-pub ruleset asking = (own_front, own_is, rules)
+pub ruleset asking = (own_is, rules)
 
 -- ---- a name behind its length
 

@@ -6,4 +6,4 @@ pub returns-in_default : goal.returns-in_default
 returns-in_default c = search disconnecting
 
 pub returns : goal.returns
-returns c = search disconnecting
+returns c = search (disconnecting, c.in-Some.ensures)

@@ -9,7 +9,7 @@ pub returns-then-last : goal.returns-then-last
 returns-then-last c = search entering
 
 pub admit-requires : goal.admit-requires
-admit-requires c = search entering
+admit-requires c = search (entering, c.in-Some.ensures)
 
 pub returns : goal.returns
-returns c = search entering
+returns c = search (entering, c.in-Some.ensures)
