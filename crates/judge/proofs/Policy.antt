@@ -26,10 +26,10 @@ use Rattle.slots.specs.Slots.{peer_at, Seated}
 use Rattle.judge.specs.Steps.{Asks, Says, ToBus, Reaches}
 
 pub asks_peer : (image : List ℕ) (direction : ℕ) (m : List ℕ) (i : ℕ) (names head : List ℕ) (x : Header) {u : ℕ} {gids : List ℕ}
-    → u ≡ word_at Little m (slot_start i + uid_at) → gids ≡ (peer_at m i).gids → {n : ℕ}
+    → u ≡ word_at Little m (slot_start i + uid_at) → gids ≡ (peer_at m i).gids → (n : ℕ)
     → decision_of Transaction n ≡ transaction_decision image direction (record { 0 = u }) gids (names_in names) (message_of head x)
     → {r : Decision} → r ≡ decision_of Transaction n → Asks image direction m i names head x r
-asks_peer image direction m i names head x e g d q = record { is = q ∙ d ∙ rw (e, g) }
+asks_peer image direction m i names head x e g n d q = record { is = q ∙ d ∙ rw (e, g) }
 
 pub ruleset asking_peer = (asks_peer, rules)
 

@@ -1,5 +1,5 @@
 -- Each way through release.
-use Rattle.std.proofs.Common.{Some, None}
+use Rattle.std.proofs.Common.{Some, None, Fits, w64}
 use mathlib.Core.Path.{◌≡◌, refl, sym, ap, ◌∙◌}
 use mathlib.Core.Bool.{Bool, true, false, not}
 use mathlib.Core.List.{List, ◌++◌}
@@ -40,6 +40,11 @@ module _ (m : List ℕ) (f : Octets m) (i : ℕ) (g : Seated m i) (name : List �
   unfolding given_up
   give_none a = did_stay m f g.held 35 (given_up m i name) (rw (← owns_found m i 0 name None a))
 
+  pub give_fits : (j : ℕ) → FoundIn (λ x. same x name) (peer_at m i).names 0 (Some j) → Fits w64 (name_width * j)
+  give_fits j a =
+      let h : j < length (peer_at m i).names = a.inside in
+      record { fits = omega (arith, (counted m i g).names, (counted m i g).few_names) }
+
   module _ (j : ℕ) (a : FoundIn (λ x. same x name) (peer_at m i).names 0 (Some j)) (n : ℕ) (en : n ≡ word_at Little m (slot_start i + names_at)) where
     many : length (peer_at m i).names ≡ n
     many = (counted m i g).names ∙ sym en
@@ -76,7 +81,7 @@ module _ (m : List ℕ) (f : Octets m) (i : ℕ) (g : Seated m i) (name : List �
         ∙ sym (names_put m (octets_below m f) g.held i g.below g.some (without j ns)) in
         rw (← owns_found m i 0 name (Some j) a, o) (record { result = refl; memory = z })
 
-pub ruleset giving = (give_none, give_few, give_one, give_at, give_table, give_done, rules)
+pub ruleset giving = (give_none, give_fits, give_few, give_one, give_at, give_table, give_done, rules)
 
 -- ---- 30, 31
 

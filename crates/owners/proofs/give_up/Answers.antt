@@ -13,3 +13,6 @@ remove-requires c = search (giving, c.in-Some.ensures)
 
 pub returns : goal.returns
 returns c = search (giving, c.in-Some.ensures)
+
+pub overflow_mul-j : goal.overflow_mul-j
+overflow_mul-j c = search (giving, c.in-Some.ensures)
