@@ -1,4 +1,5 @@
 -- Who answers to a text, and where a message goes.
+use Rattle.std.proofs.Common.{Some, None}
 use mathlib.Core.Path.{◌≡◌, sym, ap, ◌∙◌}
 use mathlib.Core.Bool.{Bool, true, false, false≢true}
 use mathlib.Core.List.{List}
@@ -15,7 +16,6 @@ use Rattle.rules.specs.Calls.{slot_at}
 use Rattle.memory.specs.Encoding.{state_of}
 use Rattle.memory.specs.Places.{number_at, FoundSlot}
 use Rattle.memory.proofs.Reading.{sixteen, slot_free, slot_peer}
-use Rattle.memory.proofs.Search.{looking_begins, tested_hit, tested_miss, tested_ends}
 use Rattle.memory.proofs.Find.{found_first, found_passes}
 use Rattle.slots.specs.Slots.{peer_at}
 use Rattle.addresses.specs.declared.Destination.TheVariants.{Absent, Bus, At, Unknown}
@@ -39,16 +39,12 @@ module _ (text m : List ℕ) (i : ℕ) (h : i < 16) (n : ℕ) (e : n ≡ number_
 
 pub ruleset answering = (answers_free, answers_unique, answers_name, rules)
 
--- ---- the first
-
-pub ruleset addressees = (looking_begins, tested_hit, tested_miss, tested_ends, rules)
-
 -- ---- the destination
 
 -- who answers to a text is a peer
-answers_some : (text m : List ℕ) (j : ℕ) → FoundSlot (answers_to text) m 0 j → j < 16 → number_at m j ≡ 0 → ⊥
+answers_some : (text m : List ℕ) (j : ℕ) → FoundSlot (answers_to text) m 0 (Some j) → number_at m j ≡ 0 → ⊥
 unfolding answers_to
-answers_some text m j f h z = false≢true (ap (answers_to text) (sym (slot_free m j h z)) ∙ found_passes (answers_to text) m 0 j f h)
+answers_some text m j f z = false≢true (ap (answers_to text) (sym (slot_free m j f.inside z)) ∙ found_passes (answers_to text) m 0 j f)
 
 pub resolved_absent : (m head : List ℕ) (p : Place) → p.at ≡ 0 → Resolved m head p Absent
 unfolding resolve
@@ -67,17 +63,17 @@ module _ (m head : List ℕ) (p : Place) (z : p.at ≡ 0 → ⊥) where
     unfolding resolve
     resolved_bus t = record { is = rw (ne_eqb p.at 0 z, text_is, ← q, t); stands = tt }
 
-    module _ (t : b ≡ false) {j : ℕ} (f : FoundSlot (answers_to text) m 0 j) where
-      pub resolved_slot : Seeks m head p → j < 16 → Resolved m head p (At j)
+    module _ (t : b ≡ false) where
+      pub resolved_slot : {j : ℕ} → FoundSlot (answers_to text) m 0 (Some j) → Seeks m head p → Resolved m head p (At j)
       unfolding resolve
-      resolved_slot s h =
+      resolved_slot {j} f s =
           record {
-            is = rw (ne_eqb p.at 0 z, text_is, ← q, t, found_first (answers_to text) m j f, sixteen m, lt-ltb j 16 h);
-            stands = record { held = s.held; sized = s.held.sized; below = h; some = answers_some text m j f h };
+            is = rw (ne_eqb p.at 0 z, text_is, ← q, t, found_first (answers_to text) m (Some j) f, sixteen m, lt-ltb j 16 f.inside);
+            stands = record { held = s.held; sized = s.held.sized; below = f.inside; some = answers_some text m j f };
           }
 
-      pub resolved_nobody : 16 ≤ j → Resolved m head p Unknown
+      pub resolved_nobody : FoundSlot (answers_to text) m 0 None → Resolved m head p Unknown
       unfolding resolve
-      resolved_nobody h = record { is = rw (ne_eqb p.at 0 z, text_is, ← q, t, found_first (answers_to text) m j f, sixteen m, le-ltb j 16 h); stands = tt }
+      resolved_nobody f = record { is = rw (ne_eqb p.at 0 z, text_is, ← q, t, found_first (answers_to text) m None f, sixteen m); stands = tt }
 
 pub ruleset resolving = (resolved_absent, resolved_bus, resolved_slot, resolved_nobody, rules)

@@ -76,19 +76,12 @@ fn answers_to(memory: &[u8], i: usize, text: &[u8]) -> bool
     slots::owns_name(memory, i, text, 0)
 }
 
-// The first slot whose peer answers to the text, or 16.
-fn find_addressee(memory: &[u8], text: &[u8]) -> usize
+// The first slot whose peer answers to the text.
+fn find_addressee(memory: &[u8], text: &[u8]) -> Option<usize>
     requires { length memory.now ≡ memory_length }
     ensures { FoundSlot (answers_to text.now) memory.now 0 result }
 {
-    let mut i = 0;
-    while i < 16 {
-        if answers_to(memory, i, text) {
-            return i;
-        }
-        i += 1;
-    }
-    i
+    (0..16).find(|&i| answers_to(memory, i, text))
 }
 
 // Who is meant by the field at a place of the head.
@@ -105,9 +98,8 @@ pub fn resolve(memory: &[u8], head: &[u8], place: Place) -> Destination
     if policy::is_bus(text) {
         return Destination::Bus;
     }
-    let j = find_addressee(memory, text);
-    if j < 16 {
-        return Destination::At(j);
+    match find_addressee(memory, text) {
+        Some(j) => Destination::At(j),
+        None => Destination::Unknown,
     }
-    Destination::Unknown
 }

@@ -2,9 +2,9 @@
 use mathlib.Core.Path.{◌≡◌, refl, sym, ◌∙◌}
 use mathlib.Core.Bool.{Bool, true, false, not, ◌&&◌, and-false}
 use mathlib.Core.List.{List, [], ◌∷◌}
-use Prim.Native.Nat.{ℕ, zero, suc, ◌+◌, ◌-◌, ◌≤◌, ◌<◌}
+use Prim.Native.Nat.{ℕ, min, zero, suc, ◌+◌, ◌-◌, ◌≤◌, ◌<◌}
 use native.Mathlib.Omega.{arith}
-use lib.Dec.{leb}
+use Rattle.std.proofs.Common.{Option, is_some, leb}
 use lib.ListN.{length, drop, length-drop, drop_of_length-le}
 use borrow.Author.Rules.{rules}
 use borrow.Author.Tests.{le-leb, lt-leb, lt-ltb, le-ltb, leb-true, ne_eqb, not-true, not-false}
@@ -19,10 +19,11 @@ use Rattle.rules.proofs.Waits.{awaits_first}
 use Rattle.memory.specs.Encoding.{state_of}
 use Rattle.memory.specs.Good.{good_pending}
 use Rattle.memory.specs.Places.{FoundSlot}
-use Rattle.slots.specs.Slots.{peer_at, CallAt}
-use Rattle.slots.proofs.Cells.{calls_next, before}
+use Rattle.slots.specs.Slots.{peer_at, FoundIn}
+use Rattle.slots.proofs.Cells.{calls_next}
+use Rattle.slots.proofs.Searches.{found_some}
 use Rattle.audit.specs.Tests.{callee_at, serial_at, call_tick_at, Above, call_test}
-use Rattle.audit.proofs.Found.{found_any, not_ltb}
+use Rattle.audit.proofs.Found.{found_any, not_not}
 
 -- a serial below all those of a list is none of them
 below_all : (c s l : ℕ) (ws : List Pending) → s < l → every (λ w. leb l w.serial) ws ≡ true → awaits c s ws ≡ false
@@ -44,46 +45,46 @@ module _ (m : List ℕ) (i j c s t : ℕ) (p : c ≡ callee_at m i j) (q : s ≡
   unfolding call_test
   call_newer n w h = rw (← w, lt-leb n t h, and-false)
 
-  module _ (f : ℕ) (g : FoundSlot (is_peer c) m 0 f) where
-    pub call_gone : 16 ≤ f → false ≡ call_test m i j t
+  module _ (f : Option ℕ) (g : FoundSlot (is_peer c) m 0 f) where
+    pub call_gone : {y : Bool} → is_some f ≡ not y → y ≡ true → false ≡ call_test m i j t
     unfolding call_test
-    call_gone h = rw (← p, found_any (is_peer c) m 0 f g, le-ltb f 16 h)
+    call_gone e h = rw (← p, found_any (is_peer c) m 0 f g, e, h)
 
-    pub call_first : f < 16 → (s ≡ 0 → ⊥) → (n : ℕ) → n ≡ call_tick_at m i j → n ≤ t → (l : ℕ) → s < l → Above m i (j + 1) l → true ≡ call_test m i j t
+    pub call_first : {y : Bool} → is_some f ≡ not y → y ≡ false → (s ≡ 0 → ⊥) → (n : ℕ) → n ≡ call_tick_at m i j → n ≤ t → (l : ℕ) → s < l → Above m i (j + 1) l → true ≡ call_test m i j t
     unfolding call_test
-    call_first h z n w o l k a =
+    call_first e h z n w o l k a =
         rw (
           ← p,
           ← q,
           found_any (is_peer c) m 0 f g,
-          lt-ltb f 16 h,
+          e,
+          h,
           le-leb 1 s (omega arith),
           ← w,
           le-leb n t o,
           below_all c s l (drop (j + 1) (peer_at m i).pending) k a.are,
         )
 
-    pub call_good : f < 16 → (s ≡ 0 → ⊥) → (n : ℕ) → n ≡ call_tick_at m i j → n ≤ t → (r k : ℕ) → k ≡ length (peer_at m i).pending
-        → CallAt m i c s (j + 1) r
-        → leb k r ≡ call_test m i j t
+    pub call_good : {y : Bool} → is_some f ≡ not y → y ≡ false → (s ≡ 0 → ⊥) → (n : ℕ) → n ≡ call_tick_at m i j → n ≤ t → (r : Option ℕ)
+        → FoundIn (is_call c s) (peer_at m i).pending (j + 1) r
+        → {x : Bool} → is_some r ≡ not x → x ≡ call_test m i j t
     unfolding call_test
-    call_good h z n w o r k e a =
+    call_good e h z n w o r a {x} d =
         let ps = (peer_at m i).pending in
         rw (
           ← p,
           ← q,
           found_any (is_peer c) m 0 f g,
-          lt-ltb f 16 h,
+          e,
+          h,
           le-leb 1 s (omega arith),
           ← w,
           le-leb n t o,
           awaits_first c s (drop (j + 1) ps),
-          length-drop (j + 1) ps,
-          before (first_by (is_call c s) (drop (j + 1) ps)) (length ps) (j + 1),
-          ← a.is,
-          ← e,
+          found_some (is_call c s) ps (j + 1) r a,
+          d,
         )
-        (sym (not_ltb r k))
+        (not_not x)
 
 pub ruleset call_tests = (call_gone, call_zero, call_newer, call_first, call_good, rules)
 
@@ -123,12 +124,12 @@ module _ {m : List ℕ} {i tick least j : ℕ} (l : Calling m i tick least j) (h
     unfolding good_pending distinct awaits call_test
     step = rw (calls_next m i (j - 1) calling_inside)
 
-    pub calling_more : not r ≡ false → (s : ℕ) → s ≡ serial_at m i (j - 1) → (n : ℕ) → n ≤ least → n ≤ s → Calling m i tick n (j - 1)
-    calling_more t s q n a b =
+    pub calling_more : not r ≡ false → (s : ℕ) → s ≡ serial_at m i (j - 1) → (n : ℕ) → n ≡ min least s → Calling m i tick n (j - 1)
+    calling_more t s q n a =
         record {
           few = l.few;
           inside = omega (arith, l.inside);
-          above = record { are = above_next n a (omega arith) };
+          above = record { are = above_next n (omega arith) (omega arith) };
           good = step ∙ rw (← e, not-false r t, back) l.good;
         }
       where

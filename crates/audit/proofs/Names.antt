@@ -4,7 +4,7 @@ use mathlib.Core.Bool.{Bool, true, false, not, ◌&&◌, and-true, and-false}
 use mathlib.Core.List.{List}
 use Prim.Native.Nat.{ℕ, ◌+◌, ◌*◌, ◌≤◌, ◌<◌}
 use native.Mathlib.Omega.{arith}
-use lib.Dec.{leb}
+use Rattle.std.proofs.Common.{Option, is_some}
 use lib.ListN.{length, drop, get_or, drop_of_length-le}
 use borrow.Author.Rules.{rules}
 use borrow.Author.Tests.{not-true, not-false}
@@ -19,7 +19,7 @@ use Rattle.memory.specs.Places.{FoundSlot}
 use Rattle.slots.specs.Slots.{peer_at, name_at}
 use Rattle.slots.proofs.Cells.{names_next}
 use Rattle.audit.specs.Tests.{name_test}
-use Rattle.audit.proofs.Found.{found_any, not_ltb}
+use Rattle.audit.proofs.Found.{found_any, not_not}
 
 -- ---- name j: x is its text
 
@@ -34,10 +34,10 @@ module _ (m : List ℕ) (i j : ℕ) (x : List ℕ) (is : x ≡ name_at m i j) wh
       unfolding name_test
       name_twice t = rw (← is, ← q, t, and-false)
 
-      pub name_good : not o ≡ false → w ≡ false → (r : ℕ) → FoundSlot (is_owner x) m (i + 1) r → leb 16 r ≡ name_test m i j
+      pub name_good : not o ≡ false → w ≡ false → (r : Option ℕ) → FoundSlot (is_owner x) m (i + 1) r → {z : Bool} → is_some r ≡ not z → z ≡ name_test m i j
       unfolding name_test
-      name_good s t r f =
-          rw (← is, ← p, not-false o s, ← q, t, found_any (is_owner x) m (i + 1) r f, and-true) (sym (not_ltb r 16))
+      name_good s t r f {z} e =
+          rw (← is, ← p, not-false o s, ← q, t, found_any (is_owner x) m (i + 1) r f, e, and-true) (not_not z)
 
 pub ruleset name_tests = (name_bad, name_twice, name_good, rules)
 

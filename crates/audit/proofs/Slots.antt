@@ -4,6 +4,7 @@ use mathlib.Core.Bool.{Bool, true, false, not, ◌&&◌, and-true, and-false}
 use mathlib.Core.List.{List, [], ◌∷◌}
 use Prim.Native.Nat.{ℕ, ◌+◌, ◌-◌, ◌≤◌, min, ◌<◌}
 use native.Mathlib.Omega.{arith}
+use Rattle.std.proofs.Common.{Option, is_some}
 use native.Mathlib.Numerals.{add-one}
 use lib.ListN.{length, take, drop, get_or, drop_of_length-le, length-drop}
 use lib.Seq.{drop-cons, take-take, length-take-le}
@@ -69,23 +70,24 @@ module _ (m : List ℕ) (i n last tick : ℕ) (e : n ≡ number_at m i) where
   unfolding good_peer
   peer_high h = rw (← e, lt-leb n last h, and-false)
 
-  module _ (h : i < 16) (f : ℕ) (g : FoundSlot (is_peer n) m (i + 1) f) where
-    pub peer_twice : f < 16 → false ≡ good_peer (state_of m).slots last tick (peer_at m i) (drop (i + 1) (state_of m).slots)
+  module _ (h : i < 16) (f : Option ℕ) (g : FoundSlot (is_peer n) m (i + 1) f) where
+    pub peer_twice : {y : Bool} → y ≡ is_some f → y ≡ true → false ≡ good_peer (state_of m).slots last tick (peer_at m i) (drop (i + 1) (state_of m).slots)
     unfolding good_peer
-    peer_twice k = rw (← e, found_any (is_peer n) m (i + 1) f g, lt-ltb f 16 k, and-false)
+    peer_twice d k = rw (← e, found_any (is_peer n) m (i + 1) f g, ← d, k, and-false)
 
-    pub peer_good : 1 ≤ n → n ≤ last → 16 ≤ f → (p q r : Bool) → p ≡ good_pending (state_of m).slots tick (peer_at m i).pending
+    pub peer_good : 1 ≤ n → n ≤ last → {y : Bool} → y ≡ is_some f → y ≡ false → (p q r : Bool) → p ≡ good_pending (state_of m).slots tick (peer_at m i).pending
         → q ≡ good_names (peer_at m i).names (drop (i + 1) (state_of m).slots)
         → r ≡ good_tail (peer_at m i).stream
         → p && q && r ≡ good_peer (state_of m).slots last tick (peer_at m i) (drop (i + 1) (state_of m).slots)
     unfolding good_peer
-    peer_good a b c p q r x y z =
+    peer_good a b d c p q r x y z =
         rw (
           ← e,
           le-leb 1 n a,
           le-leb n last b,
           found_any (is_peer n) m (i + 1) f g,
-          le-ltb f 16 c,
+          ← d,
+          c,
           le-leb (length (peer_at m i).gids) gid_room (omega (arith, gids_many m (slot_start i))),
           le-leb (length (peer_at m i).pending) call_room (omega (arith, pending_many m (slot_start i))),
           le-leb (length (peer_at m i).names) name_room (omega (arith, names_many m (slot_start i))),

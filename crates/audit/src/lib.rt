@@ -31,7 +31,7 @@ fn is_name_good(memory: &[u8], i: usize, j: usize) -> bool
     if slots::owns_name(memory, i, name, j + 1) {
         return false;
     }
-    16 <= slots::find_owner(memory, name, i + 1)
+    slots::find_owner(memory, name, i + 1).is_none()
 }
 
 // Every name of slot i is ownable, and stands once from there on.
@@ -40,12 +40,10 @@ fn are_names_good(memory: &[u8], i: usize) -> bool
     ensures { result ≡ good_names (peer_at memory.now i).names (drop (i + 1) (state_of memory.now).slots) }
 {
     let count = slots::count_names(memory, i);
-    let mut j = 0;
-    while j < count {
+    for j in 0..count {
         if !is_name_good(memory, i, j) {
             return false;
         }
-        j += 1;
     }
     true
 }
@@ -59,7 +57,7 @@ fn is_call_good(memory: &[u8], i: usize, j: usize, tick: u64, least: u32) -> boo
 {
     let callee = slots::word_at(memory, i, FIRST_CALLEE + CALL_WIDTH * j);
     let serial = slots::word_at(memory, i, FIRST_SERIAL + CALL_WIDTH * j);
-    if 16 <= slots::find(memory, callee, 0) {
+    if slots::find(memory, callee, 0).is_none() {
         return false;
     }
     if serial == 0 {
@@ -71,13 +69,7 @@ fn is_call_good(memory: &[u8], i: usize, j: usize, tick: u64, least: u32) -> boo
     if serial < least {
         return true;
     }
-    slots::count_pending(memory, i) <= slots::find_pending(memory, i, callee, serial, j + 1)
-}
-
-fn smaller(a: u32, b: u32) -> u32
-    ensures { (result ≤ a) × (result ≤ b) }
-{
-    if a < b { a } else { b }
+    slots::find_pending(memory, i, callee, serial, j + 1).is_none()
 }
 
 // Every pending call of slot i has a connected callee and a serial, is not newer than the tick, and stands once: from the last to the first.
@@ -85,15 +77,13 @@ fn are_calls_good(memory: &[u8], i: usize, tick: u64) -> bool
     requires { At memory.now i }
     ensures { result ≡ good_pending (state_of memory.now).slots tick (peer_at memory.now i).pending }
 {
-    let mut j = slots::count_pending(memory, i);
-    let mut least: u32 = 4294967295;
-    while 0 < j {
-        j -= 1;
+    let mut least = u32::MAX;
+    for j in (0..slots::count_pending(memory, i)).rev() {
         if !is_call_good(memory, i, j, tick, least) {
             return false;
         }
         let serial = slots::word_at(memory, i, FIRST_SERIAL + CALL_WIDTH * j);
-        least = smaller(least, serial);
+        least = least.min(serial);
     }
     true
 }
@@ -139,16 +129,14 @@ fn are_cells_plain(memory: &[u8], i: usize) -> bool
     if NAME_ROOM < n {
         return false;
     }
-    let mut j = 0;
-    while j < n {
+    for j in 0..n {
         if !is_cell_plain(memory, i, j) {
             return false;
         }
-        j += 1;
     }
     wire::is_zero(
         memory,
-        SLOTS_AT + SLOT_LENGTH * i + FIRST_NAME + NAME_WIDTH * j,
+        SLOTS_AT + SLOT_LENGTH * i + FIRST_NAME + NAME_WIDTH * n,
         SLOTS_AT + SLOT_LENGTH * i + TAKEN_AT,
     )
 }
@@ -184,7 +172,7 @@ fn is_stream_good(memory: &[u8], i: usize) -> bool
     ensures { result ≡ good_tail (peer_at memory.now i).stream }
 {
     let taken = slots::word_at(memory, i, TAKEN_AT) as usize;
-    let stored = wire::least(slots::word_at(memory, i, HEAD_AT) as usize, HEAD_ROOM);
+    let stored = (slots::word_at(memory, i, HEAD_AT) as usize).min(HEAD_ROOM);
     let s = Stream { taken, stored };
     let from = SLOTS_AT + SLOT_LENGTH * i + FIRST_BYTE;
     let to = from + HEAD_ROOM;
@@ -199,7 +187,7 @@ fn is_peer_good(memory: &[u8], i: usize, number: u32, last: u32, tick: u64) -> b
     if last < number {
         return false;
     }
-    if slots::find(memory, number, i + 1) < 16 {
+    if slots::find(memory, number, i + 1).is_some() {
         return false;
     }
     are_calls_good(memory, i, tick) & are_names_good(memory, i) & is_stream_good(memory, i)
@@ -230,12 +218,10 @@ pub fn is_good(memory: &[u8]) -> bool
     }
     let last = slots::last_of(memory);
     let tick = slots::tick_of(memory);
-    let mut i = 0;
-    while i < 16 {
+    for i in 0..16 {
         if !is_slot_good(memory, i, last, tick) {
             return false;
         }
-        i += 1;
     }
     true
 }

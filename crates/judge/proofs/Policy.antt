@@ -21,22 +21,14 @@ use Rattle.memory.specs.Places.{number_at}
 use Rattle.memory.proofs.Reading.{slot_free, slot_peer}
 use Rattle.memory.proofs.Held.{held_counted}
 use Rattle.memory.proofs.Names.{names_in_lem}
-use Rattle.slots.specs.Slots.{peer_at, Seated, GidsOf}
-use Rattle.slots.specs.declared.Gids.{Gids}
+use Rattle.slots.specs.Slots.{peer_at, Seated}
 use Rattle.judge.specs.Steps.{Asks, Says, ToBus, Reaches}
 
-pub ask_is : (image : List ℕ) (direction : ℕ) (uid : Uid) (gids : List ℕ) (count : ℕ) (names : List (List ℕ)) (x : Message) (r : Decision)
-    → r ≡ transaction_decision image direction uid (take (count - 0) (drop 0 gids)) names x
-    → r ≡ transaction_decision image direction uid (take count gids) names x
-ask_is image direction uid gids count names x r e = e ∙ rw (sub-zero count)
-
-pub ruleset asking = (ask_is, rules)
-
-pub asks_peer : (image : List ℕ) (direction : ℕ) (m : List ℕ) (i : ℕ) (names head : List ℕ) (x : Header) {u : ℕ} {g : Gids}
-    → u ≡ word_at Little m (slot_start i + uid_at) → GidsOf m i g
-    → {r : Decision} → r ≡ transaction_decision image direction (record { 0 = u }) (take g.count g.list) (names_in names) (message_of head x)
+pub asks_peer : (image : List ℕ) (direction : ℕ) (m : List ℕ) (i : ℕ) (names head : List ℕ) (x : Header) {u : ℕ} {gids : List ℕ}
+    → u ≡ word_at Little m (slot_start i + uid_at) → gids ≡ (peer_at m i).gids
+    → {r : Decision} → r ≡ transaction_decision image direction (record { 0 = u }) gids (names_in names) (message_of head x)
     → Asks image direction m i names head x r
-asks_peer image direction m i names head x e g q = record { is = q ∙ rw (e, g.are) }
+asks_peer image direction m i names head x e g q = record { is = q ∙ rw (e, g) }
 
 pub ruleset asking_peer = (asks_peer, rules)
 

@@ -15,31 +15,13 @@ ghost use Rattle.judge.specs.Steps.{Asks, Says, ToBus, Reaches, ToAll, Delivers,
 
 use addresses::Destination;
 use header::{CALL, ERROR, Header, RETURN, SIGNAL};
-use memory::{FIRST_NAME, GID_ROOM, NAME_WIDTH, SLOT_LENGTH, SLOTS_AT, UID_AT};
+use memory::{FIRST_NAME, NAME_WIDTH, SLOT_LENGTH, SLOTS_AT, UID_AT};
 use policy::{Decision, Uid};
 use rules::{Judgement, Receiver, judged_by, refused};
 
 // ---- policy
 
-// What policy says of the message, asked of a user and the first `count` of the groups about the names.
-fn ask(
-    image: &[u8],
-    direction: u8,
-    uid: Uid,
-    gids: [u32; GID_ROOM],
-    count: usize,
-    names: &[u8],
-    head: &[u8],
-    header: Header,
-) -> Decision
-    requires { (Asked image.now head.now header) × (count ≤ gid_room) }
-    ensures { result ≡ transaction_decision image.now direction uid (take count gids) (names_in names.now)
-        (message_of head.now header) }
-{
-    decide::transact(image, direction, uid, &gids[0..count], names, head, header)
-}
-
-// The same, asked of the peer of slot i.
+// What policy says of the message about the names, asked of the peer of slot i.
 fn ask_peer(
     image: &[u8],
     direction: u8,
@@ -54,9 +36,7 @@ fn ask_peer(
 {
     let uid = Uid(slots::word_at(memory, i, UID_AT));
     let gids = slots::gids_at(memory, i);
-    let list = gids.list;
-    let count = gids.count;
-    ask(image, direction, uid, list, count, names, head, header)
+    decide::transact(image, direction, uid, gids.as_slice(), names, head, header)
 }
 
 // The same, asked of the peer of one slot about the names of another's.

@@ -1,11 +1,7 @@
--- The first slot that passes a test, as a loop finds it: what is left to look at says the answer.
-use mathlib.Core.Bool.{Bool, true, false}
-use mathlib.Core.List.{List}
-use mathlib.Core.Path.{◌≡◌, refl, sym, ◌∙◌}
-use Prim.Native.Nat.{ℕ, suc, ◌+◌, ◌≤◌, ◌<◌}
-use native.Mathlib.Omega.{arith}
-use native.Mathlib.Numerals.{add-one}
-use lib.ListN.{length, get_or, drop, drop_of_length-le}
+-- The first thing of a list from one of its places on that passes a test, by what the test says of each thing up to it; and the same of the slots.
+use Rattle.std.proofs.Common.{Bool, true, false, List, ◌≡◌, refl, sym, ◌∙◌, ℕ, zero, suc, ◌+◌, ◌-◌, ◌≤◌, ◌<◌, add-one, arith, length, get_or, drop}
+use Rattle.std.proofs.Common.{Option, Some, None, MatchOption}
+use lib.ListN.{drop_of_length-le}
 use lib.Seq.{drop-cons}
 use Rattle.stream.specs.Tail.{Tail}
 use Rattle.rules.specs.State.{Slot, free, first_by}
@@ -16,63 +12,56 @@ use Rattle.memory.proofs.Reading.{sixteen}
 -- ---- of any list
 
 module _ {A : Type 0} (t : A → Bool) where
-  pub first_hit : (l : List A) (i : ℕ) (d : A) → i < length l → t (get_or l i d) ≡ true → first_by t (drop i l) ≡ 0
+  first_hit : (l : List A) (i : ℕ) (d : A) → i < length l → t (get_or l i d) ≡ true → first_by t (drop i l) ≡ 0
   unfolding first_by
   first_hit l i d h e = rw (drop-cons l i d h, e)
 
-  pub first_miss : (l : List A) (i : ℕ) (d : A) → i < length l → t (get_or l i d) ≡ false
+  first_miss : (l : List A) (i : ℕ) (d : A) → i < length l → t (get_or l i d) ≡ false
       → first_by t (drop i l) ≡ suc (first_by t (drop (i + 1) l))
   unfolding first_by
   first_miss l i d h e = rw (drop-cons l i d h, e, add-one i)
 
-  pub first_none : (l : List A) (i : ℕ) → length l ≤ i → first_by t (drop i l) ≡ 0
+  first_none : (l : List A) (i : ℕ) → length l ≤ i → first_by t (drop i l) ≡ 0
   unfolding first_by
   first_none l i e = rw (drop_of_length-le l e)
 
--- ---- of the slots of memory: t is what is asked, from slot `from` on, and slot i is looked at
+  -- no thing from `from` on passes before thing i, which is j behind
+  first_past : (l : List A) (d : A) (j from i : ℕ) → from + j ≡ i → i ≤ length l → ((k : ℕ) → from ≤ k → k < i → t (get_or l k d) ≡ false)
+      → from + first_by t (drop from l) ≡ i + first_by t (drop i l)
+  first_past l d zero from i e h f = let q : from ≡ i = omega arith in rw q
+  first_past l d (suc j) from i e h f =
+      omega (
+        arith,
+        first_miss l from d (omega arith) (f from (omega arith) (omega arith)),
+        first_past l d j (from + 1) i (omega arith) h (λ k a b. f k (omega arith) b),
+      )
 
-pub record Looking (t : Slot Tail → Bool) (m : List ℕ) (from i : ℕ) : Type 0 where
-  pub low : from ≤ i
-  pub high : i ≤ 16
-  pub left : from + first_by t (drop from (state_of m).slots) ≡ i + first_by t (drop i (state_of m).slots)
+  -- what a search over a range said of thing i, where there is one
+  abbrev pub Said : List A → A → Bool → ℕ → Type 0
+  Said l d b i = i < length l → t (get_or l i d) ≡ b
 
-pub looking_begins : (t : Slot Tail → Bool) (m : List ℕ) (from : ℕ) → from ≤ 16 → Looking t m from from
-looking_begins t m from h = record { low = omega arith; high = h; left = refl }
+  -- what a search of the things from `from` on came to
+  pub first_found : (l : List A) (d : A) (from : ℕ) → from ≤ length l → (r : Option ℕ)
+      → MatchOption r ((k : ℕ) → from ≤ k → k < length l → Said l d false k)
+      (λ i. (from ≤ i) × (i < length l) × Said l d true i × ((k : ℕ) → from ≤ k → k < i → Said l d false k))
+      → MatchOption r (length l ≡ from + first_by t (drop from l)) (λ i. (i < length l) × (i ≡ from + first_by t (drop from l)))
+  first_found l d from h None f =
+      sym (first_past l d (length l - from) from (length l) (omega arith) (omega arith) (λ k a b. f k a b b) ∙ omega (arith, first_none l (length l) (omega arith)))
+  first_found l d from h (Some i) (a, b, e, f) =
+      let p : from + first_by t (drop from l) ≡ i + first_by t (drop i l)
+      = first_past l d (i - from) from i (omega arith) (omega arith) (λ k c q. f k c q (omega arith)) in
+      (b, sym (p ∙ omega (arith, first_hit l i d b (e b))))
 
-module _ (t : Slot Tail → Bool) (m : List ℕ) (from i : ℕ) (l : Looking t m from i) where
-  slots_end : i < 16 → i < length (state_of m).slots
-  slots_end h = rw (sixteen m) h
+-- ---- of the slots of memory: t is what is asked, from slot `from` on
 
-  pub looking_hit : i < 16 → t (get_or (state_of m).slots i free) ≡ true → FoundSlot t m from i
-  looking_hit h e =
-      record {
-        bound = l.high;
-        is = sym (l.left ∙ omega (arith, first_hit t (state_of m).slots i free (slots_end h) e));
-      }
+abbrev pub SaidOfSlot : (Slot Tail → Bool) → List ℕ → Bool → ℕ → Type 0
+SaidOfSlot t m b i = i < 16 → t (get_or (state_of m).slots i free) ≡ b
 
-  pub looking_miss : i < 16 → t (get_or (state_of m).slots i free) ≡ false → Looking t m from (i + 1)
-  looking_miss h e =
-      record {
-        low = omega (arith, l.low);
-        high = omega arith;
-        left = l.left ∙ omega (arith, first_miss t (state_of m).slots i free (slots_end h) e);
-      }
-
-  pub looking_ends : 16 ≤ i → FoundSlot t m from i
-  looking_ends h =
-      record {
-        bound = l.high;
-        is = sym (l.left ∙ omega (arith, first_none t (state_of m).slots i (rw (sixteen m) h)));
-      }
-
--- the same, where r is what a test in code gave for slot i
-module _ {t : Slot Tail → Bool} {m : List ℕ} {from i : ℕ} (l : Looking t m from i) where
-  module _ (h : i < 16) {r : Bool} (e : r ≡ t (get_or (state_of m).slots i free)) where
-    pub tested_hit : r ≡ true → FoundSlot t m from i
-    tested_hit q = looking_hit t m from i l h (sym e ∙ q)
-
-    pub tested_miss : r ≡ false → Looking t m from (i + 1)
-    tested_miss q = looking_miss t m from i l h (sym e ∙ q)
-
-  pub tested_ends : 16 ≤ i → FoundSlot t m from i
-  tested_ends h = looking_ends t m from i l h
+pub slot_found : (t : Slot Tail → Bool) (m : List ℕ) (from : ℕ) → from ≤ 16 → (r : Option ℕ)
+    → MatchOption r ((k : ℕ) → from ≤ k → k < 16 → SaidOfSlot t m false k)
+    (λ i. (from ≤ i) × (i < 16) × SaidOfSlot t m true i × ((k : ℕ) → from ≤ k → k < i → SaidOfSlot t m false k))
+    → FoundSlot t m from r
+slot_found t m from h None f =
+    record { inside = tt; is = sym (sixteen m) ∙ first_found t (state_of m).slots free from (rw (sixteen m) h) None (rw (sixteen m) f) }
+slot_found t m from h (Some i) f =
+    record { inside = f.1; is = (first_found t (state_of m).slots free from (rw (sixteen m) h) (Some i) (rw (sixteen m) f)).1 }

@@ -1,5 +1,5 @@
 -- What stands in the slots of a memory, by its place; a slot's bytes put; the first slot that passes a test (rules 10.1 and 10.2).
-use Rattle.std.specs.Prelude.{Bool, List, ◌++◌, map, ◌≡◌, ℕ, ◌+◌, ◌≤◌, min, take, drop}
+use Rattle.std.specs.Prelude.{Bool, List, ◌++◌, map, ◌≡◌, ℕ, ◌+◌, ◌<◌, min, take, drop, Option, IfSome, unwrap_or}
 use Rattle.wire.specs.Words.{word_at, word_bytes}
 use Rattle.wire.specs.declared.Order.TheVariants.{Little}
 use Rattle.tables.specs.Tables.{parts, table_of, used}
@@ -46,10 +46,10 @@ count_put m i n = take (slot_start i + pending_at) m ++ (word_bytes n ++ drop (s
 
 -- ---- the slots in turn
 
--- what was found: a slot, or 16
-pub record FoundSlot (t : Slot Tail → Bool) (m : List ℕ) (from r : ℕ) : Type 0 where
-  pub bound : r ≤ 16
-  pub is : r ≡ from + first_by t (drop from (state_of m).slots)
+-- what a search of the slots from `from` on comes to: the first that passes the test, or none
+pub record FoundSlot (t : Slot Tail → Bool) (m : List ℕ) (from : ℕ) (r : Option ℕ) : Type 0 where
+  pub inside : IfSome r (λ i. i < 16)
+  pub is : unwrap_or r 16 ≡ from + first_by t (drop from (state_of m).slots)
 
 -- ---- a slot's bytes put
 

@@ -1,5 +1,6 @@
 -- Each way through own.
-use Rattle.std.proofs.Common.{◌≡◌, refl, sym, ap, ◌∙◌, Bool, true, false, not, List, [], ◌∷◌, ◌++◌, append_assoc, ℕ, ◌+◌, ◌-◌, ◌*◌, ◌≤◌, ◌<◌, arith, add-one, length, take, drop, set, replicate, length-set, drop-drop, take-take, take-suc-set, drop-set-lt, rules, lt-ltb, le-ltb, le-leb, Some}
+use Rattle.std.proofs.Common.{Option, None, is_some, IfSome, unwrap_or}
+use Rattle.std.proofs.Common.{◌≡◌, refl, sym, ap, ◌∙◌, Bool, true, false, not, List, [], ◌∷◌, ◌++◌, append_assoc, ℕ, ◌+◌, ◌-◌, ◌*◌, ◌≤◌, ◌<◌, arith, add-one, length, take, drop, set, replicate, length-set, drop-drop, take-take, take-suc-set, drop-set-lt, rules, ltb, true≢false, lt-ltb, le-ltb, le-leb, Some}
 use native.Mathlib.Nat.{sub-zero}
 use borrow.Author.Tests.{lt-leb, not-true, not-false}
 use Rattle.wire.specs.Words.{word_at, word_bytes}
@@ -12,7 +13,7 @@ use Rattle.policy.specs.Names.{name_limit, cell_of, owns, name_width}
 use Rattle.policy.specs.Decisions.{own_decision}
 use Rattle.policy.specs.declared.Uid.{Uid}
 use Rattle.policy.specs.declared.Decision.{Decision}
-use Rattle.rules.specs.State.{is_peer}
+use Rattle.rules.specs.State.{is_peer, first_by}
 use Rattle.rules.specs.Addresses.{ownable}
 use Rattle.rules.specs.Calls.{is_owner, no_own, own}
 use Rattle.rules.specs.declared.Owned.{Owned}
@@ -26,8 +27,7 @@ use Rattle.memory.proofs.Find.{found_first}
 use Rattle.memory.proofs.Frame.{cell_length}
 use Rattle.memory.proofs.Again.{ownable_short}
 use Rattle.memory.proofs.Puts.{names_stand, name_appended}
-use Rattle.slots.specs.Slots.{peer_at, Seated, GidsOf}
-use Rattle.slots.specs.declared.Gids.{Gids}
+use Rattle.slots.specs.Slots.{peer_at, Seated}
 use Rattle.owners.specs.Writes.{name_bytes, Naming}
 use Rattle.owners.specs.Steps.{granted, claimed, obtained}
 use Rattle.slots.proofs.Found.{did_stay, peer_none, peer_place, peer_some, peer_seated, counted}
@@ -35,16 +35,12 @@ use Rattle.slots.proofs.Zeros.{zero_rest}
 
 -- ---- what the policy is asked
 
-pub own_front : (image : List ℕ) (uid : Uid) (gids : List ℕ) (count : ℕ) (name : List ℕ) (r : Decision)
-    → r ≡ own_decision image uid (take (count - 0) gids) name → r ≡ own_decision image uid (take count gids) name
-own_front image uid gids count name r e = e ∙ rw (sub-zero count)
-
-pub own_is : (image m name : List ℕ) (i u : ℕ) (g : Gids) (r : Decision) → GidsOf m i g → u ≡ word_at Little m (slot_start i + uid_at)
-    → r ≡ own_decision image (record { 0 = u }) (take g.count g.list) name
+pub own_is : (image m name gids : List ℕ) (i u : ℕ) → gids ≡ (peer_at m i).gids → u ≡ word_at Little m (slot_start i + uid_at)
+    → (r : Decision) → r ≡ own_decision image (record { 0 = u }) gids name
     → r ≡ own_decision image (record { 0 = (peer_at m i).uid }) (peer_at m i).gids name
-own_is image m name i u g r h e q = q ∙ rw (h.are, e)
+own_is image m name gids i u h e r q = q ∙ rw (h, e)
 
-pub ruleset asking = (own_front, own_is, rules)
+pub ruleset asking = (own_is, rules)
 
 -- ---- a name behind its length
 
@@ -118,14 +114,25 @@ pub ruleset granting = (grant_full, grant_done, rules)
 
 -- ---- 33: j is who has the name
 
-module _ (m : List ℕ) (f : Octets m) (i : ℕ) (g : Seated m i) (name : List ℕ) (j : ℕ) (o : FoundSlot (is_owner name) m 0 j) where
-  pub claim_granted : 16 ≤ j → (r : ℕ) (m₁ : List ℕ) → Did (stored (granted m i name)) r m₁ → Did (stored (claimed m i name)) r m₁
-  unfolding claimed granted
-  claim_granted h r m₁ d = rw (found_first (is_owner name) m j o, sixteen m, le-ltb j 16 h) d
+none_at : (j : Option ℕ) → IfSome j (λ i. i < 16) → is_some j ≡ false → ltb (unwrap_or j 16) 16 ≡ false
+none_at None h e = le-ltb 16 16 (omega arith)
+none_at (Some i) h e = absurd (true≢false e)
 
-  pub claim_other : j < 16 → Did (stored (claimed m i name)) 33 m
+some_at : (j : Option ℕ) → IfSome j (λ i. i < 16) → is_some j ≡ true → ltb (unwrap_or j 16) 16 ≡ true
+some_at None h e = absurd (true≢false (sym e))
+some_at (Some i) h e = lt-ltb i 16 h
+
+module _ (m : List ℕ) (f : Octets m) (i : ℕ) (g : Seated m i) (name : List ℕ) (j : Option ℕ) (o : FoundSlot (is_owner name) m 0 j) where
+  place : first_by (is_owner name) (state_of m).slots ≡ unwrap_or j 16
+  place = found_first (is_owner name) m j o
+
+  pub claim_granted : {y : Bool} → is_some j ≡ not y → y ≡ true → (r : ℕ) (m₁ : List ℕ) → Did (stored (granted m i name)) r m₁ → Did (stored (claimed m i name)) r m₁
+  unfolding claimed granted
+  claim_granted e h r m₁ d = rw (place, sixteen m, none_at j o.inside (e ∙ rw h)) d
+
+  pub claim_other : {y : Bool} → is_some j ≡ not y → y ≡ false → Did (stored (claimed m i name)) 33 m
   unfolding claimed
-  claim_other h = did_stay m f g.held 33 (claimed m i name) (rw (found_first (is_owner name) m j o, sixteen m, lt-ltb j 16 h))
+  claim_other e h = did_stay m f g.held 33 (claimed m i name) (rw (place, sixteen m, some_at j o.inside (e ∙ rw h)))
 
 pub ruleset claiming = (claim_granted, claim_other, rules)
 
@@ -147,28 +154,28 @@ pub ruleset obtaining = (obtain_mine, obtain_claimed, rules)
 pub own_short : (name : List ℕ) (b : Bool) → b ≡ ownable name → not b ≡ false → length name ≤ name_limit
 own_short name b e t = ownable_short name (sym e ∙ not-false b t)
 
-module _ (image m : List ℕ) (f : Octets m) (g : Held m) (n i : ℕ) (e : FoundSlot (is_peer n) m 0 i) (name : List ℕ) where
-  pub own_none : i ≡ 16 → (r : Owned) → r ≡ no_own 30 → Did (stored (own image (state_of m) n name)) r m
+module _ (image m : List ℕ) (f : Octets m) (g : Held m) (n : ℕ) (name : List ℕ) where
+  pub own_none : FoundSlot (is_peer n) m 0 None → (r : Owned) → r ≡ no_own 30 → Did (stored (own image (state_of m) n name)) r m
   unfolding own
-  own_none q r k = did_stay m f g r (own image (state_of m) n name) (rw (peer_none n m i e q, k))
+  own_none e r k = did_stay m f g r (own image (state_of m) n name) (rw (peer_none n m e, k))
 
-  module _ (q : i ≡ 16 → ⊥) (b : Bool) (eb : b ≡ ownable name) where
+  module _ (i : ℕ) (e : FoundSlot (is_peer n) m 0 (Some i)) (b : Bool) (eb : b ≡ ownable name) where
     pub own_bad : not b ≡ true → (r : Owned) → r ≡ no_own 31 → Did (stored (own image (state_of m) n name)) r m
     unfolding own
     own_bad t r k =
-        did_stay m f g r (own image (state_of m) n name) (rw (peer_place n m i e q, peer_some n m i e q, ← eb, not-true b t, k))
+        did_stay m f g r (own image (state_of m) n name) (rw (peer_place n m i e, peer_some n m i e, ← eb, not-true b t, k))
 
     module _ (t : not b ≡ false) (d : Decision) (ed : d ≡ own_decision image (record { 0 = (peer_at m i).uid }) (peer_at m i).gids name) where
       pub own_denied : d.allow ≡ false → Did (stored (own image (state_of m) n name)) (record { answer = 32; rule = Some d.rule }) m
       unfolding own
       own_denied s =
           did_stay m f g (record { answer = 32; rule = Some d.rule }) (own image (state_of m) n name)
-          (rw (peer_place n m i e q, peer_some n m i e q, ← eb, not-false b t, ← ed, s))
+          (rw (peer_place n m i e, peer_some n m i e, ← eb, not-false b t, ← ed, s))
 
       pub own_obtained : d.allow ≡ true → (r : ℕ) (m₁ : List ℕ) → Did (stored (obtained m i name)) r m₁
           → Did (stored (own image (state_of m) n name)) (record { answer = r; rule = Some d.rule }) m₁
       unfolding own obtained
       own_obtained s r m₁ x =
-          rw (peer_place n m i e q, peer_some n m i e q, ← eb, not-false b t, ← ed, s) (record { result = rw x.result; memory = x.memory })
+          rw (peer_place n m i e, peer_some n m i e, ← eb, not-false b t, ← ed, s) (record { result = rw x.result; memory = x.memory })
 
 pub ruleset owning = (own_none, own_bad, own_denied, own_obtained, own_short, peer_seated, rules)

@@ -6,7 +6,7 @@ ghost use Rattle.image.specs.Promises.{GoodImage};
 ghost use Rattle.policy.specs.Decisions.{own_decision};
 ghost use Rattle.policy.specs.Names.{name_limit};
 ghost use Rattle.rules.specs.Calls.{own, release};
-ghost use Rattle.memory.specs.Layout.{memory_length, gid_room};
+ghost use Rattle.memory.specs.Layout.{memory_length};
 ghost use Rattle.memory.specs.Encoding.{state_of};
 ghost use Rattle.memory.specs.Sound.{Held};
 ghost use Rattle.memory.specs.Calls.{stored, Did};
@@ -15,20 +15,12 @@ ghost use Rattle.owners.specs.Writes.{name_bytes, Naming};
 ghost use Rattle.owners.specs.Steps.{granted, claimed, obtained, given_up};
 
 use memory::{
-    FIRST_NAME, GID_ROOM, NAME_WIDTH, NAMES_AT, NAMES_LENGTH, SLOT_LENGTH, SLOTS_AT, UID_AT,
+    FIRST_NAME, NAME_WIDTH, NAMES_AT, NAMES_LENGTH, SLOT_LENGTH, SLOTS_AT, UID_AT,
 };
 use policy::{Decision, Uid};
 use rules::{Owned, no_own};
 
 // ---- own
-
-// What policy decides about the name, for a peer of this uid and the first `count` of these gids.
-fn decide_as(image: &[u8], uid: Uid, gids: [u32; GID_ROOM], count: usize, name: &[u8]) -> Decision
-    requires { (GoodImage image.now) × (count ≤ gid_room) }
-    ensures { result ≡ own_decision image.now uid (take count gids) name.now }
-{
-    decide::own(image, uid, &gids[0..count], name)
-}
 
 // What policy decides about the name, for the peer of slot i.
 fn decide_at(image: &[u8], memory: &[u8], i: usize, name: &[u8]) -> Decision
@@ -38,9 +30,7 @@ fn decide_at(image: &[u8], memory: &[u8], i: usize, name: &[u8]) -> Decision
 {
     let uid = Uid(slots::word_at(memory, i, UID_AT));
     let gids = slots::gids_at(memory, i);
-    let list = gids.list;
-    let count = gids.count;
-    decide_as(image, uid, list, count, name)
+    decide::own(image, uid, gids.as_slice(), name)
 }
 
 // Writes a name behind its length at `at`.
@@ -52,7 +42,7 @@ fn put_name(memory: &mut [u8], at: usize, name: &[u8])
     memory[at] = name.len() as u8;
     let from = at + 1;
     let to = from + name.len();
-    wire::copy(&mut memory[from..to], name);
+    memory[from..to].copy_from_slice(name);
 }
 
 // Gives the name, which is nobody's, to the peer of slot i: 34.
@@ -78,7 +68,7 @@ fn claim(memory: &mut [u8], i: usize, name: &[u8]) -> u8
     requires { (Seated memory.old i) × (length name.now ≤ name_limit) }
     ensures { Did (stored (claimed memory.old i name.now)) result memory.new }
 {
-    if 16 <= slots::find_owner(memory, name, 0) {
+    if slots::find_owner(memory, name, 0).is_none() {
         return grant(memory, i, name);
     }
     33
@@ -100,10 +90,9 @@ pub fn own(image: &[u8], memory: &mut [u8], peer: u32, name: &[u8]) -> Owned
     requires { (GoodImage image.now) × (Held memory.old) }
     ensures { Did (stored (own image.now (state_of memory.old) peer name.now)) result memory.new }
 {
-    let i = slots::find(memory, peer, 0);
-    if i == 16 {
+    let Some(i) = slots::find(memory, peer, 0) else {
         return no_own(30);
-    }
+    };
     if !rules::is_ownable(name) {
         return no_own(31);
     }
@@ -127,11 +116,10 @@ fn give_up(memory: &mut [u8], i: usize, name: &[u8]) -> u8
     requires { Seated memory.old i }
     ensures { Did (stored (given_up memory.old i name.now)) result memory.new }
 {
-    let j = slots::find_name(memory, i, name, 0);
-    let n = slots::word_at(memory, i, NAMES_AT);
-    if n as usize <= j {
+    let Some(j) = slots::find_name(memory, i, name, 0) else {
         return 35;
-    }
+    };
+    let n = slots::word_at(memory, i, NAMES_AT);
     let at = SLOTS_AT + SLOT_LENGTH * i + NAMES_AT;
     let end = at + NAMES_LENGTH;
     tables::remove(
@@ -149,10 +137,9 @@ pub fn release(memory: &mut [u8], peer: u32, name: &[u8]) -> u8
     requires { Held memory.old }
     ensures { Did (stored (release (state_of memory.old) peer name.now)) result memory.new }
 {
-    let i = slots::find(memory, peer, 0);
-    if i == 16 {
+    let Some(i) = slots::find(memory, peer, 0) else {
         return 30;
-    }
+    };
     let ownable = rules::is_ownable(name);
     if !ownable {
         return 31;

@@ -1,4 +1,5 @@
 -- Each way through connect.
+use Rattle.std.proofs.Common.{Some}
 use Rattle.std.proofs.Common.{◌≡◌, refl, sym, ap, ◌∙◌, true, false, not, List, ◌++◌, append_assoc, ℕ, ◌+◌, ◌-◌, ◌*◌, ◌≤◌, ◌<◌, arith, length, take, drop, replicate, rules, lt-ltb, le-ltb, None}
 use borrow.Author.Tests.{not-true, not-false}
 use Rattle.wire.proofs.Words.{Octets, octets_below}
@@ -52,32 +53,27 @@ pub ruleset admitting = (admit_seated, rules)
 
 -- ---- 38, 39, and the seat
 
-pub enter_free : (m gids : List ℕ) (i : ℕ) → Held m → FoundSlot is_free m 0 i → (i ≡ 16 → ⊥) → length gids ≤ gid_room → Free m i gids
-enter_free m gids i g e q h =
-    let k : i < 16 = omega arith in
-    record { sized = g.sized; held = g; below = k; few = h; zeros = free_part m i g e k }
+pub enter_free : (m gids : List ℕ) (i : ℕ) → Held m → FoundSlot is_free m 0 (Some i) → length gids ≤ gid_room → Free m i gids
+enter_free m gids i g e h = record { sized = g.sized; held = g; below = e.inside; few = h; zeros = free_part m i g e }
 
-module _ (m : List ℕ) (f : Octets m) (g : Held m) (i : ℕ) (e : FoundSlot is_free m 0 i) (uid : ℕ) (gids : List ℕ) where
-  pub enter_full : i ≡ 16 → (r : Connected) → r ≡ no_connect 38 → Did (stored (entered m uid gids)) r m
+module _ (m : List ℕ) (f : Octets m) (g : Held m) (uid : ℕ) (gids : List ℕ) where
+  pub enter_full : FoundSlot is_free m 0 None → (r : Connected) → r ≡ no_connect 38 → Did (stored (entered m uid gids)) r m
   unfolding entered
-  enter_full q r d =
-      did_stay m f g r (entered m uid gids) (rw (found_first is_free m i e, sixteen m, le-ltb i 16 (omega arith), d))
+  enter_full e r d =
+      did_stay m f g r (entered m uid gids) (rw (found_first is_free m None e, sixteen m, d))
 
-  module _ (q : i ≡ 16 → ⊥) (l : ℕ) (el : l ≡ (state_of m).last) where
-    within : i < 16
-    within = let b : i ≤ 16 = e.bound in omega arith
-
+  module _ (i : ℕ) (e : FoundSlot is_free m 0 (Some i)) (l : ℕ) (el : l ≡ (state_of m).last) where
     pub enter_last : l ≡ 4294967295 → (r : Connected) → r ≡ no_connect 39 → Did (stored (entered m uid gids)) r m
     unfolding entered
     enter_last z r d =
         did_stay m f g r (entered m uid gids)
-        (rw (found_first is_free m i e, sixteen m, lt-ltb i 16 within, le-ltb (state_of m).last 4294967295 (omega arith), d))
+        (rw (found_first is_free m (Some i) e, sixteen m, lt-ltb i 16 e.inside, le-ltb (state_of m).last 4294967295 (omega arith), d))
 
     pub enter_seated : (l ≡ 4294967295 → ⊥) → l < 4294967296 → (m₁ : List ℕ) → m₁ ≡ admitted m i (l + 1) uid gids
         → Did (stored (entered m uid gids)) (record { answer = 0; number = l + 1; slot = i; rule = None }) m₁
     unfolding entered admitted
     enter_seated z k m₁ e₁ =
-        rw (found_first is_free m i e, sixteen m, lt-ltb i 16 within, lt-ltb (state_of m).last 4294967295 (omega arith), ← el)
+        rw (found_first is_free m (Some i) e, sixteen m, lt-ltb i 16 e.inside, lt-ltb (state_of m).last 4294967295 (omega arith), ← el)
         (record { result = refl; memory = e₁ })
 
 pub ruleset entering = (enter_free, enter_full, enter_last, enter_seated, rules)

@@ -1,4 +1,5 @@
 -- Each way through disconnect.
+use Rattle.std.proofs.Common.{Some, None}
 use mathlib.Core.Path.{◌≡◌, refl, sym, ap, ◌∙◌}
 use mathlib.Core.List.{List, ◌++◌}
 use Prim.Native.Nat.{ℕ, ◌+◌, ◌-◌, ◌<◌}
@@ -26,7 +27,7 @@ use Rattle.memory.proofs.Good.{framed}
 use Rattle.memory.proofs.Sweep.{put_again, put_length, swept_freed}
 use Rattle.endings.specs.Endings.{Encoded, ended_for, EndedAll}
 use Rattle.peers.specs.Steps.{slots_without}
-use Rattle.slots.proofs.Found.{did_stay, peer_none, found_below, peer_place, peer_some}
+use Rattle.slots.proofs.Found.{did_stay, peer_none, peer_place, peer_some}
 
 -- ---- a slot wiped
 
@@ -66,15 +67,15 @@ pub ruleset leaving = (leave_encoded, leave_gone, rules)
 
 -- ---- 30, and the report
 
-module _ (m : List ℕ) (f : Octets m) (g : Held m) (n i : ℕ) (e : FoundSlot (is_peer n) m 0 i) where
-  pub disconnect_none : i ≡ 16 → (r : Gone) → r ≡ no_gone 30 → Did (stored (disconnect tails (state_of m) n)) r m
+module _ (m : List ℕ) (f : Octets m) (g : Held m) (n : ℕ) where
+  pub disconnect_none : FoundSlot (is_peer n) m 0 None → (r : Gone) → r ≡ no_gone 30 → Did (stored (disconnect tails (state_of m) n)) r m
   unfolding disconnect
-  disconnect_none q r d = did_stay m f g r (disconnect tails (state_of m) n) (rw (peer_none n m i e q, d))
+  disconnect_none e r d = did_stay m f g r (disconnect tails (state_of m) n) (rw (peer_none n m e, d))
 
-  pub disconnect_gone : (i ≡ 16 → ⊥) → (b : ℕ) → b ≡ word_at Little m (slot_start i + taken_at) → (m₂ : List ℕ) → m₂ ≡ slots_without m i n
+  pub disconnect_gone : (i : ℕ) → FoundSlot (is_peer n) m 0 (Some i) → (b : ℕ) → b ≡ word_at Little m (slot_start i + taken_at) → (m₂ : List ℕ) → m₂ ≡ slots_without m i n
       → Did (stored (disconnect tails (state_of m) n)) (record { answer = 0; bytes = b }) m₂
   unfolding disconnect slots_without
-  disconnect_gone q b eb m₂ em =
-      rw (peer_place n m i e q, peer_some n m i e q, found_number n m 0 i e (found_below n m i e q), ← eb) (record { result = refl; memory = em })
+  disconnect_gone i e b eb m₂ em =
+      rw (peer_place n m i e, peer_some n m i e, found_number n m 0 i e, ← eb) (record { result = refl; memory = em })
 
 pub ruleset disconnecting = (disconnect_none, disconnect_gone, rules)

@@ -47,10 +47,9 @@ fn enter(memory: &mut [u8], uid: u32, gids: &[u32]) -> Connected
     requires { (Held memory.old) × (length gids.now ≤ gid_room) }
     ensures { Did (stored (entered memory.old uid gids.now)) result memory.new }
 {
-    let slot = slots::find_free(memory);
-    if slot == 16 {
+    let Some(slot) = slots::find_free(memory) else {
         return no_connect(38);
-    }
+    };
     let last = slots::last_of(memory);
     if last == 4294967295 {
         return no_connect(39);
@@ -98,10 +97,9 @@ pub fn disconnect(memory: &mut [u8], peer: u32) -> Gone
     requires { Held memory.old }
     ensures { Did (stored (disconnect tails (state_of memory.old) peer)) result memory.new }
 {
-    let i = slots::find(memory, peer, 0);
-    if i == 16 {
+    let Some(i) = slots::find(memory, peer, 0) else {
         return no_gone(30);
-    }
+    };
     let bytes = slots::word_at(memory, i, TAKEN_AT);
     leave(memory, i, peer);
     Gone { answer: 0, bytes }

@@ -1,4 +1,5 @@
 -- What a piece comes to, case by case.
+use Rattle.std.proofs.Common.{Some, None}
 use Rattle.std.proofs.Common.{◌≡◌, sym, ap, ◌∙◌, Bool, true, false, List, ℕ, ◌-◌, take, rules}
 use native.Mathlib.Nat.{sub-zero}
 use Rattle.wire.proofs.Words.{Octets}
@@ -96,20 +97,20 @@ pub ruleset offering = (offered_more, offered_broken, offered_ready, offered_who
 
 -- ---- the piece
 
-module _ (image m bytes : List ℕ) (f : Octets m) (g : Held m) (n i : ℕ) (d : FoundSlot (is_peer n) m 0 i) (r : Taken) where
-  pub piece_none : i ≡ 16 → r ≡ no_piece 30 → Did (stored (piece tails image (state_of m) n bytes)) r m
+module _ (image m bytes : List ℕ) (f : Octets m) (g : Held m) (n : ℕ) (r : Taken) where
+  pub piece_none : FoundSlot (is_peer n) m 0 None → r ≡ no_piece 30 → Did (stored (piece tails image (state_of m) n bytes)) r m
   unfolding piece
-  piece_none e q = did_stay m f g r (piece tails image (state_of m) n bytes) (rw (peer_none n m i d e, q))
+  piece_none d q = did_stay m f g r (piece tails image (state_of m) n bytes) (rw (peer_none n m d, q))
 
-  module _ (h : i ≡ 16 → ⊥) (c : Bool) (e : c ≡ closed (peer_at m i).stream) where
+  module _ (i : ℕ) (d : FoundSlot (is_peer n) m 0 (Some i)) (c : Bool) (e : c ≡ closed (peer_at m i).stream) where
     pub piece_closed : c ≡ true → r ≡ no_piece 40 → Did (stored (piece tails image (state_of m) n bytes)) r m
     unfolding piece
-    piece_closed t q = did_stay m f g r (piece tails image (state_of m) n bytes) (rw (peer_place n m i d h, peer_some n m i d h, ← e, t, q))
+    piece_closed t q = did_stay m f g r (piece tails image (state_of m) n bytes) (rw (peer_place n m i d, peer_some n m i d, ← e, t, q))
 
     pub piece_offered : c ≡ false → (after : List ℕ)
         → Did (stored (offered_to tails image (state_of m) i (peer_at m i) (offer tails (peer_at m i).stream bytes))) r after
         → Did (stored (piece tails image (state_of m) n bytes)) r after
     unfolding piece
-    piece_offered t after o = rw (peer_place n m i d h, peer_some n m i d h, ← e, t) o
+    piece_offered t after o = rw (peer_place n m i d, peer_some n m i d, ← e, t) o
 
 pub ruleset piecing = (peer_seated, piece_none, piece_closed, piece_offered, rules)

@@ -1,4 +1,5 @@
 -- A message that is whole in its piece is judged where it stands: its stream is between two messages before and after.
+use Rattle.std.proofs.Common.{Some}
 use Rattle.std.proofs.Common.{◌≡◌, refl, sym, ap, ◌∙◌, false, List, ℕ, ◌+◌, ◌-◌, ◌≤◌, arith, length, take, length-take-le, rules}
 use native.Mathlib.Nat.{sub-zero}
 use lib.Seq.{set-get_or}
@@ -83,12 +84,12 @@ pub ruleset once = (once_small, once_open, once_ready, once_judged, rules)
 pub none_stands : (m : List ℕ) (i : ℕ) {w : ℕ} → w ≡ word_at Little m (slot_start i + taken_at) → w ≡ 0 → (peer_at m i).stream.taken ≡ 0
 none_stands m i e z = sym e ∙ z
 
-pub piece_once : (image m bytes : List ℕ) → Octets m → Held m → (n i : ℕ) → FoundSlot (is_peer n) m 0 i → (i ≡ 16 → ⊥)
+pub piece_once : (image m bytes : List ℕ) → Octets m → Held m → (n i : ℕ) → FoundSlot (is_peer n) m 0 (Some i)
     → {w : ℕ} → w ≡ word_at Little m (slot_start i + taken_at) → w ≡ 0 → (r : Taken) (after : List ℕ)
     → Did (stored (offered_to tails image (state_of m) i (peer_at m i) (offer tails (peer_at m i).stream bytes))) r after
     → Did (stored (piece tails image (state_of m) n bytes)) r after
-piece_once image m bytes f g n i d h e z r after o =
-    piece_offered image m bytes f g n i d r h false
-    (sym (once_open image m bytes f i (peer_seated n m i d h g) (none_stands m i e z))) refl after o
+piece_once image m bytes f g n i d e z r after o =
+    piece_offered image m bytes f g n r i d false
+    (sym (once_open image m bytes f i (peer_seated n m i d g) (none_stands m i e z))) refl after o
 
 pub ruleset fresh_or_not = (none_stands, piece_once, piecing)

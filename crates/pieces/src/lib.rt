@@ -150,10 +150,9 @@ pub fn piece(image: &[u8], memory: &mut [u8], peer: u32, bytes: &[u8]) -> Taken
     requires { (GoodImage image.now) × (Held memory.old) }
     ensures { Did (stored (piece tails image.now (state_of memory.old) peer bytes.now)) result memory.new }
 {
-    let i = slots::find(memory, peer, 0);
-    if i == 16 {
+    let Some(i) = slots::find(memory, peer, 0) else {
         return no_piece(30);
-    }
+    };
     if slots::word_at(memory, i, TAKEN_AT) == 0 {
         return fresh_at(image, memory, i, bytes);
     }

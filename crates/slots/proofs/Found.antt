@@ -1,8 +1,9 @@
 -- The slot that a call speaks of, and what a refused call leaves.
 use mathlib.Core.Path.{◌≡◌, refl, sym}
 use mathlib.Core.List.{List}
-use Prim.Native.Nat.{ℕ, ◌≤◌, ◌<◌}
+use Prim.Native.Nat.{ℕ, ◌≤◌}
 use native.Mathlib.Omega.{arith}
+use Rattle.std.proofs.Common.{Some, None}
 use lib.ListN.{length, take, drop, get_or-eq_default}
 use Rattle.wire.proofs.Words.{Octets, octets_below}
 use Rattle.stream.specs.Tail.{Tail}
@@ -25,28 +26,25 @@ did_stay m f g r s e = rw e (record { result = refl; memory = sym (good_is m (oc
 
 -- ---- the peer of a number
 
-pub peer_none : (n : ℕ) (m : List ℕ) (i : ℕ) → FoundSlot (is_peer n) m 0 i → i ≡ 16 → slot_at (state_of m) (first_by (is_peer n) (state_of m).slots) ≡ free
-peer_none n m i f e =
-    let l : length (state_of m).slots ≤ i = rw (sixteen m) (omega arith) in
-    rw (found_first (is_peer n) m i f) (get_or-eq_default (state_of m).slots free l)
+pub peer_none : (n : ℕ) (m : List ℕ) → FoundSlot (is_peer n) m 0 None → slot_at (state_of m) (first_by (is_peer n) (state_of m).slots) ≡ free
+peer_none n m f =
+    let l : length (state_of m).slots ≤ 16 = rw (sixteen m) (omega arith) in
+    rw (found_first (is_peer n) m None f) (get_or-eq_default (state_of m).slots free l)
 
-module _ (n : ℕ) (m : List ℕ) (i : ℕ) (f : FoundSlot (is_peer n) m 0 i) (h : i ≡ 16 → ⊥) where
-  pub found_below : i < 16
-  found_below = let b : i ≤ 16 = f.bound in omega arith
-
+module _ (n : ℕ) (m : List ℕ) (i : ℕ) (f : FoundSlot (is_peer n) m 0 (Some i)) where
   pub peer_place : first_by (is_peer n) (state_of m).slots ≡ i
-  peer_place = found_first (is_peer n) m i f
+  peer_place = found_first (is_peer n) m (Some i) f
 
   pub peer_some : slot_at (state_of m) i ≡ peer (peer_at m i)
-  peer_some = found_is n m 0 i f found_below
+  peer_some = found_is n m 0 i f
 
   pub peer_seated : Held m → Seated m i
-  peer_seated g = record { sized = g.sized; held = g; below = found_below; some = found_some n m 0 i f found_below }
+  peer_seated g = record { sized = g.sized; held = g; below = f.inside; some = found_some n m 0 i f }
 
 pub counted : (m : List ℕ) (i : ℕ) → Seated m i → Counted m (slot_start i)
 counted m i g = held_counted m i g.held g.below g.some
 
 -- ---- a free slot
 
-pub free_part : (m : List ℕ) (i : ℕ) → Held m → FoundSlot is_free m 0 i → i < 16 → take slot_length (drop (slot_start i) m) ≡ slot_bytes free
-free_part m i g f h = held_free m i g h (found_free m 0 i f h)
+pub free_part : (m : List ℕ) (i : ℕ) → Held m → FoundSlot is_free m 0 (Some i) → take slot_length (drop (slot_start i) m) ≡ slot_bytes free
+free_part m i g f = held_free m i g f.inside (found_free m 0 i f)

@@ -1,6 +1,6 @@
 pub mod Cells
 mod Owned
-mod Waiting
+pub mod Searches
 mod Groups
 pub mod Found
 pub mod Zeros

@@ -61,10 +61,10 @@ pub fn wait(memory: &mut [u8], i: usize, callee: u32, serial: u32) -> Judgement
     requires { Seated memory.old i }
     ensures { Waits memory.old i callee serial result memory.new }
 {
-    let n = slots::count_pending(memory, i);
-    if slots::find_pending(memory, i, callee, serial, 0) < n {
+    if slots::find_pending(memory, i, callee, serial, 0).is_some() {
         return refused(25);
     }
+    let n = slots::count_pending(memory, i);
     if 16 <= n {
         return refused(26);
     }
@@ -82,11 +82,10 @@ pub fn reply_to(memory: &mut [u8], i: usize, j: usize, header: Header) -> Judgem
     ensures { RepliesTo memory.old i j header result memory.new }
 {
     let callee = slots::number_at(memory, i);
-    let n = slots::count_pending(memory, j);
-    let k = slots::find_pending(memory, j, callee, header.reply_serial, 0);
-    if n <= k {
+    let Some(k) = slots::find_pending(memory, j, callee, header.reply_serial, 0) else {
         return refused(24);
-    }
+    };
+    let n = slots::count_pending(memory, j);
     let caller = slots::number_at(memory, j);
     end_call(memory, j, n, k);
     Judgement {

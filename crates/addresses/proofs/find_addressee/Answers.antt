@@ -1,24 +1,14 @@
 -- `addresses::find_addressee` meets its contract.
-use Rattle.addresses.proofs.Addresses.{addressees}
+use Rattle.std.proofs.Common.{rules, true, false, arith}
+use Rattle.std.proofs.lemmas.Iterator.{first_from_Range}
+use Rattle.rules.specs.Addresses.{answers_to}
+use Rattle.memory.proofs.Search.{slot_found, SaidOfSlot}
 use Rattle.addresses.proofs.find_addressee.Goals as goal
 
-pub loop-i-init : goal.loop-i-init
-loop-i-init c = search addressees
-
-pub answers_to-requires : goal.answers_to-requires
-answers_to-requires c = search addressees
-
-pub returns-then-answers_to : goal.returns-then-answers_to
-returns-then-answers_to c = search addressees
-
-pub overflow_add-i : goal.overflow_add-i
-overflow_add-i c = search addressees
-
-pub loop-i-smaller : goal.loop-i-smaller
-loop-i-smaller c = search addressees
-
-pub loop-i-preserved : goal.loop-i-preserved
-loop-i-preserved c = search addressees
-
 pub returns : goal.returns
-returns c = search addressees
+returns c =
+    let m = c.args.memory.now in
+    let t = answers_to c.args.text.now in
+    slot_found t m 0 (omega arith) _
+    (first_from_Range _ _ _ _ (SaidOfSlot t m true) (SaidOfSlot t m false) c.find.ensures.ran
+    (λ x q k h. search rules) (λ x q k. (search rules, λ h. search rules)))

@@ -1,10 +1,6 @@
 -- `audit::is_good` meets its contract.
-use Prim.Native.Nat.{◌-◌}
 use Rattle.audit.proofs.Slots.{Auditing}
 use Rattle.audit.proofs.is_good.Given as goal
 
 abbrev pub invariant-loop-i : goal.invariant-loop-i
 invariant-loop-i l = Auditing l.memory l.last l.tick l.i
-
-abbrev pub decreases-loop-i : goal.decreases-loop-i
-decreases-loop-i l = 16 - l.i

@@ -1,27 +1,18 @@
 -- `slots::find` meets its contract.
-use Rattle.memory.proofs.Find.{finding, peer_nobody}
+use Rattle.std.proofs.Common.{rules, ◌∙◌, true, false, arith}
+use Rattle.std.proofs.lemmas.Iterator.{first_from_Range}
+use Rattle.rules.specs.State.{is_peer}
+use Rattle.memory.proofs.Search.{slot_found, SaidOfSlot}
+use Rattle.memory.proofs.Find.{peer_is, peer_nobody}
 use Rattle.slots.proofs.find.Goals as goal
 
 pub returns-then-number-eq0 : goal.returns-then-number-eq0
 returns-then-number-eq0 c = search peer_nobody
 
-pub loop-i-init : goal.loop-i-init
-loop-i-init c = search finding
-
-pub number_at-requires : goal.number_at-requires
-number_at-requires c = search finding
-
-pub returns-then-number_at-number : goal.returns-then-number_at-number
-returns-then-number_at-number c = search finding
-
-pub overflow_add-i : goal.overflow_add-i
-overflow_add-i c = search finding
-
-pub loop-i-smaller : goal.loop-i-smaller
-loop-i-smaller c = search finding
-
-pub loop-i-preserved : goal.loop-i-preserved
-loop-i-preserved c = search finding
-
 pub returns : goal.returns
-returns c = search finding
+returns c =
+    let m = c.args.memory.now in
+    let n = c.args.number in
+    slot_found (is_peer n) m c.args.from (omega arith) _
+    (first_from_Range _ _ _ _ (SaidOfSlot (is_peer n) m true) (SaidOfSlot (is_peer n) m false) c.find.ensures.ran
+    (λ x q t h. peer_is n m x h (omega arith) ∙ search rules) (λ x q t. (search rules, λ h. peer_is n m x h (omega arith) ∙ search rules)))

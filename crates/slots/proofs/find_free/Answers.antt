@@ -1,24 +1,14 @@
 -- `slots::find_free` meets its contract.
-use Rattle.memory.proofs.Find.{finding}
+use Rattle.std.proofs.Common.{rules, ◌∙◌, true, false, arith}
+use Rattle.std.proofs.lemmas.Iterator.{first_from_Range}
+use Rattle.rules.specs.State.{is_free}
+use Rattle.memory.proofs.Search.{slot_found, SaidOfSlot}
+use Rattle.memory.proofs.Find.{free_is}
 use Rattle.slots.proofs.find_free.Goals as goal
 
-pub loop-i-init : goal.loop-i-init
-loop-i-init c = search finding
-
-pub number_at-requires : goal.number_at-requires
-number_at-requires c = search finding
-
-pub returns-then-number_at-eq0 : goal.returns-then-number_at-eq0
-returns-then-number_at-eq0 c = search finding
-
-pub overflow_add-i : goal.overflow_add-i
-overflow_add-i c = search finding
-
-pub loop-i-smaller : goal.loop-i-smaller
-loop-i-smaller c = search finding
-
-pub loop-i-preserved : goal.loop-i-preserved
-loop-i-preserved c = search finding
-
 pub returns : goal.returns
-returns c = search finding
+returns c =
+    let m = c.args.memory.now in
+    slot_found is_free m 0 (omega arith) _
+    (first_from_Range _ _ _ _ (SaidOfSlot is_free m true) (SaidOfSlot is_free m false) c.find.ensures.ran
+    (λ x q t h. free_is m x h ∙ search rules) (λ x q t. (search rules, λ h. free_is m x h ∙ search rules)))

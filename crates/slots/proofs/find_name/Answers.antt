@@ -1,30 +1,16 @@
 -- `slots::find_name` meets its contract.
-use Rattle.slots.proofs.Owned.{looking}
+use Rattle.std.proofs.Common.{rules, Bool, true, false, List, [], ℕ}
+use Rattle.std.proofs.lemmas.Iterator.{first_from_Range}
+use Rattle.wire.specs.Bytes.{same}
+use Rattle.memory.proofs.Search.{Said}
+use Rattle.slots.specs.Slots.{peer_at}
+use Rattle.slots.proofs.Searches.{found_in, name_said}
 use Rattle.slots.proofs.find_name.Goals as goal
 
-pub count_names-count-requires : goal.count_names-count-requires
-count_names-count-requires c = search looking
-
-pub loop-j-init : goal.loop-j-init
-loop-j-init c = search looking
-
-pub name_at-requires : goal.name_at-requires
-name_at-requires c = search looking
-
-pub equal-requires : goal.equal-requires
-equal-requires c = search looking
-
-pub returns-then-equal : goal.returns-then-equal
-returns-then-equal c = search looking
-
-pub overflow_add-j : goal.overflow_add-j
-overflow_add-j c = search looking
-
-pub loop-j-smaller : goal.loop-j-smaller
-loop-j-smaller c = search looking
-
-pub loop-j-preserved : goal.loop-j-preserved
-loop-j-preserved c = search looking
-
 pub returns : goal.returns
-returns c = search looking
+returns c =
+    let ns = (peer_at c.args.memory.now c.args.i).names in
+    let t : List ℕ → Bool = λ x. same x c.args.name.now in
+    found_in t ns [] c.args.from _ c.count_names.ensures.0 _
+    (first_from_Range _ _ _ _ (Said t ns [] true) (Said t ns [] false) c.find.ensures.ran
+    (λ x q k h. search (rules, name_said)) (λ x q k. (search rules, λ h. search (rules, name_said))))

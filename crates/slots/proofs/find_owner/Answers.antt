@@ -1,24 +1,14 @@
 -- `slots::find_owner` meets its contract.
-use Rattle.slots.proofs.Owned.{finding_owner}
+use Rattle.std.proofs.Common.{rules, true, false, arith}
+use Rattle.std.proofs.lemmas.Iterator.{first_from_Range}
+use Rattle.rules.specs.Calls.{is_owner}
+use Rattle.memory.proofs.Search.{slot_found, SaidOfSlot}
 use Rattle.slots.proofs.find_owner.Goals as goal
 
-pub loop-i-init : goal.loop-i-init
-loop-i-init c = search finding_owner
-
-pub is_owner-requires : goal.is_owner-requires
-is_owner-requires c = search finding_owner
-
-pub returns-then-is_owner : goal.returns-then-is_owner
-returns-then-is_owner c = search finding_owner
-
-pub overflow_add-i : goal.overflow_add-i
-overflow_add-i c = search finding_owner
-
-pub loop-i-smaller : goal.loop-i-smaller
-loop-i-smaller c = search finding_owner
-
-pub loop-i-preserved : goal.loop-i-preserved
-loop-i-preserved c = search finding_owner
-
 pub returns : goal.returns
-returns c = search finding_owner
+returns c =
+    let m = c.args.memory.now in
+    let t = is_owner c.args.name.now in
+    slot_found t m c.args.from (omega arith) _
+    (first_from_Range _ _ _ _ (SaidOfSlot t m true) (SaidOfSlot t m false) c.find.ensures.ran
+    (λ x q k h. search rules) (λ x q k. (search rules, λ h. search rules)))

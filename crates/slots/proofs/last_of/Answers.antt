@@ -12,8 +12,5 @@ use Rattle.slots.proofs.last_of.Goals as goal
 last_word : (m : List ℕ) (r : ℕ) → r ≡ word_at Little m 0 → r ≡ (state_of m).last
 last_word m r e = e ∙ sym (last_at m)
 
-pub u32_at-requires : goal.u32_at-requires
-u32_at-requires c = search (last_word, rules)
-
 pub returns : goal.returns
 returns c = search (last_word, rules)

@@ -1,12 +1,7 @@
 -- `slots::owns_name` meets its contract.
-use Rattle.slots.proofs.Owned.{owned}
+use Rattle.std.proofs.Common.{rules}
+use Rattle.slots.proofs.Searches.{owns_found}
 use Rattle.slots.proofs.owns_name.Goals as goal
 
-pub count_names-count-requires : goal.count_names-count-requires
-count_names-count-requires c = search owned
-
-pub find_name-requires : goal.find_name-requires
-find_name-requires c = search owned
-
 pub returns : goal.returns
-returns c = search owned
+returns c = search (rules, owns_found)

@@ -12,8 +12,5 @@ use Rattle.slots.proofs.tick_of.Goals as goal
 last-tick : (m : List ℕ) (r : ℕ) → r ≡ long_at m tick_at → r ≡ (state_of m).tick
 last-tick m r e = e ∙ sym (tick_at_lem m)
 
-pub u64_at-requires : goal.u64_at-requires
-u64_at-requires c = search (last-tick, rules)
-
 pub returns : goal.returns
 returns c = search (last-tick, rules)
