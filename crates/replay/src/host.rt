@@ -9,13 +9,14 @@ use std::io::Write;
 #[derive(Drop)]
 pub struct Host {
     image: Vec<u8>,
-    memory: Vec<u8>,
+    // Its length stands in its type, so that the compiler builds the guard for it.
+    memory: Box<[u8; MEMORY_LENGTH]>,
     ledger: Option<Ledger>,
 }
 
 impl Host {
     pub fn new(alloc: Global, image: Vec<u8>, keeps_ledger: bool) -> Result<Host, AllocError> {
-        let memory = vec![in alloc; 0u8; MEMORY_LENGTH]?;
+        let memory = Box::new(alloc, [0; MEMORY_LENGTH])?;
         let ledger = if keeps_ledger {
             Some(Ledger::new(alloc))
         } else {
@@ -29,7 +30,7 @@ impl Host {
     }
 
     pub fn start(&mut self) -> u8 {
-        let answer = guard::start(self.memory.as_mut_slice());
+        let answer = guard::start(&mut *self.memory);
         if let Some(ledger) = &mut self.ledger {
             ledger.started(answer);
         }
@@ -37,7 +38,7 @@ impl Host {
     }
 
     pub fn connect(&mut self, uid: u32, gids: &[u32]) -> Result<Connected, AllocError> {
-        let report = guard::connect(self.image.as_slice(), self.memory.as_mut_slice(), uid, gids);
+        let report = guard::connect(&self.image, &mut *self.memory, uid, gids);
         if let Some(ledger) = &mut self.ledger {
             ledger.connected(report)?;
         }
@@ -45,25 +46,15 @@ impl Host {
     }
 
     pub fn own(&mut self, peer: u32, name: &[u8]) -> Owned {
-        guard::own(
-            self.image.as_slice(),
-            self.memory.as_mut_slice(),
-            peer,
-            name,
-        )
+        guard::own(&self.image, &mut *self.memory, peer, name)
     }
 
     pub fn release(&mut self, peer: u32, name: &[u8]) -> u8 {
-        guard::release(self.memory.as_mut_slice(), peer, name)
+        guard::release(&mut *self.memory, peer, name)
     }
 
     pub fn piece(&mut self, peer: u32, bytes: &[u8]) -> Result<Taken, AllocError> {
-        let part = guard::piece(
-            self.image.as_slice(),
-            self.memory.as_mut_slice(),
-            peer,
-            bytes,
-        );
+        let part = guard::piece(&self.image, &mut *self.memory, peer, bytes);
         if let Some(ledger) = &mut self.ledger {
             ledger.offered(peer, bytes, part)?;
         }
@@ -71,7 +62,7 @@ impl Host {
     }
 
     pub fn disconnect(&mut self, peer: u32) -> Gone {
-        let report = guard::disconnect(self.memory.as_mut_slice(), peer);
+        let report = guard::disconnect(&mut *self.memory, peer);
         if let Some(ledger) = &mut self.ledger {
             ledger.disconnected(peer, report.answer);
         }
@@ -79,7 +70,7 @@ impl Host {
     }
 
     pub fn tick(&mut self, tick: u64, limit: u64) -> Ticked {
-        let report = guard::tick(self.memory.as_mut_slice(), tick, limit);
+        let report = guard::tick(&mut *self.memory, tick, limit);
         if let Some(ledger) = &mut self.ledger {
             ledger.ticked(tick, limit, report);
         }
@@ -89,7 +80,7 @@ impl Host {
     // What the ledger has, where one is kept.
     pub fn show_waits(&self, out: &mut impl Write) -> Result<(), Fault> {
         if let Some(ledger) = &self.ledger {
-            ledger.show(self.memory.as_slice(), out)?;
+            ledger.show(&self.memory, out)?;
         }
         Ok(())
     }

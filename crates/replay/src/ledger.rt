@@ -3,7 +3,7 @@ ghost use Rattle.std.specs.Prelude.{◌<◌};
 
 use crate::peer::{OpenCall, Peer};
 use header::{CALL, ERROR, RETURN, Reading};
-use memory::{PENDING_AT, SLOT_LENGTH, SLOTS_AT};
+use memory::{MEMORY_LENGTH, PENDING_AT, SLOT_LENGTH, SLOTS_AT};
 use rules::{Connected, Receiver, Taken, Ticked};
 use std::alloc::{AllocError, Global};
 use std::collections::BTreeMap;
@@ -119,7 +119,7 @@ impl Ledger {
     }
 
     // A line for each connected peer, in slot order: its number, the count of its waiting calls that the guard's memory has, and what passed.
-    pub fn show(&self, memory: &[u8], out: &mut impl Write) -> io::Result<()> {
+    pub fn show(&self, memory: &[u8; MEMORY_LENGTH], out: &mut impl Write) -> io::Result<()> {
         for slot in 0..16 {
             if let Some((number, peer)) = self.peers.iter().find(|(_, peer)| peer.slot == slot) {
                 let waiting = stored(memory, slot);
@@ -135,12 +135,12 @@ impl Ledger {
 }
 
 // The count of a slot's waiting calls, as it stands in the guard's memory.
-fn stored(memory: &[u8], slot: usize) -> u32
+fn stored(memory: &[u8; MEMORY_LENGTH], slot: usize) -> u32
     requires { slot < 16 }
 {
-    let at = SLOTS_AT + SLOT_LENGTH * slot + PENDING_AT;
-    if memory.len() < at + 4 {
-        return 0;
-    }
-    wire::u32_at(Order::Little, memory, at)
+    wire::u32_at(
+        Order::Little,
+        memory,
+        SLOTS_AT + SLOT_LENGTH * slot + PENDING_AT,
+    )
 }

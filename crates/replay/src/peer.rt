@@ -44,7 +44,7 @@ impl Peer {
     }
 
     pub fn message(&self) -> Reading {
-        reader::read(self.head.as_slice())
+        reader::read(&self.head)
     }
 
     // The next byte begins another message.

@@ -66,7 +66,7 @@ impl<'a, W: Write> Session<'a, W> {
     fn connect(&mut self, count: u32) -> Result<(), Fault> {
         let uid = self.capture.next_u32()?;
         let gids = self.capture.words(count, GID_ROOM)?;
-        let report = self.host.connect(uid, gids.as_slice())?;
+        let report = self.host.connect(uid, &gids)?;
         let rule = RuleNumbers(report.rule);
         writeln!(
             self.out,
@@ -79,7 +79,7 @@ impl<'a, W: Write> Session<'a, W> {
     fn own(&mut self, length: u32) -> Result<(), Fault> {
         let peer = self.capture.next_u32()?;
         let name = self.capture.bytes(length, NAME_ROOM)?;
-        let report = self.host.own(peer, name.as_slice());
+        let report = self.host.own(peer, &name);
         writeln!(
             self.out,
             "own {} {}",
@@ -92,7 +92,7 @@ impl<'a, W: Write> Session<'a, W> {
     fn release(&mut self, length: u32) -> Result<(), Fault> {
         let peer = self.capture.next_u32()?;
         let name = self.capture.bytes(length, NAME_ROOM)?;
-        let answer = self.host.release(peer, name.as_slice());
+        let answer = self.host.release(peer, &name);
         writeln!(self.out, "release {answer}")?;
         Ok(())
     }
