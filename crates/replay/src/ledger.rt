@@ -1,142 +1,146 @@
 // What passed, by peer. It is told from the calls, the messages and the guard's answers alone, so that the waits in the guard's memory can be held against it.
 ghost use Rattle.std.specs.Prelude.{◌<◌};
 
-use crate::open_calls::Ending;
-use crate::rows::{
-    ADMITTED, IS_KEPT, LAST_TICK, LEDGER_LENGTH, NUMBER, REPLIED, add, clear, find, get, set,
-};
-use crate::{heads, open_calls};
-use header::{CALL, ERROR, Header, RETURN, Reading};
+use crate::peer::{OpenCall, Peer};
+use header::{CALL, ERROR, RETURN, Reading};
+use memory::{MEMORY_LENGTH, PENDING_AT, SLOT_LENGTH, SLOTS_AT};
 use rules::{Connected, Receiver, Taken, Ticked};
+use std::alloc::{AllocError, Global};
+use std::collections::BTreeMap;
+use std::io;
+use std::io::Write;
+use wire::Order;
 
-// From here on the ledger is kept.
-pub fn keep(ledger: &mut [u64; LEDGER_LENGTH]) {
-    ledger[IS_KEPT] = 1;
+#[derive(Drop)]
+pub struct Ledger {
+    alloc: Global,
+    last_tick: u64,
+    // The connected peers, by number.
+    peers: BTreeMap<u32, Peer>,
 }
 
-// A start: nobody is connected, and the tick is 0.
-pub fn started(ledger: &mut [u64; LEDGER_LENGTH], answer: u8) {
-    if answer != 0 {
-        return;
+impl Ledger {
+    pub fn new(alloc: Global) -> Ledger {
+        Ledger {
+            alloc,
+            last_tick: 0,
+            peers: BTreeMap::new(alloc),
+        }
     }
-    ledger[LAST_TICK] = 0;
-    for slot in 0..16 {
-        clear(ledger, slot);
-    }
-}
 
-// Nothing of the slot stays, and nobody's call to it.
-fn forget(ledger: &mut [u64; LEDGER_LENGTH], slot: usize)
-    requires { slot < 16 }
-{
-    let number = get(ledger, slot, NUMBER);
-    open_calls::end(ledger, Ending::To(number));
-    clear(ledger, slot);
-}
-
-// A connect: who is let in begins at zero. A ledger that is not kept lets nobody in, and so it finds nobody and does no work.
-pub fn connected(ledger: &mut [u64; LEDGER_LENGTH], report: Connected) {
-    if (report.answer != 0) | (ledger[IS_KEPT] == 0) {
-        return;
+    // A start: nobody is connected, and the tick is 0.
+    pub fn started(&mut self, answer: u8) {
+        if answer == 0 {
+            self.last_tick = 0;
+            self.peers.clear();
+        }
     }
-    let slot = report.slot;
-    if slot < 16 {
-        forget(ledger, slot);
-        set(ledger, slot, NUMBER, report.number as u64);
-    }
-}
 
-// A disconnect: the calls that are open to the peer that leaves end.
-pub fn disconnected(ledger: &mut [u64; LEDGER_LENGTH], peer: u32, answer: u8) {
-    if answer != 0 {
-        return;
+    // A connect: who is let in begins at zero.
+    pub fn connected(&mut self, report: Connected) -> Result<(), AllocError> {
+        if report.answer == 0 {
+            let peer = Peer::new(self.alloc, report.slot);
+            self.peers.insert(report.number, peer)?;
+        }
+        Ok(())
     }
-    let slot = find(ledger, peer);
-    if slot < 16 {
-        forget(ledger, slot);
+
+    // A disconnect: the calls that are open to the peer that leaves end.
+    pub fn disconnected(&mut self, number: u32, answer: u8) {
+        if answer == 0 {
+            self.peers.remove(&number);
+            self.end_calls(|call| call.callee == number);
+        }
     }
-}
 
-// A tick: the calls that are old enough end.
-pub fn ticked(ledger: &mut [u64; LEDGER_LENGTH], tick: u64, limit: u64, report: Ticked) {
-    if (report.answer != 0) | (ledger[IS_KEPT] == 0) {
-        return;
+    // A tick: the calls that are old enough end.
+    pub fn ticked(&mut self, tick: u64, limit: u64, report: Ticked) {
+        if report.answer == 0 {
+            self.last_tick = tick;
+            self.end_calls(|call| limit <= tick.saturating_sub(call.tick));
+        }
     }
-    ledger[LAST_TICK] = tick;
-    open_calls::end(ledger, Ending::Aged(tick, limit));
-}
 
-// A call that expects a reply passed. A caller may be its own callee.
-fn admit(ledger: &mut [u64; LEDGER_LENGTH], caller: usize, callee: u64, serial: u32)
-    requires { caller < 16 }
-{
-    add(ledger, caller, ADMITTED, 1);
-    open_calls::append(ledger, caller, callee, serial as u64);
-}
-
-// A return or error passed: it counts for the caller, who receives it.
-fn reply(ledger: &mut [u64; LEDGER_LENGTH], caller: usize, callee: u64, serial: u32) {
-    if caller >= 16 {
-        return;
+    // Such calls of every peer end.
+    fn end_calls<F: Fn(&OpenCall) -> bool>(&mut self, ends: F)
+        requires { F.IsAlwaysCallable ends }
+    {
+        for peer in self.peers.values_mut() {
+            peer.end_calls(&ends);
+        }
     }
-    add(ledger, caller, REPLIED, 1);
-    open_calls::reply(ledger, caller, callee, serial as u64);
-}
 
-// A message of a slot passed to the peer with this number. These count: a call without the flag NO_REPLY_EXPECTED, the lowest bit; a return and an error.
-fn pass_to(ledger: &mut [u64; LEDGER_LENGTH], slot: usize, message: Header, number: u32)
-    requires { slot < 16 }
-{
-    let kind = message.kind;
-    match kind {
-        CALL => {
-            if message.flags % 2 == 0 {
-                admit(ledger, slot, number as u64, message.serial);
+    // A part of a peer's stream was offered. What was taken of it belongs to one message, which passed (0), was refused as a whole (20 to 26) or goes on (10).
+    // After any other answer it goes no further.
+    pub fn offered(&mut self, number: u32, bytes: &[u8], part: Taken) -> Result<(), AllocError> {
+        let Some(peer) = self.peers.get_mut(&number) else {
+            return Ok(());
+        };
+        peer.take(&bytes[..part.taken.min(bytes.len())])?;
+        match (part.judgement.answer, part.judgement.receiver) {
+            (0, Receiver::Peer(receiver)) => {
+                let message = peer.message();
+                peer.end_message();
+                self.passed(number, receiver, message)
+            }
+            (0 | 20..=26, _) => {
+                peer.end_message();
+                Ok(())
+            }
+            _ => Ok(()),
+        }
+    }
+
+    // A message passed from a peer to another, or to itself. These count: a call without the flag NO_REPLY_EXPECTED, the lowest bit; a return and an error, for the
+    // caller, who receives it.
+    fn passed(&mut self, sender: u32, receiver: u32, message: Reading) -> Result<(), AllocError> {
+        let Reading::Whole(header) = message else {
+            return Ok(());
+        };
+        match header.kind {
+            CALL if header.flags % 2 == 0 => {
+                let call = OpenCall {
+                    callee: receiver,
+                    serial: header.serial,
+                    tick: self.last_tick,
+                };
+                if let Some(caller) = self.peers.get_mut(&sender) {
+                    caller.admit(call)?;
+                }
+            }
+            RETURN | ERROR => {
+                if let Some(caller) = self.peers.get_mut(&receiver) {
+                    caller.reply(sender, header.reply_serial);
+                }
+            }
+            _ => {}
+        }
+        Ok(())
+    }
+
+    // A line for each connected peer, in slot order: its number, the count of its waiting calls that the guard's memory has, and what passed.
+    pub fn show(&self, memory: &[u8; MEMORY_LENGTH], out: &mut impl Write) -> io::Result<()> {
+        for slot in 0..16 {
+            if let Some((number, peer)) = self.peers.iter().find(|(_, peer)| peer.slot == slot) {
+                let waiting = stored(memory, slot);
+                writeln!(
+                    out,
+                    "waits {number} {waiting} {} {} {}",
+                    peer.admitted, peer.replied, peer.otherwise
+                )?;
             }
         }
-        RETURN | ERROR => {
-            let caller = find(ledger, number);
-            let callee = get(ledger, slot, NUMBER);
-            reply(ledger, caller, callee, message.reply_serial);
-        }
-        _ => {}
+        Ok(())
     }
 }
 
-// The present message of a slot passed.
-fn pass(ledger: &mut [u64; LEDGER_LENGTH], slot: usize, receiver: Receiver)
+// The count of a slot's waiting calls, as it stands in the guard's memory.
+fn stored(memory: &[u8; MEMORY_LENGTH], slot: usize) -> u32
     requires { slot < 16 }
 {
-    let Receiver::Peer(number) = receiver else {
-        return;
-    };
-    if let Reading::Whole(message) = heads::read(ledger, slot) {
-        pass_to(ledger, slot, message, number);
-    }
-}
-
-// What a part of the slot's stream came to: its message passed (0), goes on (10), or was refused as a whole (20 to 26). After any other answer it goes no further.
-fn settle(ledger: &mut [u64; LEDGER_LENGTH], slot: usize, answer: u8, receiver: Receiver)
-    requires { slot < 16 }
-{
-    match answer {
-        0 => {
-            pass(ledger, slot, receiver);
-            heads::end(ledger, slot);
-        }
-        20..=26 => heads::end(ledger, slot),
-        _ => {}
-    }
-}
-
-// A part of a peer's stream was offered. What was taken of it belongs to one message.
-pub fn offered(ledger: &mut [u64; LEDGER_LENGTH], peer: u32, bytes: &[u8], part: Taken) {
-    let slot = find(ledger, peer);
-    if slot >= 16 {
-        return;
-    }
-    let judgement = part.judgement;
-    let receiver = judgement.receiver;
-    heads::take(ledger, slot, bytes, part.taken);
-    settle(ledger, slot, judgement.answer, receiver);
+    wire::u32_at(
+        Order::Little,
+        memory,
+        SLOTS_AT + SLOT_LENGTH * slot + PENDING_AT,
+    )
 }

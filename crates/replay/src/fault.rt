@@ -1,0 +1,29 @@
+// What ends a replay before the capture's end.
+use std::alloc::{AllocError, AllocFailed};
+use std::io;
+
+#[derive(Drop)]
+pub enum Fault {
+    // The file cannot be read, or its layout is broken.
+    BadCapture,
+    // The lines cannot be written, or there is no memory.
+    Io(io::Error),
+}
+
+impl From<io::Error> for Fault {
+    fn from(error: io::Error) -> Fault {
+        Fault::Io(error)
+    }
+}
+
+impl From<AllocError> for Fault {
+    fn from(error: AllocError) -> Fault {
+        Fault::Io(io::Error::from(error))
+    }
+}
+
+impl<T: Drop> From<AllocFailed<T>> for Fault {
+    fn from(error: AllocFailed<T>) -> Fault {
+        Fault::from(AllocError::from(error))
+    }
+}
