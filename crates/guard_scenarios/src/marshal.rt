@@ -1,6 +1,4 @@
 // Values as the bytes of a message.
-ghost use Rattle.std.specs.Prelude.{◌≤◌};
-
 use crate::message::Field;
 use std::alloc::{AllocError, Global};
 use wire::Order;
