@@ -1,6 +1,6 @@
 // What the guard's calls report, as parts of a line.
 use policy::Decider;
-use rules::{Judgement, Receiver, Shown};
+use rules::{Judgement, Receiver};
 use std::alloc::{AllocError, Global};
 use std::fmt;
 
@@ -21,14 +21,14 @@ impl fmt::Display for Received {
 
 /// Who decided, where that is shown.
 #[derive(Clone, Copy)]
-pub struct Decided(pub Shown);
+pub struct Decided(pub Option<Decider>);
 
 impl fmt::Display for Decided {
     fn fmt<W: fmt::Write>(&self, f: &mut fmt::Formatter<W>) -> fmt::Result {
         match self.0 {
-            Shown::Nothing => Ok(()),
-            Shown::By(Decider::Nobody) => f.write_str(", no rule"),
-            Shown::By(Decider::Rule(_, position)) => write!(f, ", rule {position}"),
+            None => Ok(()),
+            Some(Decider::Nobody) => f.write_str(", no rule"),
+            Some(Decider::Rule(_, position)) => write!(f, ", rule {position}"),
         }
     }
 }
@@ -73,7 +73,7 @@ pub fn is_waiting(judgement: Judgement) -> bool {
         Judgement {
             answer: 10,
             receiver: Receiver::Nobody,
-            rule: Shown::Nothing
+            rule: None
         }
     )
 }

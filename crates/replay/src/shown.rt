@@ -1,5 +1,6 @@
 // Parts of what a call reports, as the lines have them: numbers with spaces between them.
-use rules::{Receiver, Shown};
+use policy::Decider;
+use rules::Receiver;
 use std::fmt;
 
 // 0 nobody, 1 the bus, 2 a peer, 3 a mask of slots; behind it the peer's number or the mask, and how many slots the mask has.
@@ -19,7 +20,7 @@ impl fmt::Display for ReceiverNumbers {
 
 // Who decided.
 #[derive(Clone, Copy)]
-pub struct RuleNumbers(pub Shown);
+pub struct RuleNumbers(pub Option<Decider>);
 
 impl fmt::Display for RuleNumbers {
     fn fmt<W: fmt::Write>(&self, f: &mut fmt::Formatter<W>) -> fmt::Result {
