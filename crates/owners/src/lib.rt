@@ -15,9 +15,7 @@ ghost use Rattle.owners.specs.Writes.{name_bytes, Naming};
 ghost use Rattle.owners.specs.Steps.{granted, claimed, obtained, given_up};
 
 use image::Section;
-use memory::{
-    FIRST_NAME, NAME_WIDTH, NAMES_AT, NAMES_LENGTH, SLOT_LENGTH, SLOTS_AT, UID_AT,
-};
+use memory::{FIRST_NAME, NAME_WIDTH, NAMES_AT, NAMES_LENGTH, SLOT_LENGTH, SLOTS_AT, UID_AT};
 use policy::{Decision, Uid};
 use rules::{Owned, no_own};
 
