@@ -1,7 +1,6 @@
 -- Each way through own.
 use Rattle.std.proofs.Common.{Option, None, is_some, IfSome, unwrap_or}
 use Rattle.std.proofs.Common.{◌≡◌, refl, sym, ap, ◌∙◌, Bool, true, false, not, List, [], ◌∷◌, ◌++◌, append_assoc, ℕ, ◌+◌, ◌-◌, ◌*◌, ◌≤◌, ◌<◌, arith, add-one, length, take, drop, set, replicate, length-set, drop-drop, take-take, take-suc-set, drop-set-lt, rules, ltb, true≢false, lt-ltb, le-ltb, le-leb, Some}
-use native.Mathlib.Nat.{sub-zero}
 use borrow.Author.Tests.{lt-leb, not-true, not-false}
 use Rattle.wire.specs.Words.{word_at, word_bytes}
 use Rattle.wire.specs.declared.Order.TheVariants.{Little}
@@ -11,7 +10,6 @@ use Rattle.tables.proofs.Written.{put_sized, table_unused}
 use Rattle.image.specs.declared.Section.TheVariants.{Own}
 use Rattle.policy.specs.Names.{name_limit, cell_of, owns, name_width}
 use Rattle.policy.specs.Decisions.{own_decision}
-use Rattle.policy.specs.declared.Uid.{Uid}
 use Rattle.policy.specs.declared.Decision.{Decision}
 use Rattle.rules.specs.State.{is_peer, first_by}
 use Rattle.rules.specs.Addresses.{ownable}

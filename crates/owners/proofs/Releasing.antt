@@ -6,17 +6,16 @@ use mathlib.Core.List.{List, ◌++◌}
 use Prim.Native.Nat.{ℕ, ◌+◌, ◌-◌, ◌*◌, ◌≤◌, ◌<◌}
 use native.Mathlib.Omega.{arith}
 use native.Mathlib.Nat.{zero-add}
-use lib.Dec.{ltb}
 use lib.ListN.{length, take, drop}
 use borrow.Author.Rules.{rules}
-use borrow.Author.Tests.{not-true, not-false, lt-ltb, le-ltb}
+use borrow.Author.Tests.{not-true, not-false}
 use Rattle.wire.proofs.Words.{Octets, octets_below}
 use Rattle.wire.specs.Bytes.{same}
 use Rattle.wire.specs.Words.{word_at, word_bytes}
 use Rattle.wire.specs.declared.Order.TheVariants.{Little}
 use Rattle.tables.specs.Cut.{cut_out, Cell, without}
 use Rattle.tables.proofs.Written.{part_cell, remove_written}
-use Rattle.policy.specs.Names.{cell_of, owns, name_width}
+use Rattle.policy.specs.Names.{cell_of, name_width}
 use Rattle.rules.specs.State.{is_peer, first_by}
 use Rattle.rules.specs.Addresses.{ownable}
 use Rattle.rules.specs.Calls.{release, released}

@@ -14,9 +14,7 @@ ghost use Rattle.slots.specs.Slots.{peer_at, Seated};
 ghost use Rattle.owners.specs.Writes.{name_bytes, Naming};
 ghost use Rattle.owners.specs.Steps.{granted, claimed, obtained, given_up};
 
-use memory::{
-    FIRST_NAME, NAME_WIDTH, NAMES_AT, NAMES_LENGTH, SLOT_LENGTH, SLOTS_AT, UID_AT,
-};
+use memory::{FIRST_NAME, NAME_WIDTH, NAMES_AT, NAMES_LENGTH, SLOT_LENGTH, SLOTS_AT, UID_AT};
 use policy::{Decision, Uid};
 use rules::{Owned, no_own};
 
