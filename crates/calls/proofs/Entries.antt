@@ -1,5 +1,5 @@
 -- The entries of a script: their lengths, and the layout to its end.
-use Rattle.std.proofs.Common.{◌≡◌, refl, sym, ap, ◌∙◌, Bool, true, false, not, ◌&&◌, List, [], ◌∷◌, ℕ, zero, suc, ◌+◌, ◌-◌, ◌%◌, ◌≤◌, ◌<◌, arith, eqb, leb, ltb, length, take, drop, length-drop, rules, eq-eqb, ne_eqb, lt-ltb, le-ltb, eqb-true, ltb-true, ltb-false, leb-true, Option, Some, None, is_some, unwrap_or}
+use Rattle.std.proofs.Common.{◌≡◌, refl, sym, ap, ◌∙◌, Bool, true, false, not, ◌&&◌, List, [], ◌∷◌, ℕ, zero, suc, ◌+◌, ◌-◌, ◌%◌, ◌≤◌, ◌<◌, arith, eqb, leb, ltb, length, take, drop, length-drop, rules, eq-eqb, ne_eqb, lt-ltb, le-ltb, eqb-true, ltb-true, ltb-false, leb-true, Option, Some, None, is_some, unwrap_or, ◌⊎◌, inl, inr}
 use mathlib.Core.Bool.{false≢true}
 use borrow.Author.Tests.{eqb-false, not-true, not-false}
 use Rattle.wire.specs.Words.{word_at}
@@ -25,17 +25,22 @@ module _ (k : Kind) (n : ℕ) where
   unfolding well_sized
   sized_connect e = rw e refl
 
-  pub sized_own : k ≡ kind.Own → leb 4 n ≡ well_sized (kind_word k) n
+  sized_own : k ≡ kind.Own → leb 4 n ≡ well_sized (kind_word k) n
   unfolding well_sized
   sized_own e = rw e refl
 
-  pub sized_release : k ≡ kind.Release → leb 4 n ≡ well_sized (kind_word k) n
+  sized_release : k ≡ kind.Release → leb 4 n ≡ well_sized (kind_word k) n
   unfolding well_sized
   sized_release e = rw e refl
 
-  pub sized_piece : k ≡ kind.Piece → leb 4 n ≡ well_sized (kind_word k) n
+  sized_piece : k ≡ kind.Piece → leb 4 n ≡ well_sized (kind_word k) n
   unfolding well_sized
   sized_piece e = rw e refl
+
+  pub sized_peer : (k ≡ kind.Own) ⊎ ((k ≡ kind.Release) ⊎ (k ≡ kind.Piece)) → leb 4 n ≡ well_sized (kind_word k) n
+  sized_peer (inl e) = sized_own e
+  sized_peer (inr (inl e)) = sized_release e
+  sized_peer (inr (inr e)) = sized_piece e
 
   pub sized_leave : k ≡ kind.Disconnect → eqb n 4 ≡ well_sized (kind_word k) n
   unfolding well_sized
@@ -65,7 +70,7 @@ module _ (k : Kind) (n : ℕ) where
     pub tick_words : k ≡ kind.Tick → n ≡ 16
     tick_words e = eqb-true n 16 (sized_tick e ∙ w)
 
-pub ruleset kinds = (sized_start, sized_connect, sized_own, sized_release, sized_piece, sized_leave, sized_tick, rules)
+pub ruleset kinds = (sized_start, sized_connect, sized_peer, sized_leave, sized_tick, rules)
 
 -- no kind has a word above 6
 sized_above : (k n : ℕ) → 6 < k → well_sized k n ≡ false

@@ -49,9 +49,7 @@ impl Kind {
         match self {
             Kind::Start => n == 0,
             Kind::Connect => (4 <= n) & (n % 4 == 0),
-            Kind::Own => 4 <= n,
-            Kind::Release => 4 <= n,
-            Kind::Piece => 4 <= n,
+            Kind::Own | Kind::Release | Kind::Piece => 4 <= n,
             Kind::Disconnect => n == 4,
             Kind::Tick => n == 16,
         }

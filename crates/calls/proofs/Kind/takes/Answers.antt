@@ -1,4 +1,4 @@
-use Rattle.calls.proofs.Entries.{kinds}
+use Rattle.calls.proofs.Entries.{sized_peer, kinds}
 use Rattle.calls.proofs.Kind.takes.Goals as goal
 
 pub returns-in-Start : goal.returns-in-Start
@@ -8,13 +8,7 @@ pub returns-in-Connect : goal.returns-in-Connect
 returns-in-Connect c = search kinds
 
 pub returns-in-Own : goal.returns-in-Own
-returns-in-Own c = search kinds
-
-pub returns-in-Release : goal.returns-in-Release
-returns-in-Release c = search kinds
-
-pub returns-in-Piece : goal.returns-in-Piece
-returns-in-Piece c = search kinds
+returns-in-Own c = sized_peer c.args.self c.args.n c.in-Own.is
 
 pub returns-in-Disconnect : goal.returns-in-Disconnect
 returns-in-Disconnect c = search kinds
