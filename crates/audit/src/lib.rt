@@ -116,7 +116,7 @@ fn is_cell_plain(memory: &[u8], i: usize, j: usize) -> bool
     ensures { result ≡ plain_cell memory.now i j }
 {
     let at = SLOTS_AT + SLOT_LENGTH * i + FIRST_NAME + NAME_WIDTH * j;
-    let from = at + 1 + wire::wide(memory[at]) as usize;
+    let from = at + 1 + usize::from(memory[at]);
     wire::is_zero(memory, from, at + NAME_WIDTH)
 }
 

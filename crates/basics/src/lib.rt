@@ -145,7 +145,7 @@ fn text_at(text: Text, order: Order, head: &[u8], at: usize) -> Option<usize>
 fn short_text(text: Text, head: &[u8], at: usize) -> Option<usize>
     ensures { result ≡ short_text_at (good_text text) head.now at }
 {
-    let n = wire::wide(*head.get(at)?) as usize;
+    let n = usize::from(*head.get(at)?);
     text_in(text, head, at + 1, n)
 }
 

@@ -48,7 +48,7 @@ fn cell_holds(cells: &[u8], name: &[u8]) -> bool
     ensures holds { result ≡ same (name_of cells.now) name.now }
     ensures byte { get_or cells.now 0 0 < 256 }
 {
-    let to = 1 + wire::wide(cells[0]) as usize;
+    let to = 1 + usize::from(cells[0]);
     wire::equal(&cells[1..to], name)
 }
 

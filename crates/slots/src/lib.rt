@@ -139,7 +139,7 @@ pub fn name_at(memory: &[u8], i: usize, j: usize) -> &[u8]
 {
     let at = SLOTS_AT + SLOT_LENGTH * i + FIRST_NAME + NAME_WIDTH * j;
     let from = at + 1;
-    let to = from + wire::wide(memory[at]) as usize;
+    let to = from + usize::from(memory[at]);
     &memory[from..to]
 }
 

@@ -5,12 +5,6 @@ use Rattle.matching.proofs.cell_holds.Goals as goal
 pub bounds-cells-0 : goal.bounds-cells-0
 bounds-cells-0 c = search cuts
 
-pub wide-requires : goal.wide-requires
-wide-requires c = search cuts
-
-pub overflow_cast-to : goal.overflow_cast-to
-overflow_cast-to c = search cuts
-
 pub overflow_add-to : goal.overflow_add-to
 overflow_add-to c = search cuts
 
