@@ -1,20 +1,18 @@
 -- The unique name of a number: its digits are written from the last.
 use mathlib.Core.Path.{◌≡◌, refl, sym, ap, ◌∙◌}
-use mathlib.Core.Bool.{Bool, true, false, not, ◌&&◌}
+use mathlib.Core.Bool.{true, false, not, ◌&&◌}
 use mathlib.Core.List.{List, [], ◌∷◌, ◌++◌, append_assoc}
 use Prim.Native.Nat.{ℕ, zero, suc, ◌+◌, ◌-◌, ◌/◌, ◌%◌, ◌≤◌, ◌<◌}
 use native.Mathlib.Omega.{arith}
 use native.Mathlib.Numerals.{add-one}
 use lib.Dec.{ltb, eqb}
-use lib.ListN.{length, take, drop, set, length-set, length-drop, drop_of_length-le}
-use lib.Seq.{sets-eq, drop-cons, drop_at, get_or-set_same, drop-set-lt, take_all, length-take-le}
+use lib.ListN.{length, take, drop, set, length-set, drop_of_length-le}
+use lib.Seq.{sets-eq, drop-cons, drop_at, get_or-set_same, drop-set-lt, length-take-le}
 use borrow.Author.Rules.{rules}
 use borrow.Author.Tests.{ltb-true, lt-ltb, eqb-true, eq-eqb, ne_eqb, not-true, not-false}
 use Rattle.wire.specs.Bytes.{byte, front, same}
 use Rattle.wire.proofs.Texts.{both_first, both_second}
 use Rattle.rules.specs.Addresses.{digits, unique_name}
-use Rattle.addresses.specs.declared.Text.{Text}
-use Rattle.addresses.specs.Destinations.{Spelled}
 
 -- ---- stores
 
@@ -80,14 +78,9 @@ module _ {number : ℕ} {bytes : List ℕ} {k n : ℕ} (s : Spelling number byte
     none_left : digits (k - 3) n (drop k bytes) ≡ drop k bytes
     none_left = digits_end (k - 3) n (drop k bytes) (λ h. eqb-true n 0 (not-false (eqb n 0) (rw (lt-ltb 3 k (omega arith)) at t)))
 
-    pub spelled : Spelled number (record { bytes = set (set (set bytes (k - 3) (byte ":")) (k - 3 + 1) (byte "1")) (k - 3 + 2) (byte "."); from = k - 3 })
+    pub spelled : drop (k - 3) (set (set (set bytes (k - 3) (byte ":")) (k - 3 + 1) (byte "1")) (k - 3 + 2) (byte ".")) ≡ unique_name number
     unfolding unique_name
-    spelled =
-        record {
-          inside = omega arith;
-          sized = simp length-set s.sized;
-          is = put_prefix bytes (k - 3) k (omega arith) (omega arith) ∙ rw (s.left ∙ none_left);
-        }
+    spelled = put_prefix bytes (k - 3) k (omega arith) (omega arith) ∙ rw (s.left ∙ none_left)
 
 pub ruleset spelling = (spelling_begins, spelling_more, spelled, rules)
 
@@ -98,9 +91,4 @@ unfolding same unique_name
 unique_not [] number b e h = refl
 unique_not (x ∷ text) number b e h = rw (ne_eqb x (byte ":") (λ q. h (e ∙ q)))
 
-pub unique_is : (text : List ℕ) {number : ℕ} {t : Text} → Spelled number t
-    → {r : Bool} → r ≡ same text (take (13 - t.from) (drop t.from t.bytes)) → r ≡ same text (unique_name number)
-unique_is text {t = t} s e =
-    e ∙ rw (take_all (13 - t.from) (drop t.from t.bytes) (omega (arith, length-drop t.from t.bytes)), s.is)
-
-pub ruleset uniques = (unique_not, unique_is, rules)
+pub ruleset uniques = (unique_not, rules)

@@ -1,20 +1,13 @@
 -- Who is meant by a destination: what the functions that find out require and ensure, in the terms of the rules' addresses.
-use Rattle.std.specs.Prelude.{◌≡◌, List, ℕ, ◌+◌, ◌≤◌, length, drop}
+use Rattle.std.specs.Prelude.{◌≡◌, List, ℕ, ◌+◌, ◌≤◌, length}
 use Rattle.header.specs.declared.Place.{Place}
 use Rattle.policy.specs.Matching.{field_of}
 use Rattle.rules.specs.Addresses as rules
 use Rattle.memory.specs.Encoding.{state_of}
 use Rattle.memory.specs.Sound.{Held}
 use Rattle.slots.specs.Slots.{Seated}
-use Rattle.addresses.specs.declared.Text.{Text}
 use Rattle.addresses.specs.declared.Destination.{Destination}
 use Rattle.addresses.specs.declared.Destination.TheVariants.{Absent, Bus, At, Unknown}
-
--- the text is the unique name of the peer of that number
-pub record Spelled (number : ℕ) (r : Text) : Type 0 where
-  pub inside : r.from ≤ 13
-  pub sized : length r.bytes ≡ 13
-  pub is : drop r.from r.bytes ≡ rules.unique_name number
 
 -- the rules' address of each case
 abbrev pub address_of : Destination → rules.Address

@@ -1,7 +1,7 @@
 // Who is meant by a destination: the bus, a peer by its unique name or a name that it owns, or nobody.
 #![tactic(auto)]
 
-ghost use Rattle.std.specs.Prelude.{◌≡◌, length};
+ghost use Rattle.std.specs.Prelude.{◌≡◌, ◌≤◌, List, ℕ, length, drop};
 ghost use Rattle.wire.specs.Bytes.{same};
 ghost use Rattle.rules.specs.Addresses.{unique_name, answers_to};
 ghost use Rattle.rules.specs.Calls.{slot_at};
@@ -9,15 +9,32 @@ ghost use Rattle.memory.specs.Layout.{memory_length};
 ghost use Rattle.memory.specs.Encoding.{state_of};
 ghost use Rattle.memory.specs.Places.{FoundSlot};
 ghost use Rattle.slots.specs.Slots.{At};
-ghost use Rattle.addresses.specs.Destinations.{Spelled, Seeks, Resolved};
+ghost use Rattle.addresses.specs.Destinations.{Seeks, Resolved};
 
 use header::Place;
+use std::marker::Model;
 
 // A text at the end of 13 bytes, from `from` on.
-#[derive(Clone, Copy)]
-pub struct Text {
-    pub bytes: [u8; 13],
-    pub from: usize,
+#[derive(Drop)]
+struct Text {
+    bytes: [u8; 13],
+    from: usize,
+}
+
+impl Model for Text {
+    ghost Value = { List ℕ };
+
+    ghost view = { λ t. drop t.from t.bytes };
+
+    ghost invariant = { λ t. t.from ≤ 13 };
+}
+
+impl Text {
+    fn as_slice(&self) -> &[u8]
+        ensures { result.now ≡ self.now }
+    {
+        &self.bytes[self.from..]
+    }
 }
 
 // Who is meant by a destination field: it is absent, the bus, the peer of a slot, or nobody (rule 7.3).
@@ -31,11 +48,12 @@ pub enum Destination {
 
 // The unique name of a peer (rule 7.2), written from its last digit on, and then the prefix.
 fn unique_name(number: u32) -> Text
-    ensures { Spelled number result }
+    ensures { result ≡ unique_name number }
 {
     let mut bytes = [0u8; 13];
     let mut k = 13;
     let mut n = number;
+    // in a `for` over the places, the digits left would still end the loop, and where they ended would be kept beside it
     while (3 < k) & (n != 0) {
         k -= 1;
         bytes[k] = (48 + n % 10) as u8;
@@ -52,13 +70,7 @@ fn unique_name(number: u32) -> Text
 fn has_unique_name(text: &[u8], number: u32) -> bool
     ensures { result ≡ same text.now (unique_name number) }
 {
-    if wire::peek(text, 0) != b':' {
-        return false;
-    }
-    let name = unique_name(number);
-    let bytes = name.bytes;
-    let from = name.from;
-    wire::equal(text, &bytes[from..13])
+    wire::peek(text, 0) == b':' && wire::equal(text, unique_name(number).as_slice())
 }
 
 // Slot i is a peer's whose unique name is the text, or who owns it.
@@ -70,10 +82,7 @@ fn answers_to(memory: &[u8], i: usize, text: &[u8]) -> bool
     if number == 0 {
         return false;
     }
-    if has_unique_name(text, number) {
-        return true;
-    }
-    slots::owns_name(memory, i, text, 0)
+    has_unique_name(text, number) || slots::owns_name(memory, i, text, 0)
 }
 
 // The first slot whose peer answers to the text.

@@ -21,13 +21,6 @@ pub enum Ending {
     Aged(u64, u64),
 }
 
-// How many ticks lie between two; none where the second is not the earlier one.
-fn age(later: u64, earlier: u64) -> u64
-    ensures { result ≡ later - earlier }
-{
-    if later < earlier { 0 } else { later - earlier }
-}
-
 // The call at a place of a table ends.
 fn ends(table: &[u8], at: usize, which: Ending) -> bool
     requires { at + call_width ≤ length table.now }
@@ -35,7 +28,9 @@ fn ends(table: &[u8], at: usize, which: Ending) -> bool
 {
     match which {
         Ending::To(callee) => wire::u32_at(Order::Little, table, at) == callee,
-        Ending::Aged(tick, limit) => limit <= age(tick, wire::u64_at(table, at + TICK_OFFSET)),
+        Ending::Aged(tick, limit) => {
+            limit <= tick.saturating_sub(wire::u64_at(table, at + TICK_OFFSET))
+        }
     }
 }
 
@@ -47,9 +42,7 @@ fn end_calls(table: &mut [u8], which: Ending) -> u32
 {
     let before = wire::u32_at(Order::Little, table, 0);
     let mut n = before;
-    let mut j = before;
-    while 0 < j {
-        j -= 1;
+    for j in (0..before).rev() {
         let at = CALL_WIDTH * (j as usize);
         if ends(table, 4 + at, which) {
             tables::remove(table, at, CALL_WIDTH, CALL_WIDTH * (n as usize), n - 1);
@@ -78,10 +71,8 @@ pub fn end_all(memory: &mut [u8], which: Ending) -> u32
     ensures { EndedAll (test_of which) memory.old result memory.new }
 {
     let mut ended = 0;
-    let mut i = 0;
-    while i < 16 {
+    for i in 0..16 {
         ended += end_at(memory, i, which);
-        i += 1;
     }
     ended
 }

@@ -21,7 +21,7 @@ pub enum Outcome {
 }
 
 // The sections of rules, in the order of the image.
-#[derive(Clone, Copy)]
+#[derive(Clone, Copy, PartialEq, Eq)]
 pub enum Section {
     Connect,
     Own,

@@ -1,16 +1,13 @@
 -- What policy says, asked of one slot about the names of another's or of the bus.
 use Rattle.std.proofs.Common.{◌≡◌, sym, ◌∙◌, Bool, true, false, not, List, [], ◌∷◌, ℕ, ◌+◌, ◌-◌, ◌*◌, ◌<◌, arith, length, take, drop, rules, Some}
-use native.Mathlib.Nat.{sub-zero}
 use borrow.Author.Tests.{not-true, not-false}
 use Rattle.wire.specs.Words.{word_at}
 use Rattle.wire.specs.declared.Order.TheVariants.{Little}
 use Rattle.wire.proofs.Words.{Octets, cut_at}
 use Rattle.header.specs.declared.Header.{Header}
-use Rattle.image.specs.declared.Section.TheVariants.{Transaction}
 use Rattle.policy.specs.Names.{names_in, cell_of, bus_name, name_width}
-use Rattle.policy.specs.Matching.{Message, message_of}
+use Rattle.policy.specs.Matching.{message_of}
 use Rattle.policy.specs.Decisions.{send, receive, transaction_decision}
-use Rattle.policy.specs.declared.Uid.{Uid}
 use Rattle.policy.specs.declared.Decision.{Decision}
 use Rattle.policy.proofs.Cells.{bus_names}
 use Rattle.rules.specs.Judge.{refusal, judgement_by}

@@ -116,9 +116,7 @@ fn to_all(image: &[u8], memory: &[u8], i: usize, head: &[u8], header: Header) ->
     ensures { ToAll image.now memory.now i head.now header result }
 {
     let mut mask: u16 = 0;
-    let mut k = 16;
-    while 0 < k {
-        k -= 1;
+    for k in (0..16).rev() {
         mask = below(mask, reaches(image, memory, i, k, head, header));
     }
     Judgement {
@@ -180,9 +178,7 @@ fn reply(memory: &mut [u8], i: usize, to: Destination, header: Header) -> Judgem
 {
     match to {
         Destination::At(j) => waits::reply_to(memory, i, j, header),
-        Destination::Absent => refused(24),
-        Destination::Bus => refused(24),
-        Destination::Unknown => refused(24),
+        Destination::Absent | Destination::Bus | Destination::Unknown => refused(24),
     }
 }
 

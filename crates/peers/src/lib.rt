@@ -88,7 +88,7 @@ fn leave(memory: &mut [u8], i: usize, number: u32)
 {
     let from = SLOTS_AT + SLOT_LENGTH * i;
     let to = from + SLOT_LENGTH;
-    wire::wipe(&mut memory[from..to]);
+    memory[from..to].fill(0);
     endings::end_all(memory, Ending::To(number));
 }
 

@@ -15,14 +15,14 @@ pub struct Uid(pub u32);
 pub struct Gid(pub u32);
 
 // Who decides: the rule at a position of a section, from 0, or none, since none matches.
-#[derive(Clone, Copy)]
+#[derive(Clone, Copy, PartialEq, Eq)]
 pub enum Decider {
     Nobody,
     Rule(Section, u32),
 }
 
 // What is decided, and by which rule.
-#[derive(Clone, Copy)]
+#[derive(Clone, Copy, PartialEq, Eq)]
 pub struct Decision {
     pub allow: bool,
     pub rule: Decider,

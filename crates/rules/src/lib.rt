@@ -12,7 +12,7 @@ use names::Form;
 use policy::Decider;
 
 // Who receives a message: nobody, the bus itself, the peer of a number, or the slots of a mask, with their count.
-#[derive(Clone, Copy)]
+#[derive(Clone, Copy, PartialEq, Eq)]
 pub enum Receiver {
     Nobody,
     Bus,
@@ -21,7 +21,7 @@ pub enum Receiver {
 }
 
 // An answer number, the receiver, and who decided, where a report shows it.
-#[derive(Clone, Copy)]
+#[derive(Clone, Copy, PartialEq, Eq)]
 pub struct Judgement {
     pub answer: u8,
     pub receiver: Receiver,
@@ -29,7 +29,7 @@ pub struct Judgement {
 }
 
 // What connect reports: the peer's number and its slot, 0s where it is refused, and who decided.
-#[derive(Clone, Copy)]
+#[derive(Clone, Copy, PartialEq, Eq)]
 pub struct Connected {
     pub answer: u8,
     pub number: u32,
@@ -38,42 +38,42 @@ pub struct Connected {
 }
 
 // What own reports: its answer, and who decided.
-#[derive(Clone, Copy)]
+#[derive(Clone, Copy, PartialEq, Eq)]
 pub struct Owned {
     pub answer: u8,
     pub rule: Option<Decider>,
 }
 
 // Who decided, in two numbers.
-#[derive(Clone, Copy)]
+#[derive(Clone, Copy, PartialEq, Eq)]
 pub struct RuleNumbers {
     pub kind: u32,
     pub position: u32,
 }
 
 // What a piece comes to: the judgement, and the bytes taken.
-#[derive(Clone, Copy)]
+#[derive(Clone, Copy, PartialEq, Eq)]
 pub struct Taken {
     pub judgement: Judgement,
     pub taken: usize,
 }
 
 // What a batch reports: how many places it wrote, and how many bytes were taken in all.
-#[derive(Clone, Copy)]
+#[derive(Clone, Copy, PartialEq, Eq)]
 pub struct Batch {
     pub written: usize,
     pub taken: usize,
 }
 
 // What disconnect reports: the bytes taken of the peer's unfinished or broken message.
-#[derive(Clone, Copy)]
+#[derive(Clone, Copy, PartialEq, Eq)]
 pub struct Gone {
     pub answer: u8,
     pub bytes: u32,
 }
 
 // What a tick reports: how many pending calls ended.
-#[derive(Clone, Copy)]
+#[derive(Clone, Copy, PartialEq, Eq)]
 pub struct Ticked {
     pub answer: u8,
     pub ended: u32,
@@ -185,8 +185,7 @@ pub fn rule_numbers(shown: Option<Decider>) -> RuleNumbers
 pub fn goes_on(answer: u8, taken: usize, length: usize) -> bool
     ensures { result ≡ not (is_stop answer) && ltb taken length }
 {
-    let stops = ((1 <= answer) & (answer <= 9)) | ((30 <= answer) & (answer <= 51));
-    !stops & (taken < length)
+    !matches!(answer, 1..=9 | 30..=51) & (taken < length)
 }
 
 // A name that a peer may own: well-known, and not the bus's.

@@ -5,13 +5,13 @@ use Prim.Native.Nat.{ℕ, suc, ◌+◌, ◌-◌, ◌*◌, ◌≤◌, ◌<◌}
 use native.Mathlib.Omega.{arith}
 use native.Mathlib.Nat.{mul-le-mul_left}
 use lib.ListN.{length, take, drop, replicate, length-append, length-drop}
-use lib.Seq.{take_at, drop_at, drop-drop, take-take, take-append-le, length-take-le}
+use lib.Seq.{drop_at, drop-drop, take-take, take-append-le, length-take-le}
 use Rattle.wire.specs.Bytes.{pad}
 use Rattle.wire.specs.Words.{word_bytes}
 use Rattle.wire.proofs.Words.{cut_at, put_at_lem}
 use Rattle.tables.specs.Tables.{cells, table_bytes}
 use Rattle.tables.specs.Cut.{Cell, without}
-use Rattle.wire.proofs.Parts.{drop_past, drop_take, part_past, part_nested}
+use Rattle.wire.proofs.Parts.{drop_take, part_nested}
 use Rattle.tables.proofs.Cells.{cells_length}
 use Rattle.tables.proofs.Table.{table_body, table_spread}
 use Rattle.tables.proofs.Change.{removed, table_append, table_remove}

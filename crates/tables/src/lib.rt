@@ -6,27 +6,14 @@ ghost use Rattle.wire.specs.Words.{word_bytes};
 ghost use Rattle.tables.specs.Tables.{cells};
 ghost use Rattle.tables.specs.Cut.{cut_out, Cell};
 
-// Moves the bytes from `at` + w up to `end` down by w.
-fn shift(s: &mut [u8], at: usize, w: usize, end: usize)
-    requires { Cell s.old at w end }
-    ensures { s.new ≡ take at s.old ++ (take (end - (at + w)) (drop (at + w) s.old) ++ drop (end - w) s.old) }
-{
-    let count = end - (at + w);
-    let mut i = 0;
-    while i < count {
-        s[at + i] = s[at + w + i];
-        i += 1;
-    }
-}
-
 // Takes the w bytes at `at` out of the first `end`: the later ones move down, and the last w of them are zero.
 fn cut_out(s: &mut [u8], at: usize, w: usize, end: usize)
     requires { Cell s.old at w end }
     ensures { s.new ≡ cut_out w end at s.old }
 {
-    shift(s, at, w, end);
+    s.copy_within(at + w..end, at);
     let from = end - w;
-    wire::wipe(&mut s[from..end]);
+    s[from..end].fill(0);
 }
 
 // Takes the w bytes at `at` out of the first `end` bytes of the cells of a table, which then has `left` things.
@@ -43,9 +30,7 @@ pub fn put_words(s: &mut [u8], at: usize, words: &[u32])
     requires { at + 4 * length words.now ≤ length s.old }
     ensures { s.new ≡ take at s.old ++ (cells word_bytes words.now ++ drop (at + 4 * length words.now) s.old) }
 {
-    let mut k = 0;
-    while k < words.len() {
-        wire::put_u32(s, at + 4 * k, words[k]);
-        k += 1;
+    for (k, word) in words.iter().enumerate() {
+        wire::put_u32(s, at + 4 * k, *word);
     }
 }

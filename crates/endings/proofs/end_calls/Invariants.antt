@@ -8,6 +8,3 @@ use Rattle.endings.proofs.end_calls.Given as goal
 
 abbrev pub invariant-loop-j : goal.invariant-loop-j
 invariant-loop-j l = Ending (test_of l.which) (table_of call_width call_room pending_of l.initial.table) l.table l.before l.n l.j
-
-abbrev pub decreases-loop-j : goal.decreases-loop-j
-decreases-loop-j l = l.j

@@ -5,17 +5,11 @@ use Rattle.judge.proofs.to_all.Goals as goal
 pub loop-k-init : goal.loop-k-init
 loop-k-init c = search masking
 
-pub overflow_sub-k : goal.overflow_sub-k
-overflow_sub-k c = search masking
-
 pub reaches-requires : goal.reaches-requires
 reaches-requires c = search masking
 
 pub below-mask-requires : goal.below-mask-requires
 below-mask-requires c = search masking
-
-pub loop-k-smaller : goal.loop-k-smaller
-loop-k-smaller c = search masking
 
 pub loop-k-preserved : goal.loop-k-preserved
 loop-k-preserved c = search masking

@@ -4,6 +4,3 @@ use Rattle.judge.proofs.to_all.Given as goal
 
 abbrev pub invariant-loop-k : goal.invariant-loop-k
 invariant-loop-k l = Masking l.image l.memory l.i l.head l.header l.mask l.k
-
-abbrev pub decreases-loop-k : goal.decreases-loop-k
-decreases-loop-k l = l.k
