@@ -20,7 +20,7 @@ pub extern "C" fn aygeshunt_memory_length() -> usize
     MEMORY_LENGTH
 }
 
-// Begins anew (rule 8.2). Each call tests its place itself: one function for all of them would take the call as a closure, whose contract would have to be
+// Begins anew (rule 8.2). Each call about one place tests it itself: one function for all of them would take the call as a closure, whose contract would have to be
 // written out beside the same contract of the C function, and that is no plainer.
 #[unsafe(no_mangle)]
 pub extern "C" fn aygeshunt_start(memory: &mut [u8], place: &mut [u8]) -> usize
