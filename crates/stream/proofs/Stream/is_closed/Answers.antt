@@ -14,5 +14,5 @@ returns-in-Short c = search closed_short
 pub returns-in-Broken : goal.returns-in-Broken
 returns-in-Broken c = search closed_broken
 
-pub returns-in-Whole : goal.returns-in-Whole
-returns-in-Whole c = search closed_whole
+pub returns-in-Ok : goal.returns-in-Ok
+returns-in-Ok c = search closed_whole

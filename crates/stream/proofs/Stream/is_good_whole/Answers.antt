@@ -8,5 +8,5 @@ returns-in-Short c = search whole_short
 pub returns-in-Broken : goal.returns-in-Broken
 returns-in-Broken c = search whole_broken
 
-pub returns-in-Whole : goal.returns-in-Whole
-returns-in-Whole c = search whole_body
+pub returns-in-Ok : goal.returns-in-Ok
+returns-in-Ok c = search whole_body
