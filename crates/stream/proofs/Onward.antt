@@ -8,6 +8,7 @@ use lib.ListN.{length, take, drop, length-drop}
 use Rattle.header.specs.declared.Header.{Header}
 use Rattle.std.specs.Prelude.{Ok, Err}
 use Rattle.header.specs.declared.Fault.{Fault}
+use Rattle.header.specs.declared.Unread.{Unread}
 use Rattle.header.specs.declared.Unread.TheVariants as unread
 use Rattle.header.specs.Fixed.{fixed_part, measures}
 use Rattle.header.specs.Header.{Reading, read_header}
@@ -38,13 +39,13 @@ module _ {region : List ℕ} {s : Stream} {piece : List ℕ} {used end message :
   end_length : length (take s.stored region) ≡ end
   end_length = started_length here.started ∙ a.kept
 
-  pub never_short : r ≡ Err unread.Short → {q : Advance} → Resumed region s piece used q region
-  never_short f =
+  pub never_short : {u : Unread} → r ≡ Err u → u ≡ unread.Short → {q : Advance} → Resumed region s piece used q region
+  never_short f g =
       absurd (not_short (take s.stored region) (omega (arith, started_length here.started, here.started.above)) here.sizes
-      (omega (arith, end_length)) (is_read ∙ f))
+      (omega (arith, end_length)) (is_read ∙ f ∙ ap (λ (v : Unread). Err v) g))
 
-  pub broken_end : {n : Fault} → r ≡ Err (unread.Broken n) → Resumed region s piece used (record { stream = s; taken = used; event = Broken n }) region
-  broken_end f = broken_at_lem here.started (is_read ∙ f) (omega (arith, here.below, here.few))
+  pub broken_end : {u : Unread} {n : Fault} → r ≡ Err u → u ≡ unread.Broken n → Resumed region s piece used (record { stream = s; taken = used; event = Broken n }) region
+  broken_end f g = broken_at_lem here.started (is_read ∙ f ∙ ap (λ (v : Unread). Err v) g) (omega (arith, here.below, here.few))
 
   module _ {x : Header} (f : r ≡ Ok x) where
     is_lengths : (x.head ≡ end) × (x.head + x.body ≡ message)

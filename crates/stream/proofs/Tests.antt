@@ -15,6 +15,7 @@ use Rattle.std.specs.Prelude.{Ok, Err}
 use Rattle.header.specs.declared.Fault.{Fault}
 use Rattle.header.specs.Faults.{fault_number}
 use Rattle.header.specs.declared.Sizes.{Sizes}
+use Rattle.header.specs.declared.Unread.{Unread}
 use Rattle.header.specs.declared.Unread.TheVariants.{Short, Broken}
 use Rattle.header.specs.Fixed.{fixed_length, head_length, Fixed, measures, fixed_part}
 use Rattle.header.specs.Header.{Reading, read_header}
@@ -126,13 +127,14 @@ module _ {region : List ℕ} {s : Stream} {message : ℕ} (w : WholeTail region 
       sym (good_is region s w.inside s.stored b (sized_end (kept region s) whole_above whole_sized) f
       ∙ rw (eq-eqb s.stored (min s.taken s.stored) (omega (arith, w.reached))))
 
-  pub whole_short : r ≡ Err Short → false ≡ good_tail (tail_in region s)
-  whole_short q = absurd (not_short (kept region s) whole_above w.sizes (omega (arith, whole_length)) (whole_read ∙ q))
+  pub whole_short : {u : Unread} → r ≡ Err u → u ≡ Short → false ≡ good_tail (tail_in region s)
+  whole_short q g = absurd (not_short (kept region s) whole_above w.sizes (omega (arith, whole_length)) (whole_read ∙ q ∙ ap (λ (v : Unread). Err v) g))
 
-  pub whole_broken : {n : Fault} → r ≡ Err (Broken n) → eqb s.taken s.stored ≡ good_tail (tail_in region s)
-  whole_broken {n} q =
-      let v : 6 < fault_number n = late_fault (kept region s) whole_above w.sizes (omega (arith, whole_length)) (whole_read ∙ q) in
-      whole_good (eqb s.taken s.stored) (rw (whole_read ∙ q, lt-leb (fault_number n) 6 v, ← whole_sized.is_head))
+  pub whole_broken : {u : Unread} {n : Fault} → r ≡ Err u → u ≡ Broken n → eqb s.taken s.stored ≡ good_tail (tail_in region s)
+  whole_broken {u} {n} q g =
+      let b : read_header (kept region s) ≡ Err (Broken n) = whole_read ∙ q ∙ ap (λ (v : Unread). Err v) g in
+      let v : 6 < fault_number n = late_fault (kept region s) whole_above w.sizes (omega (arith, whole_length)) b in
+      whole_good (eqb s.taken s.stored) (rw (b, lt-leb (fault_number n) 6 v, ← whole_sized.is_head))
 
   pub whole_body : {x : Header} → r ≡ Ok x → ltb s.taken message ≡ good_tail (tail_in region s)
   whole_body {x} q =
@@ -167,11 +169,11 @@ module _ {region : List ℕ} {s : Stream} (g : GoodTail region s) where
     closed_read : read_header (kept region s) ≡ r
     closed_read = sym (rw sub-zero at e)
 
-    pub closed_short : r ≡ Err Short → false ≡ closed (tail_in region s)
-    closed_short q = sym (rw (closed_read ∙ q))
+    pub closed_short : {u : Unread} → r ≡ Err u → u ≡ Short → false ≡ closed (tail_in region s)
+    closed_short q g = sym (rw (closed_read ∙ q ∙ ap (λ (v : Unread). Err v) g))
 
-    pub closed_broken : {n : Fault} → r ≡ Err (Broken n) → true ≡ closed (tail_in region s)
-    closed_broken q = sym (rw (closed_read ∙ q))
+    pub closed_broken : {u : Unread} {n : Fault} → r ≡ Err u → u ≡ Broken n → true ≡ closed (tail_in region s)
+    closed_broken q g = sym (rw (closed_read ∙ q ∙ ap (λ (v : Unread). Err v) g))
 
     pub closed_whole : {x : Header} → r ≡ Ok x → false ≡ closed (tail_in region s)
     closed_whole q = open_unless (λ a f n. impossible (cc closed_read))
