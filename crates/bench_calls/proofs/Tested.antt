@@ -8,9 +8,12 @@ use Rattle.image.specs.declared.Outcome.{Outcome}
 use Rattle.image.specs.declared.Outcome.TheVariants.{Good}
 use Rattle.image.proofs.Holds.{outcome_holds}
 use Rattle.header.specs.declared.Header.{Header}
-use Rattle.header.specs.declared.Reading.{Reading}
-use Rattle.header.specs.declared.Reading.TheVariants.{Short, Broken, Whole}
-use Rattle.header.specs.Header.{read_header, reading_answer}
+use Rattle.std.specs.Prelude.{Ok, Err}
+use Rattle.header.specs.declared.Fault.{Fault}
+use Rattle.header.specs.Faults.{fault_number}
+use Rattle.header.specs.declared.Unread.{Unread}
+use Rattle.header.specs.declared.Unread.TheVariants.{Short, Broken}
+use Rattle.header.specs.Header.{Reading, read_header, reading_answer}
 use Rattle.matching.specs.Promises.{Within}
 use Rattle.decide.specs.Promises.{Asked}
 
@@ -20,13 +23,13 @@ asked image head m e h w = record { good = outcome_holds image (sym e ∙ h); wi
 pub ruleset testing = (asked, rules)
 
 module _ (s : List ℕ) {r : Reading} (e : r ≡ read_header s) where
-  pub short_is : r ≡ Short → 10 ≡ reading_answer (read_header s)
-  short_is h = ap reading_answer (sym h ∙ e)
+  pub short_is : {u : Unread} → r ≡ Err u → u ≡ Short → 10 ≡ reading_answer (read_header s)
+  short_is h g = ap reading_answer (ap (λ (v : Unread). Err v) (sym g) ∙ sym h ∙ e)
 
-  pub broken_is : {n : ℕ} → r ≡ Broken n → n ≡ reading_answer (read_header s)
-  broken_is h = ap reading_answer (sym h ∙ e)
+  pub broken_is : {u : Unread} {f : Fault} → r ≡ Err u → u ≡ Broken f → {n : ℕ} → n ≡ fault_number f → n ≡ reading_answer (read_header s)
+  broken_is h g k = k ∙ ap reading_answer (ap (λ (v : Unread). Err v) (sym g) ∙ sym h ∙ e)
 
-  pub whole_is : {x : Header} → r ≡ Whole x → 0 ≡ reading_answer (read_header s)
+  pub whole_is : {x : Header} → r ≡ Ok x → 0 ≡ reading_answer (read_header s)
   whole_is h = ap reading_answer (sym h ∙ e)
 
 pub ruleset reading = (short_is, broken_is, whole_is, rules)

@@ -9,7 +9,7 @@ ghost use Rattle.header.specs.Header.{read_header, reading_answer};
 ghost use Rattle.memory.specs.Good.{good};
 ghost use Rattle.matching.specs.Promises.{Within};
 
-use header::{Header, Place, Reading};
+use header::{Header, Place, Unread};
 use image::Outcome;
 use names::Form;
 use policy::{Decider, Decision, Uid};
@@ -58,9 +58,9 @@ pub extern "C" fn bench_header_read(bytes: &[u8]) -> u8
     ensures { result ≡ reading_answer (read_header bytes.now) }
 {
     match reader::read(bytes) {
-        Reading::Short => 10,
-        Reading::Broken(n) => n,
-        Reading::Whole(_) => 0,
+        Err(Unread::Short) => 10,
+        Err(Unread::Broken(fault)) => fault.number(),
+        Ok(_) => 0,
     }
 }
 

@@ -11,10 +11,10 @@ use lib.Seq.{take-append-le, drop-append-le, take_at}
 use borrow.Author.Tests.{lt-ltb, le-ltb, ltb-true, ltb-false}
 use Rattle.wire.proofs.Texts.{impossible, both_first, both_second}
 use Rattle.header.specs.declared.Header.{Header}
-use Rattle.header.specs.declared.Reading.{Reading}
-use Rattle.header.specs.declared.Reading.TheVariants.{Short, Broken, Whole}
+use Rattle.std.specs.Prelude.{Ok, Err}
+use Rattle.header.specs.declared.Unread.TheVariants.{Short, Broken}
 use Rattle.header.specs.Fixed.{head_length}
-use Rattle.header.specs.Header.{read_header}
+use Rattle.header.specs.Header.{Reading, read_header}
 use Rattle.header.proofs.Readings.{read_few, read_front, read_append, whole_fits}
 use Rattle.stream.specs.Stream.{Verdict, more, whole}
 use Rattle.stream.specs.Tail.{finished}
@@ -31,7 +31,7 @@ length_snoc xs b = length-append xs (b ∷ [])
 -- ---- bytes that begin with a whole message
 
 pub record Begins (xs : List ℕ) (x : Header) : Type 0 where
-  pub read : read_header xs ≡ Whole x
+  pub read : read_header xs ≡ Ok x
   pub reached : x.head + x.body ≤ length xs
 
 module _ (xs : List ℕ) where
@@ -41,9 +41,9 @@ module _ (xs : List ℕ) where
   pub whole_begins : is_whole (first_verdict xs) ≡ true → (x : Header) × Begins xs x
   whole_begins e =
       (elim (read_header xs) as (λ (r : Reading). read_header xs ≡ r → is_whole (finished (length xs) xs r) ≡ true → (x : Header) × Begins xs x) [
-        | Short ↦ λ r q. absurd (false≢true q)
-        | Broken a ↦ λ r q. absurd (false≢true q)
-        | Whole x ↦ λ r. choice (λ (v : Verdict). is_whole v ≡ true → (x : Header) × Begins xs x) (ltb (length xs) (x.head + x.body)) _ _
+        | Err Short ↦ λ r q. absurd (false≢true q)
+        | Err (Broken a) ↦ λ r q. absurd (false≢true q)
+        | Ok x ↦ λ r. choice (λ (v : Verdict). is_whole v ≡ true → (x : Header) × Begins xs x) (ltb (length xs) (x.head + x.body)) _ _
             (λ l p. absurd (false≢true p)) (λ l p. (x, record { read = r; reached = ltb-false (length xs) (x.head + x.body) l }))
       ]) refl e
 
@@ -62,7 +62,7 @@ module _ (xs : List ℕ) where
     whole_append ys =
         let x = (whole_begins e).0 in
         let w = (whole_begins e).1 in
-        let r : read_header (xs ++ ys) ≡ Whole x = read_append xs ys (λ q. impossible (cc (w.read, q))) ∙ w.read in
+        let r : read_header (xs ++ ys) ≡ Ok x = read_append xs ys (λ q. impossible (cc (w.read, q))) ∙ w.read in
         let l = length-append xs ys in
         rw (
           r,
@@ -95,7 +95,7 @@ module _ (xs : List ℕ) (b : ℕ) where
       let f = whole_fits (snoc xs b) x w.1.read in
       let s : x.head + x.body ≤ length xs = omega (arith, past_less (snoc xs b) e, begins_size (snoc xs b) x w.1, length_snoc xs b) in
       let k : head_length (snoc xs b) ≤ length xs = omega (arith, f.head_is) in
-      let r : read_header xs ≡ Whole x = sym (ap read_header (take_at xs (b ∷ []) (length xs) refl))
+      let r : read_header xs ≡ Ok x = sym (ap read_header (take_at xs (b ∷ []) (length xs) refl))
       ∙ read_front (length xs) (snoc xs b) (omega (arith, f.head_low)) k ∙ w.1.read in
       ap is_whole (begins_whole xs x (record { read = r; reached = s }))
 

@@ -9,10 +9,10 @@ use lib.Dec.{ltb}
 use lib.ListN.{length, take, length-take}
 use lib.Seq.{take-append-le, take_all, take-take}
 use borrow.Author.Tests.{lt-ltb, le-ltb}
-use Rattle.header.specs.declared.Reading.{Reading}
-use Rattle.header.specs.declared.Reading.TheVariants.{Short, Broken, Whole}
+use Rattle.std.specs.Prelude.{Ok, Err}
+use Rattle.header.specs.declared.Unread.TheVariants.{Short, Broken}
 use Rattle.header.specs.Fixed.{head_length}
-use Rattle.header.specs.Header.{read_header}
+use Rattle.header.specs.Header.{Reading, read_header}
 use Rattle.header.proofs.Front.{head_low, head_front, head_append}
 use Rattle.header.proofs.Readings.{read_front, whole_fits}
 use Rattle.stream.specs.Stream.{Verdict, more, broken, whole}
@@ -43,9 +43,9 @@ judge_kept : (c : List ℕ) → judge (kept_tail c) ≡ first_verdict c
 judge_kept c =
     rw (read_kept c)
     ((elim (read_header c) as (λ (r : Reading). read_header c ≡ r → finished (length c) (take (head_end c) c) r ≡ finished (length c) c r) [
-      | Short ↦ λ e. refl
-      | Broken a ↦ λ e. refl
-      | Whole x ↦ λ e. let f = whole_fits c x e in
+      | Err Short ↦ λ e. refl
+      | Err (Broken a) ↦ λ e. refl
+      | Ok x ↦ λ e. let f = whole_fits c x e in
           let n : x.head ≤ head_end c = omega (arith, f.head_is, end_is c (omega (arith, f.head_low, f.head_inside))) in
           rw (take-take x.head (head_end c) c n)
     ]) refl)

@@ -1,7 +1,6 @@
 -- The messages of a stream, the message that a piece ends, a broken head, and a pending call: what proofs/Consequences.antt speaks of.
-use Rattle.std.specs.Prelude.{false, List, [], ◌∷◌, ◌++◌, ◌≡◌, ℕ, ◌+◌, length}
+use Rattle.std.specs.Prelude.{Ok, false, List, [], ◌∷◌, ◌++◌, ◌≡◌, ℕ, ◌+◌, length}
 use Rattle.header.specs.declared.Header.{Header}
-use Rattle.header.specs.declared.Reading.TheVariants.{Whole}
 use Rattle.header.specs.Header.{read_header}
 use Rattle.image.specs.Good.{image_answer}
 use Rattle.stream.specs.Stream.{broken, whole, Streams, offer}
@@ -15,7 +14,7 @@ use Rattle.book.specs.Split.{joined_pieces}
 -- the bytes of one whole message: as many as its own length fields say (rule 2.3)
 pub record WholeMessage (m : List ℕ) : Type 0 where
   pub header : Header
-  pub read : read_header m ≡ Whole header
+  pub read : read_header m ≡ Ok header
   pub sized : length m ≡ header.head + header.body
 
 abbrev pub Messages : List (List ℕ) → Type 0

@@ -1,5 +1,5 @@
 -- The fixed part of a head depends on its first 16 bytes alone, and what it says where it has none of 1 to 6.
-use mathlib.Core.Path.{◌≡◌, refl, sym, ap, ◌∙◌}
+use mathlib.Core.Path.{◌≡◌, refl, sym, ap, subst, ◌∙◌}
 use mathlib.Core.Bool.{Bool, true, false, cond, not}
 use mathlib.Core.List.{List, ◌++◌}
 use Prim.Native.Nat.{ℕ, ◌≤◌, ◌<◌}
@@ -11,9 +11,12 @@ use borrow.Author.Tests.{ltb-false}
 use Rattle.wire.specs.Words.{word_at}
 use Rattle.wire.proofs.Words.{word_take}
 use Rattle.wire.proofs.Texts.{impossible}
-use Rattle.header.specs.declared.Fixed.{Fixed}
-use Rattle.header.specs.declared.Fixed.TheVariants.{Broken, Sizes}
-use Rattle.header.specs.Fixed.{fixed_length, array_limit, message_limit, order_of, is_order, serial_of, array_length, head_length, message_length}
+use Rattle.std.specs.Prelude.{Result, Ok, Err}
+use Rattle.header.specs.declared.Fault.{Fault}
+use Rattle.header.specs.declared.Sizes.{Sizes}
+use Rattle.header.specs.declared.Fault.TheVariants as fault
+use Rattle.header.specs.Faults.{fault_number}
+use Rattle.header.specs.Fixed.{Fixed, measures, fixed_length, array_limit, message_limit, order_of, is_order, serial_of, array_length, head_length, message_length}
 use Rattle.header.specs.Fixed.{sizes_of, fixed_part, kind_of, version_of}
 
 pub head_low : (s : List ℕ) → fixed_length ≤ head_length s
@@ -64,45 +67,49 @@ pub record Good (s : List ℕ) (head message : ℕ) : Type 0 where
   pub message_small : message ≤ message_limit
 
 -- a test that was passed, and what comes after it
-passes : (b : Bool) (n : ℕ) (x : Fixed) {p q : ℕ} → cond b (Broken n) x ≡ Sizes p q → (b ≡ false) × (x ≡ Sizes p q)
+passes : (b : Bool) (n : Fault) (x : Fixed) {p q : ℕ} → cond b (Err n) x ≡ measures p q → (b ≡ false) × (x ≡ measures p q)
 passes true n x e = impossible cc
 passes false n x e = (refl, e)
 
--- a test that gave the answer n, or one after it
-numbered : (b : Bool) (m : ℕ) (x : Fixed) {n : ℕ} → 1 ≤ m → m ≤ 6 → (x ≡ Broken n → (1 ≤ n) × (n ≤ 6)) → cond b (Broken m) x ≡ Broken n → (1 ≤ n) × (n ≤ 6)
-numbered true m x {n} h k later e = let z : m ≡ n = cc in (omega arith, omega arith)
-numbered false m x h k later e = later e
+Early : Fault → Type 0
+Early f = (1 ≤ fault_number f) × (fault_number f ≤ 6)
 
-pub fixed_number : (s : List ℕ) {n : ℕ} → fixed_part s ≡ Broken n → (1 ≤ n) × (n ≤ 6)
-unfolding fixed_part sizes_of
-fixed_number s {n} e =
-    let six : Fixed = cond (ltb message_limit (message_length s)) (Broken 6) (Sizes (head_length s) (message_length s)) in
-    let five : Fixed = cond (ltb array_limit (array_length s)) (Broken 5) six in
-    let three : Fixed = cond (eqb (kind_of s) 0) (Broken 3) (sizes_of s) in
-    let two : Fixed = cond (not (eqb (version_of s) 1)) (Broken 2) three in
-    numbered (not (is_order (get_or s 0 0))) 1 two (omega arith) (omega arith)
-    (numbered (not (eqb (version_of s) 1)) 2 three (omega arith) (omega arith)
-    (numbered (eqb (kind_of s) 0) 3 (sizes_of s) (omega arith) (omega arith)
-    (numbered (eqb (serial_of s) 0) 4 five (omega arith) (omega arith)
-    (numbered (ltb array_limit (array_length s)) 5 six (omega arith) (omega arith)
-    (numbered (ltb message_limit (message_length s)) 6 (Sizes (head_length s) (message_length s)) (omega arith) (omega arith) (λ y. impossible cc))))))
+-- a test that gave the answer n, or one after it
+numbered : (b : Bool) (m : Fault) (x : Fixed) {n : Fault} → Early m → (x ≡ Err n → Early n) → cond b (Err m) x ≡ Err n → Early n
+numbered true m x {n} k later e = let z : m ≡ n = cc in subst Early z k
+numbered false m x k later e = later e
+
+pub fixed_number : (s : List ℕ) {f : Fault} → fixed_part s ≡ Err f → (1 ≤ fault_number f) × (fault_number f ≤ 6)
+unfolding fixed_part sizes_of Early
+fixed_number s e =
+    let six : Fixed = cond (ltb message_limit (message_length s)) (Err fault.MessageLength) (measures (head_length s) (message_length s)) in
+    let five : Fixed = cond (ltb array_limit (array_length s)) (Err fault.ArrayLength) six in
+    let three : Fixed = cond (eqb (kind_of s) 0) (Err fault.MessageType) (sizes_of s) in
+    let two : Fixed = cond (not (eqb (version_of s) 1)) (Err fault.Version) three in
+    numbered (not (is_order (get_or s 0 0))) fault.ByteOrder two (omega arith, omega arith)
+    (numbered (not (eqb (version_of s) 1)) fault.Version three (omega arith, omega arith)
+    (numbered (eqb (kind_of s) 0) fault.MessageType (sizes_of s) (omega arith, omega arith)
+    (numbered (eqb (serial_of s) 0) fault.Serial five (omega arith, omega arith)
+    (numbered (ltb array_limit (array_length s)) fault.ArrayLength six (omega arith, omega arith)
+    (numbered (ltb message_limit (message_length s)) fault.MessageLength (measures (head_length s) (message_length s)) (omega arith, omega arith) (λ y. impossible cc))))))
     e
 
-pub fixed_good : (s : List ℕ) {head message : ℕ} → fixed_part s ≡ Sizes head message → Good s head message
+pub fixed_good : (s : List ℕ) {head message : ℕ} → fixed_part s ≡ measures head message → Good s head message
 unfolding fixed_part sizes_of
 fixed_good s {head} {message} e =
-    let six : Fixed = cond (ltb message_limit (message_length s)) (Broken 6) (Sizes (head_length s) (message_length s)) in
-    let five : Fixed = cond (ltb array_limit (array_length s)) (Broken 5) six in
-    let e₁ = passes (not (is_order (get_or s 0 0))) 1 _ e in
-    let e₂ = passes (not (eqb (version_of s) 1)) 2 _ e₁.1 in
-    let e₃ = passes (eqb (kind_of s) 0) 3 (sizes_of s) e₂.1 in
-    let e₄ = passes (eqb (serial_of s) 0) 4 five e₃.1 in
-    let e₅ = passes (ltb array_limit (array_length s)) 5 six e₄.1 in
-    let e₆ = passes (ltb message_limit (message_length s)) 6 (Sizes (head_length s) (message_length s)) e₅.1 in
-    let y : message ≡ message_length s = cc e₆.1 in
+    let six : Fixed = cond (ltb message_limit (message_length s)) (Err fault.MessageLength) (measures (head_length s) (message_length s)) in
+    let five : Fixed = cond (ltb array_limit (array_length s)) (Err fault.ArrayLength) six in
+    let e₁ = passes (not (is_order (get_or s 0 0))) fault.ByteOrder _ e in
+    let e₂ = passes (not (eqb (version_of s) 1)) fault.Version _ e₁.1 in
+    let e₃ = passes (eqb (kind_of s) 0) fault.MessageType (sizes_of s) e₂.1 in
+    let e₄ = passes (eqb (serial_of s) 0) fault.Serial five e₃.1 in
+    let e₅ = passes (ltb array_limit (array_length s)) fault.ArrayLength six e₄.1 in
+    let e₆ = passes (ltb message_limit (message_length s)) fault.MessageLength (measures (head_length s) (message_length s)) e₅.1 in
+    let q : ◌≡◌ {A = Sizes} (record { head = head_length s; message = message_length s }) (record { head = head; message = message }) = cc e₆.1 in
+    let y : message ≡ message_length s = sym (ap (λ (z : Sizes). z.message) q) in
     record {
       serial = e₄.0;
-      head_is = cc e₆.1;
+      head_is = sym (ap (λ (z : Sizes). z.head) q);
       message_is = y;
       array = ltb-false array_limit (array_length s) e₅.0;
       message_small = rw y (ltb-false message_limit (message_length s) e₆.0);

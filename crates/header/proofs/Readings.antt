@@ -1,5 +1,5 @@
 -- The laws of a reading that callers go by.
-use Rattle.std.specs.Prelude.{Option, Some, None}
+use Rattle.std.specs.Prelude.{Option, Some, None, Result, Ok, Err}
 use mathlib.Core.Path.{◌≡◌, refl, sym, ap, subst, ◌∙◌}
 use mathlib.Core.Bool.{Bool, true, false, cond, not}
 use mathlib.Core.List.{List, ◌++◌}
@@ -13,33 +13,33 @@ use Rattle.wire.specs.Bytes.{all_zero}
 use Rattle.wire.proofs.Texts.{impossible}
 use Rattle.header.specs.declared.Place.{Place}
 use Rattle.header.specs.declared.Header.{Header}
-use Rattle.header.specs.declared.Fixed.{Fixed}
-use Rattle.header.specs.declared.Fixed.TheVariants as fixed
-use Rattle.header.specs.declared.Reading.{Reading}
-use Rattle.header.specs.declared.Reading.TheVariants.{Short, Broken, Whole}
-use Rattle.header.specs.Fixed.{fixed_length, array_limit, head_limit, order_of, kind_of, body_length, serial_of, array_length, head_length}
+use Rattle.header.specs.declared.Fault.{Fault}
+use Rattle.header.specs.declared.Fault.TheVariants as fault
+use Rattle.header.specs.declared.Unread.TheVariants.{Short, Broken}
+use Rattle.header.specs.Faults.{fault_number}
+use Rattle.header.specs.Fixed.{Fixed, measures, fixed_length, array_limit, head_limit, order_of, kind_of, body_length, serial_of, array_length, head_length}
 use Rattle.header.specs.Fixed.{message_length, fixed_part}
 use Rattle.header.specs.Fields.{Fields, place_of, fields_in, fields_of}
 use Rattle.header.specs.Values.{good_values}
 use Rattle.header.specs.Required.{has_required}
-use Rattle.header.specs.Header.{header_of, judged_head, or_seven, read_head, read_header}
+use Rattle.header.specs.Header.{Reading, header_of, judged_head, or_seven, read_head, read_header}
 use Rattle.header.specs.Promises.{SizedHead, ValuesFit}
 use Rattle.header.proofs.Front.{word_in_front, head_front, head_low, fixed_front, fixed_append, Good, fixed_good}
 use Rattle.header.proofs.Walk.{array_fits}
 
 -- ---- what a reading comes to
 
-pub read_few : (s : List ℕ) → length s < fixed_length → read_header s ≡ Short
+pub read_few : (s : List ℕ) → length s < fixed_length → read_header s ≡ Err Short
 unfolding read_header
 read_few s h = rw (lt-ltb (length s) fixed_length h)
 
 module _ (s : List ℕ) (k : fixed_length ≤ length s) where
-  pub read_broken : {n : ℕ} → fixed_part s ≡ fixed.Broken n → read_header s ≡ Broken n
+  pub read_broken : {f : Fault} → fixed_part s ≡ Err f → read_header s ≡ Err (Broken f)
   unfolding read_header
   read_broken e = rw (le-ltb (length s) fixed_length k, e)
 
-  module _ {head message : ℕ} (e : fixed_part s ≡ fixed.Sizes head message) where
-    pub read_short : length s < head → read_header s ≡ Short
+  module _ {head message : ℕ} (e : fixed_part s ≡ measures head message) where
+    pub read_short : length s < head → read_header s ≡ Err Short
     unfolding read_header
     read_short h = rw (le-ltb (length s) fixed_length k, e, lt-ltb (length s) head h)
 
@@ -48,7 +48,7 @@ module _ (s : List ℕ) (k : fixed_length ≤ length s) where
     read_whole h = rw (le-ltb (length s) fixed_length k, e, le-ltb (length s) head h)
 
 -- the bytes that the fixed part says are a head are as long as their array says
-pub head_of : (s : List ℕ) {head message : ℕ} → fixed_part s ≡ fixed.Sizes head message → head ≤ length s → SizedHead (take head s)
+pub head_of : (s : List ℕ) {head message : ℕ} → fixed_part s ≡ measures head message → head ≤ length s → SizedHead (take head s)
 unfolding head_length
 head_of s {head} {message} e h =
     let g : Good s head message = fixed_good s e in
@@ -62,20 +62,20 @@ head_of s {head} {message} e h =
 
 -- ---- a head that has come whole is decided: 7, 8, 9 or none
 
-module _ (h : List ℕ) (fs : Fields) (P : Reading → Type 0) (eight : P (Broken 8)) (nine : P (Broken 9)) (good : P (Whole (header_of h fs))) where
+module _ (h : List ℕ) (fs : Fields) (P : Reading → Type 0) (eight : P (Err (Broken fault.Values))) (nine : P (Err (Broken fault.RequiredFields))) (good : P (Ok (header_of h fs))) where
   judged_is : P (judged_head h fs)
   unfolding judged_head
   judged_is = go (not (good_values (order_of h) h fs)) (not (has_required (kind_of h) fs))
     where
-      go : (a b : Bool) → P (cond a (Broken 8) (cond b (Broken 9) (Whole (header_of h fs))))
+      go : (a b : Bool) → P (cond a (Err (Broken fault.Values)) (cond b (Err (Broken fault.RequiredFields)) (Ok (header_of h fs))))
       go true b = eight
       go false true = nine
       go false false = good
 
 Decided : Reading → Type 0
-Decided Short = ⊥
-Decided (Broken n) = (7 ≤ n) × (n ≤ 9)
-Decided (Whole d) = Unit {0}
+Decided (Err Short) = ⊥
+Decided (Err (Broken f)) = (7 ≤ fault_number f) × (fault_number f ≤ 9)
+Decided (Ok d) = Unit {0}
 
 head_decided : (h : List ℕ) → Decided (read_head h)
 unfolding read_head Decided
@@ -85,30 +85,30 @@ head_decided h = go (fields_of h)
     go None = (omega arith, omega arith)
     go (Some fs) = judged_is h fs Decided (omega arith, omega arith) (omega arith, omega arith) tt
 
-pub head_not_short : (h : List ℕ) → read_head h ≡ Short → ⊥
+pub head_not_short : (h : List ℕ) → read_head h ≡ Err Short → ⊥
 unfolding Decided
 head_not_short h e = subst Decided e (head_decided h)
 
-pub head_number : (h : List ℕ) {n : ℕ} → read_head h ≡ Broken n → (7 ≤ n) × (n ≤ 9)
+pub head_number : (h : List ℕ) {f : Fault} → read_head h ≡ Err (Broken f) → (7 ≤ fault_number f) × (fault_number f ≤ 9)
 unfolding Decided
 head_number h e = subst Decided e (head_decided h)
 
 -- ---- bytes behind the head do not matter
 
 -- whatever the fixed part says of the head's length, n bytes are enough for it
-module _ (n : ℕ) (s : List ℕ) (h : fixed_length ≤ n) (enough : (head message : ℕ) → fixed_part s ≡ fixed.Sizes head message → head ≤ n) where
+module _ (n : ℕ) (s : List ℕ) (h : fixed_length ≤ n) (enough : (head message : ℕ) → fixed_part s ≡ measures head message → head ≤ n) where
   read_enough : read_header (take n s) ≡ read_header s
   read_enough = go (dec_le (length s) n)
     where
       more : n < length s → (r : Fixed) → fixed_part s ≡ r → read_header (take n s) ≡ read_header s
-      more l (fixed.Broken k) e =
+      more l (Err f) e =
           let i : length (take n s) ≡ n = length-take-le n s (omega arith) in
           read_broken (take n s) (omega arith) (fixed_front n s h ∙ e) ∙ sym (read_broken s (omega arith) e)
-      more l (fixed.Sizes head message) e =
+      more l (Ok z) e =
           let i : length (take n s) ≡ n = length-take-le n s (omega arith) in
-          let j : head ≤ n = enough head message e in
+          let j : z.head ≤ n = enough z.head z.message e in
           read_whole (take n s) (omega arith) (fixed_front n s h ∙ e) (omega arith)
-          ∙ ap read_head (take-take head n s j)
+          ∙ ap read_head (take-take z.head n s j)
           ∙ sym (read_whole s (omega arith) e (omega arith))
 
       go : Dec (length s ≤ n) → read_header (take n s) ≡ read_header s
@@ -118,7 +118,7 @@ module _ (n : ℕ) (s : List ℕ) (h : fixed_length ≤ n) (enough : (head messa
 pub read_front : (n : ℕ) (s : List ℕ) → fixed_length ≤ n → head_length s ≤ n → read_header (take n s) ≡ read_header s
 read_front n s h k = read_enough n s h (λ head message e. subst (λ (x : ℕ). x ≤ n) (sym (fixed_good s e).head_is) k)
 
-pub read_append : (s t : List ℕ) → (read_header s ≡ Short → ⊥) → read_header (s ++ t) ≡ read_header s
+pub read_append : (s t : List ℕ) → (read_header s ≡ Err Short → ⊥) → read_header (s ++ t) ≡ read_header s
 read_append s t u = go (dec_le fixed_length (length s))
   where
     go : Dec (fixed_length ≤ length s) → read_header (s ++ t) ≡ read_header s
@@ -127,14 +127,14 @@ read_append s t u = go (dec_le fixed_length (length s))
         sym (read_enough (length s) (s ++ t) k (λ head message e. long k head message (sym (fixed_append s t k) ∙ e) (dec_le head (length s))))
         ∙ ap read_header (take_at s t (length s) refl)
       where
-        long : fixed_length ≤ length s → (head message : ℕ) → fixed_part s ≡ fixed.Sizes head message → Dec (head ≤ length s) → head ≤ length s
+        long : fixed_length ≤ length s → (head message : ℕ) → fixed_part s ≡ measures head message → Dec (head ≤ length s) → head ≤ length s
         long i head message e (yes l) = l
         long i head message e (no l) = absurd (u (read_short s i e (omega arith)))
 
 -- ---- a whole head
 
 pub record Fitting (s : List ℕ) (d : Header) : Type 0 where
-  pub sizes : fixed_part s ≡ fixed.Sizes (head_length s) (message_length s)
+  pub sizes : fixed_part s ≡ measures (head_length s) (message_length s)
   pub head_is : d.head ≡ head_length s
   pub head_low : fixed_length ≤ d.head
   pub head_inside : d.head ≤ length s
@@ -156,16 +156,16 @@ fields_fit h fs w e = go (all_zero (drop (fixed_length + array_length h) h)) e
     go false k = impossible cc
 
 -- a whole head is that of fields that were found in it
-head_whole : (h : List ℕ) (d : Header) → read_head h ≡ Whole d → (fs : Fields) × (fields_of h ≡ Some fs) × (d ≡ header_of h fs)
+head_whole : (h : List ℕ) (d : Header) → read_head h ≡ Ok d → (fs : Fields) × (fields_of h ≡ Some fs) × (d ≡ header_of h fs)
 unfolding read_head
 head_whole h d e = go (fields_of h) refl e
   where
-    go : (f : Option Fields) → fields_of h ≡ f → or_seven h f ≡ Whole d → (fs : Fields) × (fields_of h ≡ Some fs) × (d ≡ header_of h fs)
+    go : (f : Option Fields) → fields_of h ≡ f → or_seven h f ≡ Ok d → (fs : Fields) × (fields_of h ≡ Some fs) × (d ≡ header_of h fs)
     go None i k = impossible cc
     go (Some fs) i k =
-        (fs, i, judged_is h fs (λ r. r ≡ Whole d → d ≡ header_of h fs) (λ x. impossible cc) (λ x. impossible cc) (λ x. cc) k)
+        (fs, i, judged_is h fs (λ r. r ≡ Ok d → d ≡ header_of h fs) (λ x. impossible cc) (λ x. impossible cc) (λ x. cc) k)
 
-module _ (s : List ℕ) (d : Header) (u : read_header s ≡ Whole d) (k : fixed_length ≤ length s) {head message : ℕ} (e : fixed_part s ≡ fixed.Sizes head message)
+module _ (s : List ℕ) (d : Header) (u : read_header s ≡ Ok d) (k : fixed_length ≤ length s) {head message : ℕ} (e : fixed_part s ≡ measures head message)
     (l : head ≤ length s) where
   -- a place that is one of the fields'
   in_place : (fs : Fields) (p : Place) (code : ℕ) → p ≡ place_of fs code → ValuesFit (take head s) fs → d.head ≡ head → p.at + p.len ≤ d.head
@@ -198,14 +198,14 @@ module _ (s : List ℕ) (d : Header) (u : read_header s ≡ Whole d) (k : fixed_
         destination_fits = in_place fs d.destination 6 (ap (λ (x : Header). x.destination) q) t p;
       }
 
-pub whole_fits : (s : List ℕ) (d : Header) → read_header s ≡ Whole d → Fitting s d
+pub whole_fits : (s : List ℕ) (d : Header) → read_header s ≡ Ok d → Fitting s d
 whole_fits s d u = go (dec_le fixed_length (length s))
   where
     sizes : fixed_length ≤ length s → (r : Fixed) → fixed_part s ≡ r → Fitting s d
-    sizes k (fixed.Broken n) e = impossible (cc (read_broken s k e))
-    sizes k (fixed.Sizes head message) e = whole (dec_le head (length s))
+    sizes k (Err f) e = impossible (cc (read_broken s k e))
+    sizes k (Ok z) e = whole (dec_le z.head (length s))
       where
-        whole : Dec (head ≤ length s) → Fitting s d
+        whole : Dec (z.head ≤ length s) → Fitting s d
         whole (yes l) = fitting s d u k e l
         whole (no l) = impossible (cc (read_short s k e (omega arith)))
 

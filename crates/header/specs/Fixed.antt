@@ -1,11 +1,13 @@
 -- The fixed part of a head, bytes 0 to 15 (rules 2.1, 2.2 and 2.3), and its answers 1 to 6 (rule 2.4).
-use Rattle.std.specs.Prelude.{Bool, cond, not, ◌||◌, List, ℕ, ◌+◌, ltb, eqb, get_or}
+use Rattle.std.specs.Prelude.{Bool, cond, not, ◌||◌, List, ℕ, ◌+◌, ltb, eqb, get_or, Result, Ok, Err}
 use Rattle.wire.specs.Bytes.{byte}
 use Rattle.wire.specs.Words.{word_at, round_up_8}
 use Rattle.wire.specs.declared.Order.{Order}
 use Rattle.wire.specs.declared.Order.TheVariants.{Little, Big}
-use Rattle.header.specs.declared.Fixed.{Fixed}
-use Rattle.header.specs.declared.Fixed.TheVariants.{Broken, Sizes}
+use Rattle.header.specs.declared.Sizes.{Sizes}
+use Rattle.header.specs.declared.Fault.{Fault}
+use Rattle.header.specs.declared.Fault.TheVariants as fault
+use Rattle.header.specs.Faults.{fault_number}
 
 -- the order that byte 0 names (rule 2.1); where it names none, `fixed_part` has answered 1 before a number is read
 unfoldable pub order_of : List ℕ → Order
@@ -77,21 +79,28 @@ message_length s = head_length s + body_length s
 
 -- ---- answers
 
+-- a fault, or the lengths of the head and of the message
+abbrev pub Fixed : Type 0
+Fixed = Result Sizes Fault
+
+abbrev pub measures : ℕ → ℕ → Fixed
+measures head message = Ok (record { head = head; message = message })
+
 -- 4 to 6: the numbers (rule 2.4)
 unfoldable pub sizes_of : List ℕ → Fixed
 sizes_of s =
-    cond (eqb (serial_of s) 0) (Broken 4)
-    (cond (ltb array_limit (array_length s)) (Broken 5)
-    (cond (ltb message_limit (message_length s)) (Broken 6) (Sizes (head_length s) (message_length s))))
+    cond (eqb (serial_of s) 0) (Err fault.Serial)
+    (cond (ltb array_limit (array_length s)) (Err fault.ArrayLength)
+    (cond (ltb message_limit (message_length s)) (Err fault.MessageLength) (measures (head_length s) (message_length s))))
 
 -- once 16 bytes have come, tested in this order (rule 2.4)
 unfoldable pub fixed_part : List ℕ → Fixed
 fixed_part s =
-    cond (not (is_order (get_or s 0 0))) (Broken 1)
-    (cond (not (eqb (version_of s) 1)) (Broken 2)
-    (cond (eqb (kind_of s) 0) (Broken 3) (sizes_of s)))
+    cond (not (is_order (get_or s 0 0))) (Err fault.ByteOrder)
+    (cond (not (eqb (version_of s) 1)) (Err fault.Version)
+    (cond (eqb (kind_of s) 0) (Err fault.MessageType) (sizes_of s)))
 
 -- the answer number of each case: 0 says that the fixed part has none of 1 to 6 (rule 2.4)
 abbrev pub fixed_answer : Fixed → ℕ
-fixed_answer (Broken n) = n
-fixed_answer (Sizes head message) = 0
+fixed_answer (Err f) = fault_number f
+fixed_answer (Ok sizes) = 0

@@ -1,6 +1,10 @@
 // The head of a D-Bus message: what a reader of it hands back. The definitions of specs/ say which head is which; the crate `reader` reads them.
 #![tactic(auto)]
 
+ghost use Rattle.std.specs.Prelude.{◌≡◌};
+ghost use Rattle.header.specs.Faults.{fault_number};
+ghost use Rattle.header.specs.declared.Unread.TheVariants.{Broken};
+
 // Where the parts of the fixed part stand; behind it begins the array of fields.
 pub const KIND_BYTE: usize = 1;
 
@@ -74,19 +78,59 @@ pub struct Header {
     pub destination: Place,
 }
 
-// What bytes begin with: too few to say, a head with the fault of that answer number, or a whole head.
-#[derive(Clone, Copy)]
-pub enum Reading {
-    Short,
-    Broken(u8),
-    Whole(Header),
+// What breaks a head, in the order in which a reader looks for it.
+#[derive(Clone, Copy, PartialEq, Eq)]
+pub enum Fault {
+    ByteOrder,
+    Version,
+    MessageType,
+    Serial,
+    ArrayLength,
+    MessageLength,
+    Fields,
+    Values,
+    RequiredFields,
 }
 
-// What the first 16 bytes say: a fault, or the lengths of the head and of the message.
+impl Fault {
+    // The answer number.
+    pub fn number(self) -> u8
+        ensures { result ≡ fault_number self }
+    {
+        match self {
+            Fault::ByteOrder => 1,
+            Fault::Version => 2,
+            Fault::MessageType => 3,
+            Fault::Serial => 4,
+            Fault::ArrayLength => 5,
+            Fault::MessageLength => 6,
+            Fault::Fields => 7,
+            Fault::Values => 8,
+            Fault::RequiredFields => 9,
+        }
+    }
+}
+
+// Why bytes begin with no whole head: they are too few to say, or the head is broken.
+#[derive(Clone, Copy, PartialEq, Eq)]
+pub enum Unread {
+    Short,
+    Broken(Fault),
+}
+
+impl From<Fault> for Unread {
+    ghost from_gives = { λ fault unread. unread ≡ Broken fault };
+
+    fn from(fault: Fault) -> Unread {
+        Unread::Broken(fault)
+    }
+}
+
+// The lengths of a head and of its message, as the first 16 bytes say them.
 #[derive(Clone, Copy)]
-pub enum Fixed {
-    Broken(u8),
-    Sizes(usize, usize),
+pub struct Sizes {
+    pub head: usize,
+    pub message: usize,
 }
 
 // A good element of the array: its code, where its value starts, how long that is, and where the element stops; of an unknown field only that.

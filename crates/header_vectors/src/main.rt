@@ -9,16 +9,16 @@ mod letters;
 mod texts;
 mod unknown;
 
-use header::Reading;
+use header::Unread;
 use std::io;
 use wire::Order;
 
 // The answer number to the head in front of these bytes.
 fn answer(bytes: &[u8]) -> u8 {
     match reader::read(bytes) {
-        Reading::Short => 10,
-        Reading::Broken(fault) => fault,
-        Reading::Whole(_) => 0,
+        Err(Unread::Short) => 10,
+        Err(Unread::Broken(fault)) => fault.number(),
+        Ok(_) => 0,
     }
 }
 

@@ -1,7 +1,6 @@
 -- What a judgement requires and ensures.
-use Rattle.std.specs.Prelude.{◌≡◌, List, ℕ, length}
+use Rattle.std.specs.Prelude.{Ok, ◌≡◌, List, ℕ, length}
 use Rattle.header.specs.declared.Header.{Header}
-use Rattle.header.specs.declared.Reading.TheVariants.{Whole}
 use Rattle.header.specs.Header.{read_header}
 use Rattle.image.specs.Promises.{GoodImage}
 use Rattle.rules.specs.Judge.{judged}
@@ -14,7 +13,7 @@ use Rattle.waits.specs.Waits.{JudgementLeft}
 pub record JudgedMessage (image m : List ℕ) (i : ℕ) (head : List ℕ) (x : Header) : Type 0 where
   pub good : GoodImage image
   pub sender : Seated m i
-  pub read : read_header head ≡ Whole x
+  pub read : read_header head ≡ Ok x
   pub long : length head ≡ x.head
 
 -- the judgement is that of the rules (rule 7.11), and memory is the bytes of the state that it leaves

@@ -8,7 +8,7 @@ use Rattle.wire.proofs.Texts.{impossible, pad_length}
 use Rattle.wire.proofs.Words.{Octets, word_length}
 use Rattle.header.specs.Header.{read_header}
 use Rattle.header.specs.declared.Header.{Header}
-use Rattle.header.specs.declared.Reading.TheVariants.{Whole}
+use Rattle.std.specs.Prelude.{Ok}
 use Rattle.header.proofs.Readings.{whole_fits}
 use Rattle.image.specs.Promises.{GoodImage}
 use Rattle.wire.proofs.Parts.{drop_past, part_put, pad_fits}
@@ -118,7 +118,7 @@ module _ (m : List ℕ) (f : Octets m) (i : ℕ) (s : Seated m i) where
       pub consumed_clear : cleared after i ≡ memory_of consumed
       consumed_clear = rw e (cleared_put m i s.sized s.below t ∙ cleared_is m f i s)
 
-      head_read : (read_header (take x.head (pad head_room t.head)) ≡ Whole x) × (length t.head ≡ x.head)
+      head_read : (read_header (take x.head (pad head_room t.head)) ≡ Ok x) × (length t.head ≡ x.head)
       head_read =
           let k = (fine m f i s).tail in
           offer_whole (peer_at m i).stream piece k (open_more (peer_at m i).stream k o) _ x (sym v)

@@ -9,6 +9,8 @@ use Rattle.image.specs.Promises.{GoodImage}
 use Rattle.stream.specs.Stream.{whole, Offer, offer}
 use Rattle.stream.specs.Tail.{Tail, tails, closed, fresh}
 use Rattle.stream.specs.Promises.{verdict_of}
+use Rattle.header.specs.declared.Fault.{Fault}
+use Rattle.header.specs.Faults.{fault_number}
 use Rattle.stream.specs.declared.Event.{Event}
 use Rattle.stream.specs.declared.Event.TheVariants as event
 use Rattle.stream.specs.declared.Advance.{Advance}
@@ -69,10 +71,10 @@ module _ (image m bytes after : List ℕ) (f : Octets m) (i : ℕ) (s : Seated m
       (record { judgement = refusal 10; taken = r.taken }) after
   offered_more q = rw (sym (verdict_is event.More q)) (record { result = rw d.taken; memory = d.memory })
 
-  pub offered_broken : (a : ℕ) → r.event ≡ event.Broken a
+  pub offered_broken : (a : Fault) → r.event ≡ event.Broken a → (n : ℕ) → n ≡ fault_number a
       → Did (stored (offered_to tails image (state_of m) i (peer_at m i) (offer tails (peer_at m i).stream bytes)))
-      (record { judgement = refusal a; taken = r.taken }) after
-  offered_broken a q = rw (sym (verdict_is (event.Broken a) q)) (record { result = rw d.taken; memory = d.memory })
+      (record { judgement = refusal n; taken = r.taken }) after
+  offered_broken a q n k = rw (sym (verdict_is (event.Broken a) q), k) (record { result = rw d.taken; memory = d.memory })
 
   module _ (x : Header) (q : r.event ≡ event.Whole x) (g : GoodImage image) (c : closed (peer_at m i).stream ≡ false) where
     pub offered_ready : Completed image after i x

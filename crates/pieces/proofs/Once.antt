@@ -6,10 +6,9 @@ use lib.Seq.{set-get_or}
 use Rattle.wire.proofs.Words.{Octets}
 use Rattle.wire.specs.Words.{word_at}
 use Rattle.wire.specs.declared.Order.TheVariants.{Little}
-use Rattle.header.specs.Header.{read_header}
+use Rattle.header.specs.Header.{Reading, read_header}
 use Rattle.header.specs.declared.Header.{Header}
-use Rattle.header.specs.declared.Reading.{Reading}
-use Rattle.header.specs.declared.Reading.TheVariants.{Whole}
+use Rattle.std.specs.Prelude.{Ok}
 use Rattle.header.proofs.Readings.{read_front, whole_fits}
 use Rattle.image.specs.Promises.{GoodImage}
 use Rattle.stream.specs.Stream.{Offer, offer}
@@ -31,7 +30,7 @@ use Rattle.pieces.proofs.Seats.{peer_is, fine}
 use Rattle.pieces.proofs.Offered.{whole_step, piece_offered, piecing}
 
 -- a head that is whole is small, so that its length and its body's are a number of the machine
-pub once_small : (bytes : List ℕ) (x : Header) {q : Reading} → q ≡ read_header bytes → q ≡ Whole x → x.head ≤ head_room
+pub once_small : (bytes : List ℕ) (x : Header) {q : Reading} → q ≡ read_header bytes → q ≡ Ok x → x.head ≤ head_room
 once_small bytes x a b = (whole_fits bytes x (sym a ∙ b)).head_small
 
 module _ (image m bytes : List ℕ) (f : Octets m) (i : ℕ) (s : Seated m i) (n : (peer_at m i).stream.taken ≡ 0) where
@@ -51,8 +50,8 @@ module _ (image m bytes : List ℕ) (f : Octets m) (i : ℕ) (s : Seated m i) (n
       ap (λ (l : List (Slot Tail)). record { last = (state_of m).last; tick = (state_of m).tick; slots = l }) (sym (set-get_or (state_of m).slots i free))
       ∙ ap (put_slot (state_of m) i) (peer_is m f i s ∙ ap peer same_peer)
 
-  module _ (x : Header) (q : Reading) (a : q ≡ read_header bytes) (b : q ≡ Whole x) where
-    read_is : read_header bytes ≡ Whole x
+  module _ (x : Header) (q : Reading) (a : q ≡ read_header bytes) (b : q ≡ Ok x) where
+    read_is : read_header bytes ≡ Ok x
     read_is = sym a ∙ b
 
     pub once_ready : GoodImage image → JudgedMessage image m i (take (x.head - 0) bytes) x

@@ -5,7 +5,7 @@ use Rattle.wire.specs.Words.{word_at}
 use Rattle.wire.specs.declared.Order.TheVariants.{Little}
 use Rattle.header.specs.Header.{read_header}
 use Rattle.header.specs.declared.Header.{Header}
-use Rattle.header.specs.declared.Reading.TheVariants.{Whole}
+use Rattle.std.specs.Prelude.{Ok}
 use Rattle.image.specs.Promises.{GoodImage}
 use Rattle.stream.specs.Stream.{Offer}
 use Rattle.stream.specs.Tail.{Tail, closed, good_tail}
@@ -60,6 +60,6 @@ pub record Completed (image m : List ℕ) (i : ℕ) (x : Header) : Type 0 where
   pub sized : length m ≡ memory_length
   pub below : i < 16
   pub seat : Seated (cleared m i) i
-  pub read : read_header (head_in m i x.head) ≡ Whole x
+  pub read : read_header (head_in m i x.head) ≡ Ok x
   pub small : x.head ≤ head_room
   pub behind : behind_in m i x.head ≡ replicate (head_room - x.head) 0

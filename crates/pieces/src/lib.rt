@@ -14,7 +14,7 @@ ghost use Rattle.memory.specs.Sound.{Held};
 ghost use Rattle.memory.specs.Calls.{stored, Did};
 ghost use Rattle.judge.specs.Judging.{Judges};
 
-use header::{Header, Reading};
+use header::Header;
 use memory::{
     BYTE_OFFSET, FIRST_BYTE, HEAD_AT, HEAD_OFFSET, HEAD_ROOM, SLOT_LENGTH, SLOTS_AT, STREAM_LENGTH,
     TAKEN_AT,
@@ -107,7 +107,7 @@ fn piece_at(image: &[u8], memory: &mut [u8], i: usize, bytes: &[u8]) -> Taken
     let taken = a.taken;
     let judgement = match a.event {
         Event::More => refused(10),
-        Event::Broken(answer) => refused(answer),
+        Event::Broken(fault) => refused(fault.number()),
         Event::Whole(header) => judge_at(image, memory, i, header),
     };
     Taken { judgement, taken }
@@ -129,9 +129,8 @@ fn fresh_at(image: &[u8], memory: &mut [u8], i: usize, bytes: &[u8]) -> Taken
         (offer tails (peer_at memory.old i).stream bytes.now))) result memory.new }
 {
     match reader::read(bytes) {
-        Reading::Short => piece_at(image, memory, i, bytes),
-        Reading::Broken(_) => piece_at(image, memory, i, bytes),
-        Reading::Whole(header) => {
+        Err(_) => piece_at(image, memory, i, bytes),
+        Ok(header) => {
             let taken = length_of(header);
             if bytes.len() < taken {
                 return piece_at(image, memory, i, bytes);

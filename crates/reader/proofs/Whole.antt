@@ -1,5 +1,5 @@
 -- A whole head and any bytes, way by way.
-use Rattle.std.specs.Prelude.{Option, Some, None}
+use Rattle.std.specs.Prelude.{Option, Some, None, Result, Ok, Err}
 use mathlib.Core.Path.{◌≡◌, sym, ◌∙◌}
 use mathlib.Core.Bool.{Bool, true, false, not}
 use mathlib.Core.List.{List}
@@ -15,16 +15,16 @@ use Rattle.wire.specs.declared.Order.{Order}
 use Rattle.wire.proofs.Words.{rest_at}
 use Rattle.header.specs.declared.Header.{Header}
 use Rattle.header.specs.declared.Place.{Place}
-use Rattle.header.specs.declared.Fixed.{Fixed}
-use Rattle.header.specs.declared.Fixed.TheVariants as fixed
-use Rattle.header.specs.declared.Reading.{Reading}
-use Rattle.header.specs.declared.Reading.TheVariants.{Short, Broken, Whole}
-use Rattle.header.specs.Fixed.{fixed_length, order_of, array_length, head_length, fixed_part, array_word, body_word, flags_of, kind_of, serial_word}
+use Rattle.header.specs.declared.Fault.{Fault}
+use Rattle.header.specs.declared.Fault.TheVariants as fault
+use Rattle.header.specs.declared.Sizes.{Sizes}
+use Rattle.header.specs.declared.Unread.TheVariants.{Short, Broken}
+use Rattle.header.specs.Fixed.{Fixed, measures, fixed_length, order_of, array_length, head_length, fixed_part, array_word, body_word, flags_of, kind_of, serial_word}
 use Rattle.header.specs.Codes.{path_code, interface_code, member_code, error_name_code, reply_serial_code, destination_code}
 use Rattle.header.specs.Fields.{Fields, place_of, fields_in, fields_of}
 use Rattle.header.specs.Values.{number_in, good_values}
 use Rattle.header.specs.Required.{has_required}
-use Rattle.header.specs.Header.{header_of, judged_head, read_head, read_header}
+use Rattle.header.specs.Header.{Reading, header_of, judged_head, read_head, read_header}
 use Rattle.header.specs.Promises.{SizedHead, ValuesFit}
 use Rattle.header.proofs.Walk.{array_fits}
 use Rattle.header.proofs.Readings.{read_few, read_broken, read_short, read_whole, head_of}
@@ -57,16 +57,16 @@ module _ {h : List ℕ} {o : Order} {fs : Fields} (w : Reads h o fs) where
   a_header n b r e f g = rw (e, f, g, add-sub_cancel_left reply.at reply.len, w.order, w.head.sized)
 
   module _ {g : Bool} (e : g ≡ good_values o h fs) where
-    pub bad_value : not g ≡ true → Broken 8 ≡ judged_head h fs
+    pub bad_value : not g ≡ true → Err (Broken fault.Values) ≡ judged_head h fs
     unfolding judged_head
     bad_value t = rw (← w.order, ← e, t)
 
     module _ (t : not g ≡ false) {q : Bool} (f : q ≡ has_required (kind_of h) fs) where
-      pub missing : not q ≡ true → Broken 9 ≡ judged_head h fs
+      pub missing : not q ≡ true → Err (Broken fault.RequiredFields) ≡ judged_head h fs
       unfolding judged_head
       missing u = rw (← w.order, ← e, t, ← f, u)
 
-      pub whole : not q ≡ false → {d : Header} → d ≡ header_of h fs → Whole d ≡ judged_head h fs
+      pub whole : not q ≡ false → {d : Header} → d ≡ header_of h fs → Ok d ≡ judged_head h fs
       unfolding judged_head
       whole u i = rw (← w.order, ← e, t, ← f, u, i)
 
@@ -85,7 +85,7 @@ module _ (h : List ℕ) (o : Order) (a : ℕ) (w : SizedHead h) (p : o ≡ order
   walk_inside = record { above = omega arith; before = omega arith; padded = rw (w.sized, array_is) (omega arith); small = w.small }
 
   module _ {z : Bool} (e : z ≡ all_zero (take (length h - (fixed_length + a)) (drop (fixed_length + a) h))) where
-    pub unpadded : not z ≡ true → Broken 7 ≡ read_head h
+    pub unpadded : not z ≡ true → Err (Broken fault.Fields) ≡ read_head h
     unfolding read_head fields_of
     unpadded t = rw (array_is, ← rest_at (fixed_length + a) h, ← e, not-true z t)
 
@@ -94,7 +94,7 @@ module _ (h : List ℕ) (o : Order) (a : ℕ) (w : SizedHead h) (p : o ≡ order
       unfolding fields_of
       fields_are = rw (array_is, ← rest_at (fixed_length + a) h, ← e, not-false z t, i)
 
-      pub malformed : f ≡ None → Broken 7 ≡ read_head h
+      pub malformed : f ≡ None → Err (Broken fault.Fields) ≡ read_head h
       unfolding read_head
       malformed u = rw (fields_are, u)
 
@@ -113,22 +113,22 @@ pub ruleset heads = (array_inside, walk_inside, unpadded, malformed, places_read
 
 -- ---- any bytes
 
-pub few_bytes : (s : List ℕ) → length s < fixed_length → Short ≡ read_header s
+pub few_bytes : (s : List ℕ) → length s < fixed_length → Err Short ≡ read_header s
 few_bytes s h = sym (read_few s h)
 
 module _ (s : List ℕ) (k : fixed_length ≤ length s) (r : Fixed) (p : r ≡ fixed_part s) where
-  pub fixed_broken : {n : ℕ} → r ≡ fixed.Broken n → Broken n ≡ read_header s
+  pub fixed_broken : {f : Fault} → r ≡ Err f → Err (Broken f) ≡ read_header s
   fixed_broken e = sym (read_broken s k (sym p ∙ e))
 
-  module _ {head message : ℕ} (e : r ≡ fixed.Sizes head message) where
-    pub head_short : length s < head → Short ≡ read_header s
+  module _ {z : Sizes} (e : r ≡ Ok z) where
+    pub head_short : length s < z.head → Err Short ≡ read_header s
     head_short h = sym (read_short s k (sym p ∙ e) h)
 
-    module _ (h : head ≤ length s) where
-      pub a_head : SizedHead (take (head - 0) (drop 0 s))
+    module _ (h : z.head ≤ length s) where
+      pub a_head : SizedHead (take (z.head - 0) (drop 0 s))
       a_head = rw sub-zero (head_of s (sym p ∙ e) h)
 
-      pub then_head : {x : Reading} → x ≡ read_head (take (head - 0) (drop 0 s)) → x ≡ read_header s
+      pub then_head : {x : Reading} → x ≡ read_head (take (z.head - 0) (drop 0 s)) → x ≡ read_header s
       then_head i = (rw sub-zero at i) ∙ sym (read_whole s k (sym p ∙ e) h)
 
 pub ruleset bytes = (few_bytes, fixed_broken, head_short, a_head, then_head, rules)

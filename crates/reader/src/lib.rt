@@ -14,8 +14,8 @@ ghost use Rattle.reader.specs.Promises.{Inside, Known, Reads};
 
 use header::{
     ARRAY_LIMIT, ARRAY_WORD, BODY_WORD, CODE_LIMIT, DESTINATION_CODE, ERROR_NAME_CODE, Element,
-    FIXED_LENGTH, FLAGS_BYTE, Fixed, Header, INTERFACE_CODE, KIND_BYTE, MEMBER_CODE, MESSAGE_LIMIT,
-    PATH_CODE, Place, REPLY_SERIAL_CODE, Reading, SERIAL_WORD, VERSION_BYTE,
+    FIXED_LENGTH, FLAGS_BYTE, Fault, Header, INTERFACE_CODE, KIND_BYTE, MEMBER_CODE, MESSAGE_LIMIT,
+    PATH_CODE, Place, REPLY_SERIAL_CODE, SERIAL_WORD, Sizes, Unread, VERSION_BYTE,
 };
 use wire::Order;
 
@@ -36,29 +36,29 @@ fn order_of(bytes: &[u8]) -> Order
 
 // 4 to 6, and the lengths.
 #[tactic(auto, unfolding(header::specs::Fixed::sizes_of, header::specs::Fixed::message_length, header::specs::Fixed::head_length))]
-fn sizes(bytes: &[u8]) -> Fixed
+fn sizes(bytes: &[u8]) -> Result<Sizes, Fault>
     requires { fixed_length ≤ length bytes.now }
     ensures { result ≡ sizes_of bytes.now }
 {
     let order = order_of(bytes);
     if wire::u32_at(order, bytes, SERIAL_WORD) == 0 {
-        return Fixed::Broken(4);
+        return Err(Fault::Serial);
     }
     let array = wire::u32_at(order, bytes, ARRAY_WORD) as usize;
     if ARRAY_LIMIT < array {
-        return Fixed::Broken(5);
+        return Err(Fault::ArrayLength);
     }
     let head = FIXED_LENGTH + wire::round_up_8(array);
     let message = head + wire::u32_at(order, bytes, BODY_WORD) as usize;
     if MESSAGE_LIMIT < message {
-        return Fixed::Broken(6);
+        return Err(Fault::MessageLength);
     }
-    Fixed::Sizes(head, message)
+    Ok(Sizes { head, message })
 }
 
 // The fixed part of a head: 1 to 6 in their order, or the lengths.
 #[tactic(auto, unfolding(header::specs::Fixed::fixed_part))]
-pub fn fixed_part(bytes: &[u8]) -> Fixed
+pub fn fixed_part(bytes: &[u8]) -> Result<Sizes, Fault>
     requires { fixed_length ≤ length bytes.now }
     ensures { result ≡ fixed_part bytes.now }
 {
@@ -66,13 +66,13 @@ pub fn fixed_part(bytes: &[u8]) -> Fixed
     let kind = bytes[KIND_BYTE];
     let version = bytes[VERSION_BYTE];
     if !((first == b'l') | (first == b'B')) {
-        return Fixed::Broken(1);
+        return Err(Fault::ByteOrder);
     }
     if !(version == 1) {
-        return Fixed::Broken(2);
+        return Err(Fault::Version);
     }
     if kind == 0 {
-        return Fixed::Broken(3);
+        return Err(Fault::MessageType);
     }
     sizes(bytes)
 }
@@ -256,49 +256,45 @@ fn header_of(order: Order, head: &[u8], places: [Place; CODE_LIMIT]) -> Header
 }
 
 // 8, then 9.
-fn judge(order: Order, head: &[u8], places: [Place; CODE_LIMIT]) -> Reading
+fn judge(order: Order, head: &[u8], places: [Place; CODE_LIMIT]) -> Result<Header, Unread>
     requires { Reads head.now order places }
     ensures { result ≡ judged_head head.now places }
 {
     if !values::are_good(order, head, places) {
-        return Reading::Broken(8);
+        return Err(Unread::Broken(Fault::Values));
     }
     if !values::has_required(head[KIND_BYTE], places) {
-        return Reading::Broken(9);
+        return Err(Unread::Broken(Fault::RequiredFields));
     }
-    Reading::Whole(header_of(order, head, places))
+    Ok(header_of(order, head, places))
 }
 
 // The whole head, and nothing behind it: 7, then 8, then 9.
-fn read_head(head: &[u8]) -> Reading
+fn read_head(head: &[u8]) -> Result<Header, Unread>
     requires { SizedHead head.now }
     ensures { result ≡ read_head head.now }
 {
     let order = order_of(head);
     let end = FIXED_LENGTH + wire::u32_at(order, head, ARRAY_WORD) as usize;
     if !wire::is_zero(head, end, head.len()) {
-        return Reading::Broken(7);
+        return Err(Unread::Broken(Fault::Fields));
     }
     match walk_all(head, end) {
         Some(places) => judge(order, head, places),
-        None => Reading::Broken(7),
+        None => Err(Unread::Broken(Fault::Fields)),
     }
 }
 
 // The head in front of any bytes.
-pub fn read(bytes: &[u8]) -> Reading
+pub fn read(bytes: &[u8]) -> Result<Header, Unread>
     ensures { result ≡ read_header bytes.now }
 {
     if bytes.len() < FIXED_LENGTH {
-        return Reading::Short;
+        return Err(Unread::Short);
     }
-    match fixed_part(bytes) {
-        Fixed::Broken(n) => Reading::Broken(n),
-        Fixed::Sizes(head, _) => {
-            if bytes.len() < head {
-                return Reading::Short;
-            }
-            read_head(&bytes[0..head])
-        }
+    let head = fixed_part(bytes)?.head;
+    if bytes.len() < head {
+        return Err(Unread::Short);
     }
+    read_head(&bytes[0..head])
 }

@@ -2,7 +2,7 @@
 ghost use Rattle.std.specs.Prelude.{◌<◌};
 
 use crate::peer::{OpenCall, Peer};
-use header::{CALL, ERROR, RETURN, Reading};
+use header::{CALL, ERROR, Header, RETURN, Unread};
 use memory::{MEMORY_LENGTH, PENDING_AT, SLOT_LENGTH, SLOTS_AT};
 use rules::{Connected, Receiver, Taken, Ticked};
 use std::alloc::{AllocError, Global};
@@ -93,8 +93,8 @@ impl Ledger {
 
     // A message passed from a peer to another, or to itself. These count: a call without the flag NO_REPLY_EXPECTED, the lowest bit; a return and an error, for the
     // caller, who receives it.
-    fn passed(&mut self, sender: u32, receiver: u32, message: Reading) -> Result<(), AllocError> {
-        let Reading::Whole(header) = message else {
+    fn passed(&mut self, sender: u32, receiver: u32, message: Result<Header, Unread>) -> Result<(), AllocError> {
+        let Ok(header) = message else {
             return Ok(());
         };
         match header.kind {

@@ -1,5 +1,5 @@
 // What passed of one peer since it connected: its present message, its open calls and their counts.
-use header::Reading;
+use header::{Header, Unread};
 use memory::HEAD_ROOM;
 use std::alloc::{AllocError, Global};
 
@@ -43,7 +43,7 @@ impl Peer {
         self.head.extend_from_slice(&bytes[..room.min(bytes.len())])
     }
 
-    pub fn message(&self) -> Reading {
+    pub fn message(&self) -> Result<Header, Unread> {
         reader::read(&self.head)
     }
 

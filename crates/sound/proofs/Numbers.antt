@@ -1,5 +1,5 @@
 -- The numbers that a piece is answered with: a judged message 0 or 20 to 26, a broken head 1 to 9, and never 51.
-use mathlib.Core.Path.{◌≡◌, refl, sym, ap, ◌∙◌}
+use mathlib.Core.Path.{◌≡◌, refl, sym, subst, ◌∙◌}
 use mathlib.Core.Logic.{◌⊎◌, inl, inr}
 use mathlib.Core.Bool.{true, ◌&&◌}
 use mathlib.Core.List.{List}
@@ -10,9 +10,11 @@ use lib.ListN.{take}
 use borrow.Author.Tests.{eqb-true, leb-true}
 use Rattle.wire.proofs.Texts.{impossible, both_first, both_second, either}
 use Rattle.header.specs.declared.Header.{Header}
-use Rattle.header.specs.declared.Reading.{Reading}
-use Rattle.header.specs.declared.Reading.TheVariants.{Short, Broken, Whole}
-use Rattle.header.specs.Header.{read_header}
+use Rattle.std.specs.Prelude.{Ok, Err}
+use Rattle.header.specs.declared.Fault.{Fault}
+use Rattle.header.specs.declared.Unread.TheVariants.{Short, Broken}
+use Rattle.header.specs.Faults.{fault_number}
+use Rattle.header.specs.Header.{Reading, read_header}
 use Rattle.header.proofs.Front.{fixed_number}
 use Rattle.header.proofs.Readings.{head_number, read_whole}
 use Rattle.stream.specs.Stream.{Verdict, more, broken, whole}
@@ -44,29 +46,30 @@ judged_proper {S} image s i sender x h =
 
 -- ---- a broken head
 
-read_number : (s : List ℕ) (a : ℕ) → read_header s ≡ Broken a → (1 ≤ a) × (a ≤ 9)
+read_number : (s : List ℕ) (a : Fault) → read_header s ≡ Err (Broken a) → (1 ≤ fault_number a) × (fault_number a ≤ 9)
 read_number s a e = go (known s e)
   where
-    go : Known s (Broken a) → (1 ≤ a) × (a ≤ 9)
+    go : Known s (Err (Broken a)) → (1 ≤ fault_number a) × (fault_number a ≤ 9)
     go (early l k f) = let n = fixed_number s f in omega arith
     go (late {head = h} l k z w) = let n = head_number (take h s) (sym (read_whole s l z.sizes w) ∙ e) in omega arith
 
 -- a message that is broken or whole is so by what its head reads as
-abbrev read_of : Verdict → Reading
-read_of more = Short
-read_of (broken a) = Broken a
-read_of (whole h x) = Whole x
+abbrev Says : Reading → Verdict → Type 0
+Says r more = Unit {0}
+Says r (broken a) = (f : Fault) × (r ≡ Err (Broken f)) × (fault_number f ≡ a)
+Says r (whole h x) = r ≡ Ok x
 
-finished_read : (n : ℕ) (h : List ℕ) (r : Reading) → (finished n h r ≡ more) ⊎ (read_of (finished n h r) ≡ r)
-finished_read n h Short = inl refl
-finished_read n h (Broken a) = inr refl
-finished_read n h (Whole x) = choice (λ (v : Verdict). (v ≡ more) ⊎ (read_of v ≡ Whole x)) (ltb n (x.head + x.body)) _ _ (λ e. inl refl) (λ e. inr refl)
+finished_read : (n : ℕ) (h : List ℕ) (r : Reading) → Says r (finished n h r)
+finished_read n h (Err Short) = tt
+finished_read n h (Err (Broken f)) = (f, refl, refl)
+finished_read n h (Ok x) = choice (λ (v : Verdict). Says (Ok x) v) (ltb n (x.head + x.body)) _ _ (λ e. tt) (λ e. refl)
 
-pub broken_read : (n : ℕ) (h : List ℕ) (a : ℕ) → finished n h (read_header h) ≡ broken a → read_header h ≡ Broken a
-broken_read n h a e = elim (finished_read n h (read_header h)) [ inl q ↦ impossible cc | inr q ↦ sym q ∙ ap read_of e ]
+pub broken_read : (n : ℕ) (h : List ℕ) (a : ℕ) → finished n h (read_header h) ≡ broken a
+    → (f : Fault) × (read_header h ≡ Err (Broken f)) × (fault_number f ≡ a)
+broken_read n h a e = subst (Says (read_header h)) e (finished_read n h (read_header h))
 
-pub whole_read : (n : ℕ) (k h : List ℕ) (x : Header) → finished n k (read_header k) ≡ whole h x → read_header k ≡ Whole x
-whole_read n k h x e = elim (finished_read n k (read_header k)) [ inl q ↦ impossible cc | inr q ↦ sym q ∙ ap read_of e ]
+pub whole_read : (n : ℕ) (k h : List ℕ) (x : Header) → finished n k (read_header k) ≡ whole h x → read_header k ≡ Ok x
+whole_read n k h x e = subst (Says (read_header k)) e (finished_read n k (read_header k))
 
 pub broken_number : (n : ℕ) (h : List ℕ) (a : ℕ) → finished n h (read_header h) ≡ broken a → (1 ≤ a) × (a ≤ 9)
-broken_number n h a e = read_number h a (broken_read n h a e)
+broken_number n h a e = let q = broken_read n h a e in subst (λ (m : ℕ). (1 ≤ m) × (m ≤ 9)) q.2 (read_number h q.0 q.1)

@@ -9,7 +9,7 @@ use Rattle.wire.specs.Lists.{every}
 use Rattle.wire.proofs.Texts.{impossible, both_first, both_second}
 use Rattle.header.specs.Header.{read_header}
 use Rattle.header.specs.declared.Header.{Header}
-use Rattle.header.specs.declared.Reading.TheVariants.{Whole}
+use Rattle.std.specs.Prelude.{Ok}
 use Rattle.stream.specs.Stream.{Verdict, more, broken, whole, Streams, Offer, offer, settled}
 use Rattle.stream.specs.Steps.{follows}
 use Rattle.stream.specs.Tail.{Tail, push, judge, tails, head_end}
@@ -54,7 +54,7 @@ offer_judged {S} O v n s (b ∷ p) e =
     ((elim (O.judge t) as (λ (u : Verdict). O.judge t ≡ u → (after u).verdict ≡ v → O.judge (after u).stream ≡ v)
     [ more ↦ λ q a. offer_judged O v n t p a | broken k ↦ λ q a. q ∙ a | whole k y ↦ λ q a. q ∙ a ]) refl (rw (offer_step O s b p) at e))
 
-pub offer_read : (t : Tail) (p h : List ℕ) (x : Header) → (offer tails t p).verdict ≡ whole h x → read_header (offer tails t p).stream.head ≡ Whole x
+pub offer_read : (t : Tail) (p h : List ℕ) (x : Header) → (offer tails t p).verdict ≡ whole h x → read_header (offer tails t p).stream.head ≡ Ok x
 offer_read t p h x e =
     let o = (offer tails t p).stream in
     whole_read o.taken o.head h x (offer_judged tails (whole h x) (λ q. impossible cc) t p e)

@@ -8,7 +8,7 @@ use borrow.Author.Tests.{eqb-false}
 use Rattle.wire.specs.Bytes.{Below}
 use Rattle.wire.proofs.Words.{word_below}
 use Rattle.header.specs.declared.Header.{Header}
-use Rattle.header.specs.declared.Reading.TheVariants.{Whole}
+use Rattle.std.specs.Prelude.{Ok}
 use Rattle.header.specs.Fixed.{order_of, serial_of}
 use Rattle.header.specs.Header.{read_header}
 use Rattle.stream.specs.Stream.{offer, settled}
@@ -18,7 +18,7 @@ use Rattle.stream.proofs.Pushes.{offer_good}
 use Rattle.header.proofs.Front.{fixed_good}
 use Rattle.header.proofs.Readings.{whole_fits}
 
-pub header_serial : (h : List ℕ) (x : Header) → Below 256 h → read_header h ≡ Whole x → (1 ≤ x.serial) × (x.serial < 4294967296)
+pub header_serial : (h : List ℕ) (x : Header) → Below 256 h → read_header h ≡ Ok x → (1 ≤ x.serial) × (x.serial < 4294967296)
 header_serial h x b e =
     let f = whole_fits h x e in
     let g = fixed_good h f.sizes in

@@ -9,10 +9,11 @@ use lib.ListN.{length, take, drop, length-take}
 use lib.Seq.{length-take-le}
 use native.Mathlib.Decide.{dec_lt}
 use Rattle.wire.proofs.Texts.{impossible}
-use Rattle.header.specs.declared.Fixed.{Fixed}
-use Rattle.header.specs.declared.Fixed.TheVariants as fixed
-use Rattle.header.specs.declared.Reading.TheVariants as reading
-use Rattle.header.specs.Fixed.{fixed_length, message_limit, head_length, fixed_part}
+use Rattle.std.specs.Prelude.{Ok, Err}
+use Rattle.header.specs.declared.Fault.{Fault}
+use Rattle.header.specs.declared.Sizes.{Sizes}
+use Rattle.header.specs.declared.Unread.TheVariants as unread
+use Rattle.header.specs.Fixed.{fixed_length, message_limit, head_length, Fixed, measures, fixed_part}
 use Rattle.header.specs.Header.{read_header}
 use Rattle.header.proofs.Front.{head_low}
 use Rattle.header.proofs.Readings.{read_few, read_broken}
@@ -107,31 +108,31 @@ module _ {region : List ℕ} {s : Stream} {piece : List ℕ} {used : ℕ} (b : B
     is_fixed : fixed_part (take s.stored region) ≡ f
     is_fixed = sym (rw sub-zero at e)
 
-    pub broken_fixed : {a : ℕ} → f ≡ fixed.Broken a → Resumed region s piece used (record { stream = s; taken = used; event = Broken a }) region
+    pub broken_fixed : {a : Fault} → f ≡ Err a → Resumed region s piece used (record { stream = s; taken = used; event = Broken a }) region
     broken_fixed {a} q = broken_at_lem begun r (go (dec_lt (head_length (take s.stored region)) s.taken))
       where
-        r : read_header (take s.stored region) ≡ reading.Broken a
+        r : read_header (take s.stored region) ≡ Err (unread.Broken a)
         r = read_broken (take s.stored region) (omega (arith, started_length begun, begun.above)) (is_fixed ∙ q)
 
         go : Dec (head_length (take s.stored region) < s.taken) → s.taken ≤ message_limit
         go (yes d) = let z = rw r at (b.running d) in impossible cc
         go (no d) = omega (arith, b.kept, begun.stored)
 
-    pub sizes_fixed : {end message : ℕ} → f ≡ fixed.Sizes end message → InHead region s piece used end message
-    sizes_fixed {end} {message} q =
-        let k : s.stored ≡ min s.taken end = rw z.is_head b.kept in
+    pub sizes_fixed : {x : Sizes} → f ≡ Ok x → InHead region s piece used x.head x.message
+    sizes_fixed {x} q =
+        let k : s.stored ≡ min s.taken x.head = rw z.is_head b.kept in
         record {
-          measured = record { started = begun; sizes = is_fixed ∙ q; small = z.small; below = go k (dec_lt end s.taken); few = z.fits };
+          measured = record { started = begun; sizes = is_fixed ∙ q; small = z.small; below = go k (dec_lt x.head s.taken); few = z.fits };
           kept = k;
           running = λ i. b.running (rw (← z.is_head) i);
         }
       where
-        z : Sized (take s.stored region) end message
+        z : Sized (take s.stored region) x.head x.message
         z = sized (take s.stored region) (is_fixed ∙ q)
 
-        go : s.stored ≡ min s.taken end → Dec (end < s.taken) → s.taken ≤ message
+        go : s.stored ≡ min s.taken x.head → Dec (x.head < s.taken) → s.taken ≤ x.message
         go k (yes d) =
-            let w = in_body_of s.taken (take s.stored region) end message (omega (arith, started_length begun, begun.above)) (is_fixed ∙ q)
+            let w = in_body_of s.taken (take s.stored region) x.head x.message (omega (arith, started_length begun, begun.above)) (is_fixed ∙ q)
             (omega (arith, started_length begun)) (b.running (rw (← z.is_head) d)) in
             omega (arith, w.2)
         go k (no d) = omega (arith, z.inside)

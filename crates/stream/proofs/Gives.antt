@@ -11,11 +11,13 @@ use native.Mathlib.Decide.{dec_lt}
 use Rattle.wire.specs.Bytes.{pad}
 use Rattle.wire.proofs.Texts.{impossible}
 use Rattle.header.specs.declared.Header.{Header}
-use Rattle.header.specs.declared.Fixed.TheVariants as fixed
-use Rattle.header.specs.declared.Reading.{Reading}
-use Rattle.header.specs.declared.Reading.TheVariants as reading
-use Rattle.header.specs.Fixed.{fixed_length, head_limit, message_limit, fixed_part}
-use Rattle.header.specs.Header.{read_header}
+use Rattle.std.specs.Prelude.{Ok, Err}
+use Rattle.header.specs.declared.Fault.{Fault}
+use Rattle.header.specs.Faults.{fault_number}
+use Rattle.header.specs.declared.Sizes.{Sizes}
+use Rattle.header.specs.declared.Unread.TheVariants as unread
+use Rattle.header.specs.Fixed.{fixed_length, head_limit, message_limit, fixed_part, measures}
+use Rattle.header.specs.Header.{Reading, read_header}
 use Rattle.stream.specs.declared.Stream.{Stream}
 use Rattle.stream.specs.declared.Event.{Event}
 use Rattle.stream.specs.declared.Event.TheVariants.{More, Broken, Whole}
@@ -34,7 +36,7 @@ use Rattle.stream.proofs.Regions.{started_length, fits, head_after, length_after
 -- an event has the number of the verdict that it is
 event_answers : (region : List ℕ) (e : Event) → event_answer e ≡ verdict_answer (verdict_of region e)
 event_answers region More = refl
-event_answers region (Broken a) = refl
+event_answers region (Broken f) = refl
 event_answers region (Whole x) = refl
 
 -- r is what o comes to where o is the stream `next` with its event
@@ -72,7 +74,7 @@ abbrev pub plus : Stream → ℕ → Stream
 plus s k = record { taken = s.taken + k; stored = s.stored + k }
 
 -- the piece is used up in the head
-pub used_up : (region : List ℕ) (s : Stream) (piece : List ℕ) (used : ℕ) → length piece ≤ used → read_header (take s.stored region) ≡ reading.Short
+pub used_up : (region : List ℕ) (s : Stream) (piece : List ℕ) (used : ℕ) → length piece ≤ used → read_header (take s.stored region) ≡ Err unread.Short
     → resumed (tail_in region s) piece used ≡ record { verdict = more; taken = used; stream = tail_in region s }
 used_up region s piece used l e =
     let z : used + 0 ≡ used = add-zero used in
@@ -95,7 +97,7 @@ module _ (s : Stream) {region piece after : List ℕ} {limit used k : ℕ} (r : 
 
   -- the piece ends among them
   pub more_stored : {o : Offer Tail} → o ≡ resumed (tail_in after (plus s k)) piece (used + k) → s.stored + k < limit
-      → read_header (take (s.stored + k) after) ≡ reading.Short → region ≡ pad head_limit (take s.stored region) → s.taken + k ≤ message_limit
+      → read_header (take (s.stored + k) after) ≡ Err unread.Short → region ≡ pad head_limit (take s.stored region) → s.taken + k ≤ message_limit
       → Gives o (length piece) (record { stream = plus s k; taken = used + k; event = More }) after
   more_stored e h q p f =
       gives (length piece) after (plus s k) (used + k) More (e ∙ used_up after (plus s k) piece (used + k) (omega (arith, w.many)) q)
@@ -104,28 +106,29 @@ module _ (s : Stream) {region piece after : List ℕ} {limit used k : ℕ} (r : 
 
 -- ---- a piece's end in the body, and a broken head
 
-pub broken_at_lem : {region : List ℕ} {s : Stream} {piece : List ℕ} {used a : ℕ} → Started region s piece used
-    → read_header (take s.stored region) ≡ reading.Broken a → s.taken ≤ message_limit
-    → Resumed region s piece used (record { stream = s; taken = used; event = Broken a }) region
-broken_at_lem {region} {s} {piece} {used} {a} b e f =
+pub broken_at_lem : {region : List ℕ} {s : Stream} {piece : List ℕ} {used : ℕ} {f : Fault} → Started region s piece used
+    → read_header (take s.stored region) ≡ Err (unread.Broken f) → s.taken ≤ message_limit
+    → Resumed region s piece used (record { stream = s; taken = used; event = Broken f }) region
+broken_at_lem {region} {s} {piece} {used} {f} b e l =
     let z : used + 0 ≡ used = add-zero used in
     record {
-      gives = gives (length piece) region s used (Broken a)
-          (ap (bump_by used) (continued_broken s.taken (take s.stored region) (drop used piece) a e)
-          ∙ (λ i. record { verdict = broken a; taken = z i; stream = tail_in region s }))
-          b.padded b.sized b.stored b.within f;
+      gives = gives (length piece) region s used (Broken f)
+          (ap (bump_by used) (continued_broken s.taken (take s.stored region) (drop used piece) f e)
+          ∙ (λ i. record { verdict = broken (fault_number f); taken = z i; stream = tail_in region s }))
+          b.padded b.sized b.stored b.within l;
     }
 
 -- a whole head says the lengths that its fixed part says
-pub lengths : (h : List ℕ) (x : Header) (head message : ℕ) → read_header h ≡ reading.Whole x → fixed_part h ≡ fixed.Sizes head message
+pub lengths : (h : List ℕ) (x : Header) (head message : ℕ) → read_header h ≡ Ok x → fixed_part h ≡ measures head message
     → (x.head ≡ head) × (x.head + x.body ≡ message)
 lengths h x head message e f =
-    let q : fixed.Sizes x.head (x.head + x.body) ≡ fixed.Sizes head message = sym (whole_head h e).sizes.sizes ∙ f in
-    (cc, cc)
+    let q : measures x.head (x.head + x.body) ≡ measures head message = sym (whole_head h e).sizes.sizes ∙ f in
+    let z : ◌≡◌ {A = Sizes} (record { head = x.head; message = x.head + x.body }) (record { head = head; message = message }) = cc q in
+    (ap (λ (y : Sizes). y.head) z, ap (λ (y : Sizes). y.message) z)
 
 -- the piece ends in the body: all of it is taken
 module _ {region : List ℕ} {s : Stream} {piece : List ℕ} {used : ℕ} (b : Started region s piece used) (x : Header)
-    (e : read_header (take s.stored region) ≡ reading.Whole x) (k : s.stored ≡ x.head) where
+    (e : read_header (take s.stored region) ≡ Ok x) (k : s.stored ≡ x.head) where
   head_length_lem : length (take s.stored region) ≡ x.head
   head_length_lem = started_length b ∙ k
 
@@ -158,16 +161,16 @@ module _ {region : List ℕ} {s : Stream} {piece : List ℕ} {used : ℕ} (b : S
       }
 
 -- an open stream whose head is whole is in the body
-pub in_body_of : (n : ℕ) (h : List ℕ) (head message : ℕ) → fixed_length ≤ length h → fixed_part h ≡ fixed.Sizes head message → head ≤ length h
+pub in_body_of : (n : ℕ) (h : List ℕ) (head message : ℕ) → fixed_length ≤ length h → fixed_part h ≡ measures head message → head ≤ length h
     → judge (record { taken = n; head = h }) ≡ more
-    → (x : Header) × (read_header h ≡ reading.Whole x) × (n < message)
+    → (x : Header) × (read_header h ≡ Ok x) × (n < message)
 in_body_of n h head message l f k o = go (read_header h) refl
   where
-    last : (x : Header) → read_header h ≡ reading.Whole x → Dec (n < x.head + x.body) → (x : Header) × (read_header h ≡ reading.Whole x) × (n < message)
+    last : (x : Header) → read_header h ≡ Ok x → Dec (n < x.head + x.body) → (x : Header) × (read_header h ≡ Ok x) × (n < message)
     last x e (yes d) = (x, e, rw (← (lengths h x head message e f).1) d)
     last x e (no d) = let z = rw (e, le-ltb n (x.head + x.body) (omega arith)) at o in impossible cc
 
-    go : (r : Reading) → read_header h ≡ r → (x : Header) × (read_header h ≡ reading.Whole x) × (n < message)
-    go reading.Short e = absurd (not_short h l f k e)
-    go (reading.Broken a) e = let z = rw e at o in impossible cc
-    go (reading.Whole x) e = last x e (dec_lt n (x.head + x.body))
+    go : (r : Reading) → read_header h ≡ r → (x : Header) × (read_header h ≡ Ok x) × (n < message)
+    go (Err unread.Short) e = absurd (not_short h l f k e)
+    go (Err (unread.Broken a)) e = let z = rw e at o in impossible cc
+    go (Ok x) e = last x e (dec_lt n (x.head + x.body))

@@ -10,10 +10,12 @@ use lib.ListN.{length}
 use borrow.Author.Tests.{lt-ltb, le-ltb, eq-eqb, eqb-true, le-leb, lt-leb}
 use Rattle.wire.proofs.Texts.{both_first, both_second, both_true}
 use Rattle.header.specs.declared.Header.{Header}
-use Rattle.header.specs.declared.Reading.{Reading}
-use Rattle.header.specs.declared.Reading.TheVariants.{Short, Broken, Whole}
+use Rattle.std.specs.Prelude.{Ok, Err}
+use Rattle.header.specs.declared.Fault.{Fault}
+use Rattle.header.specs.Faults.{fault_number}
+use Rattle.header.specs.declared.Unread.TheVariants.{Short, Broken}
 use Rattle.header.specs.Fixed.{fixed_length, head_limit, message_limit, head_length}
-use Rattle.header.specs.Header.{read_header}
+use Rattle.header.specs.Header.{Reading, read_header}
 use Rattle.header.proofs.Front.{head_low}
 use Rattle.header.proofs.Readings.{read_few}
 use Rattle.stream.specs.Stream.{more}
@@ -29,37 +31,37 @@ pub sized_end : (h : List ℕ) {head message : ℕ} → fixed_length ≤ length 
 sized_end h l z = end_is h l ∙ sym z.is_head
 
 -- a short head ends behind its bytes, and in time
-pub short_end : (h : List ℕ) → read_header h ≡ Short → (length h < head_end h) × (length h < head_limit)
+pub short_end : (h : List ℕ) → read_header h ≡ Err Short → (length h < head_end h) × (length h < head_limit)
 short_end h e = go (known h e)
   where
-    go : Known h Short → (length h < head_end h) × (length h < head_limit)
+    go : Known h (Err Short) → (length h < head_end h) × (length h < head_limit)
     go (few l) = (rw (lt-ltb (length h) fixed_length l) l, omega arith)
     go (part l z k) = (rw (sized_end h l z) k, omega (arith, z.small))
 
 -- a broken head is broken where it ends, or its fixed part
-pub broken_end : (h : List ℕ) {a : ℕ} → read_header h ≡ Broken a → (fixed_length ≤ length h) × (broken_at a h ≤ head_end h) × (broken_at a h ≤ length h)
-    × (broken_at a h ≤ head_limit)
-broken_end h {a} e = go (known h e)
+pub broken_end : (h : List ℕ) {f : Fault} → read_header h ≡ Err (Broken f) → (fixed_length ≤ length h) × (broken_at (fault_number f) h ≤ head_end h) × (broken_at (fault_number f) h ≤ length h)
+    × (broken_at (fault_number f) h ≤ head_limit)
+broken_end h {f} e = go (known h e)
   where
-    go : Known h (Broken a) → (fixed_length ≤ length h) × (broken_at a h ≤ head_end h) × (broken_at a h ≤ length h) × (broken_at a h ≤ head_limit)
-    go (early l k f) = let b : broken_at a h ≡ fixed_length = rw (le-leb a 6 k) in rw (end_is h l, b) (l, head_low h, l, omega arith)
+    go : Known h (Err (Broken f)) → (fixed_length ≤ length h) × (broken_at (fault_number f) h ≤ head_end h) × (broken_at (fault_number f) h ≤ length h) × (broken_at (fault_number f) h ≤ head_limit)
+    go (early l k q) = let b : broken_at (fault_number f) h ≡ fixed_length = rw (le-leb (fault_number f) 6 k) in rw (end_is h l, b) (l, head_low h, l, omega arith)
     go (late l k z i) =
-        let b : broken_at a h ≡ head_length h = rw (lt-leb a 6 k) in
+        let b : broken_at (fault_number f) h ≡ head_length h = rw (lt-leb (fault_number f) 6 k) in
         rw (end_is h l, b) (l, omega arith, omega (arith, z.is_head), omega (arith, z.is_head, z.small))
 
-pub whole_end : (h : List ℕ) (x : Header) → read_header h ≡ Whole x → head_end h ≡ x.head
+pub whole_end : (h : List ℕ) (x : Header) → read_header h ≡ Ok x → head_end h ≡ x.head
 whole_end h x e = let w = whole_head h e in sized_end h (omega (arith, w.inside, w.sizes.above)) w.sizes
 
 -- ---- open and closed streams
 
 -- an open stream is in its message's head, of which every byte is kept, or in its body, and then just the head is kept
 pub data Running (t : Tail) : Type 0 where
-  in_head : read_header t.head ≡ Short → t.taken ≡ length t.head → Running t
-  in_body : (x : Header) → read_header t.head ≡ Whole x → length t.head ≡ x.head → x.head ≤ t.taken → t.taken < x.head + x.body → Running t
+  in_head : read_header t.head ≡ Err Short → t.taken ≡ length t.head → Running t
+  in_body : (x : Header) → read_header t.head ≡ Ok x → length t.head ≡ x.head → x.head ≤ t.taken → t.taken < x.head + x.body → Running t
 
 -- a closed stream ends at the byte that broke its head
 pub data Stopped (t : Tail) : Type 0 where
-  stopped : (a : ℕ) → read_header t.head ≡ Broken a → t.taken ≡ length t.head → length t.head ≡ broken_at a t.head → Stopped t
+  stopped : (f : Fault) → read_header t.head ≡ Err (Broken f) → t.taken ≡ length t.head → length t.head ≡ broken_at (fault_number f) t.head → Stopped t
 
 pub data Kept (t : Tail) : Type 0 where
   runs : Running t → Kept t
@@ -78,7 +80,7 @@ module _ (t : Tail) (g : good_tail t ≡ true) where
   pub good_kept : Kept t
   good_kept = go (read_header t.head) refl
     where
-      last : (x : Header) → read_header t.head ≡ Whole x → Dec (t.taken < x.head + x.body) → Kept t
+      last : (x : Header) → read_header t.head ≡ Ok x → Dec (t.taken < x.head + x.body) → Kept t
       last x e (yes d) =
           let k : length t.head ≡ min t.taken x.head = rw (← whole_end t.head x e) kept in
           let i : x.head ≤ length t.head = (whole_head t.head e).inside in
@@ -86,12 +88,12 @@ module _ (t : Tail) (g : good_tail t ≡ true) where
       last x e (no d) = absurd (false≢true (rw (e, le-ltb t.taken (x.head + x.body) (omega arith)) at fits))
 
       go : (r : Reading) → read_header t.head ≡ r → Kept t
-      go Short e = let l = short_end t.head e in runs (in_head e (omega (arith, kept)))
-      go (Broken a) e =
+      go (Err Short) e = let l = short_end t.head e in runs (in_head e (omega (arith, kept)))
+      go (Err (Broken f)) e =
           let b = broken_end t.head e in
-          let n : t.taken ≡ broken_at a t.head = eqb-true t.taken (broken_at a t.head) (rw e at fits) in
-          stops (stopped a e (omega (arith, kept)) (omega (arith, kept)))
-      go (Whole x) e = last x e (dec_lt t.taken (x.head + x.body))
+          let n : t.taken ≡ broken_at (fault_number f) t.head = eqb-true t.taken (broken_at (fault_number f) t.head) (rw e at fits) in
+          stops (stopped f e (omega (arith, kept)) (omega (arith, kept)))
+      go (Ok x) e = last x e (dec_lt t.taken (x.head + x.body))
 
 -- and back
 good_of : (t : Tail) → length t.head ≡ min t.taken (head_end t.head) → fitting (judge t) t.taken t.head ≡ true → good_tail t ≡ true

@@ -6,11 +6,12 @@ use native.Mathlib.Omega.{arith}
 use native.Mathlib.Nat.{sub-zero}
 use lib.ListN.{length, take, drop, length-drop}
 use Rattle.header.specs.declared.Header.{Header}
-use Rattle.header.specs.declared.Fixed.TheVariants as fixed
-use Rattle.header.specs.declared.Reading.{Reading}
-use Rattle.header.specs.declared.Reading.TheVariants as reading
-use Rattle.header.specs.Fixed.{fixed_part}
-use Rattle.header.specs.Header.{read_header}
+use Rattle.std.specs.Prelude.{Ok, Err}
+use Rattle.header.specs.declared.Fault.{Fault}
+use Rattle.header.specs.declared.Unread.{Unread}
+use Rattle.header.specs.declared.Unread.TheVariants as unread
+use Rattle.header.specs.Fixed.{fixed_part, measures}
+use Rattle.header.specs.Header.{Reading, read_header}
 use Rattle.header.proofs.Front.{fixed_append}
 use Rattle.header.proofs.Readings.{read_short}
 use Rattle.stream.specs.declared.Stream.{Stream}
@@ -38,15 +39,15 @@ module _ {region : List ℕ} {s : Stream} {piece : List ℕ} {used end message :
   end_length : length (take s.stored region) ≡ end
   end_length = started_length here.started ∙ a.kept
 
-  pub never_short : r ≡ reading.Short → {q : Advance} → Resumed region s piece used q region
-  never_short f =
+  pub never_short : {u : Unread} → r ≡ Err u → u ≡ unread.Short → {q : Advance} → Resumed region s piece used q region
+  never_short f g =
       absurd (not_short (take s.stored region) (omega (arith, started_length here.started, here.started.above)) here.sizes
-      (omega (arith, end_length)) (is_read ∙ f))
+      (omega (arith, end_length)) (is_read ∙ f ∙ ap (λ (v : Unread). Err v) g))
 
-  pub broken_end : {n : ℕ} → r ≡ reading.Broken n → Resumed region s piece used (record { stream = s; taken = used; event = Broken n }) region
-  broken_end f = broken_at_lem here.started (is_read ∙ f) (omega (arith, here.below, here.few))
+  pub broken_end : {u : Unread} {n : Fault} → r ≡ Err u → u ≡ unread.Broken n → Resumed region s piece used (record { stream = s; taken = used; event = Broken n }) region
+  broken_end f g = broken_at_lem here.started (is_read ∙ f ∙ ap (λ (v : Unread). Err v) g) (omega (arith, here.below, here.few))
 
-  module _ {x : Header} (f : r ≡ reading.Whole x) where
+  module _ {x : Header} (f : r ≡ Ok x) where
     is_lengths : (x.head ≡ end) × (x.head + x.body ≡ message)
     is_lengths = lengths (take s.stored region) x end message (is_read ∙ f) here.sizes
 
@@ -90,7 +91,7 @@ module _ {region : List ℕ} {s : Stream} {piece : List ℕ} {used end message :
         (stored_head k s.taken (take s.stored region) (drop used piece) end message (rw (length-drop used piece) (omega (arith, many_head)))
         (omega (arith, in_length, lent.above)) i.measured.sizes (omega (arith, in_length, many_head)))
 
-    after_sizes : fixed_part (take (s.stored + k) after) ≡ fixed.Sizes end message
+    after_sizes : fixed_part (take (s.stored + k) after) ≡ measures end message
     after_sizes =
         ap fixed_part (head_after region s.stored end piece used k after room_head w)
         ∙ fixed_append (take s.stored region) (take k (drop used piece)) (omega (arith, in_length, lent.above))
@@ -136,6 +137,6 @@ module _ {region : List ℕ} {s : Stream} {piece : List ℕ} {used end message :
       let l = in_length i in
       let w = in_body_of s.taken (take s.stored region) end message (omega (arith, l, i.measured.started.above)) i.measured.sizes
       (omega (arith, l, body_kept)) (i.running b.past) in
-      let r : reading.Whole w.0 ≡ read_header (take (end - 0) (drop 0 region)) = sym w.1
+      let r : Ok w.0 ≡ read_header (take (end - 0) (drop 0 region)) = sym w.1
       ∙ ap (λ (n : ℕ). read_header (take n region)) (body_kept ∙ sym (sub-zero end)) in
       more_end end_body r refl h g

@@ -9,9 +9,11 @@ use lib.ListN.{length, take, drop, length-append, length-take}
 use lib.Seq.{take_all}
 use borrow.Author.Tests.{lt-ltb, le-ltb}
 use Rattle.header.specs.declared.Header.{Header}
-use Rattle.header.specs.declared.Fixed.TheVariants as fixed
-use Rattle.header.specs.declared.Reading.TheVariants.{Short, Broken, Whole}
-use Rattle.header.specs.Fixed.{fixed_length, fixed_part}
+use Rattle.std.specs.Prelude.{Ok, Err}
+use Rattle.header.specs.declared.Fault.{Fault}
+use Rattle.header.specs.Faults.{fault_number}
+use Rattle.header.specs.declared.Unread.TheVariants.{Short, Broken}
+use Rattle.header.specs.Fixed.{fixed_length, fixed_part, measures}
 use Rattle.header.specs.Header.{read_header}
 use Rattle.header.proofs.Front.{fixed_append}
 use Rattle.header.proofs.Readings.{read_few, read_short}
@@ -39,13 +41,13 @@ pub bump_none : (o : Offer Tail) → o ≡ bump_by 0 o
 bump_none o = let e = sym (zero-add o.taken) in λ i. record { verdict = o.verdict; taken = e i; stream = o.stream }
 
 -- k bytes are stored, none of which but the last completes the head or its fixed part
-pub stored_bytes : (k n : ℕ) (h p : List ℕ) → k ≤ length p → ((j : ℕ) → j < k → read_header (h ++ take j p) ≡ Short)
+pub stored_bytes : (k n : ℕ) (h p : List ℕ) → k ≤ length p → ((j : ℕ) → j < k → read_header (h ++ take j p) ≡ Err Short)
     → continued (tail n h) p ≡ bump_by k (continued (tail (n + k) (h ++ take k p)) (drop k p))
 stored_bytes zero n h p l s = rw (add-zero n, append-nil {A = ℕ} h) (bump_none (continued (tail n h) p))
 stored_bytes (suc k) n h [] l s = absurd (omega arith)
 stored_bytes (suc k) n h (b ∷ p) l s =
     let e : n + 1 + k ≡ n + suc k = omega arith in
-    let z : read_header h ≡ Short = rw (append-nil {A = ℕ} h) at (s 0 (omega arith)) in
+    let z : read_header h ≡ Err Short = rw (append-nil {A = ℕ} h) at (s 0 (omega arith)) in
     continued_step (tail n h) b p (rw z)
     ∙ ap (λ (t : Tail). bump (continued t p)) (push_head (tail n h) b z)
     ∙ ap bump (stored_bytes k (n + 1) (h ++ (b ∷ [])) p (omega arith) (λ j i. ap read_header (append_assoc h (b ∷ []) (take j p)) ∙ s (suc j) (omega arith)))
@@ -59,7 +61,7 @@ stored_fixed k n h p l m =
     stored_bytes k n h p l (λ j i. read_few (h ++ take j p) (omega (arith, length-append h (take j p), length-take j p)))
 
 -- the rest of the head: up to the length that the fixed part says
-pub stored_head : (k n : ℕ) (h p : List ℕ) (hd m : ℕ) → k ≤ length p → fixed_length ≤ length h → fixed_part h ≡ fixed.Sizes hd m → length h + k ≤ hd
+pub stored_head : (k n : ℕ) (h p : List ℕ) (hd m : ℕ) → k ≤ length p → fixed_length ≤ length h → fixed_part h ≡ measures hd m → length h + k ≤ hd
     → continued (tail n h) p ≡ bump_by k (continued (tail (n + k) (h ++ take k p)) (drop k p))
 stored_head k n h p hd m l a f e =
     stored_bytes k n h p l
@@ -68,7 +70,7 @@ stored_head k n h p hd m l a f e =
     read_short (h ++ take j p) (omega arith) (fixed_append h (take j p) a ∙ f) (omega arith))
 
 -- the body: its bytes are counted
-module _ (h : List ℕ) (x : Header) (e : read_header h ≡ Whole x) (l : length h ≡ x.head) where
+module _ (h : List ℕ) (x : Header) (e : read_header h ≡ Ok x) (l : length h ≡ x.head) where
   judge_open : (n : ℕ) → n < x.head + x.body → judge (tail n h) ≡ more
   judge_open n k = rw (e, lt-ltb n (x.head + x.body) k)
 
@@ -108,10 +110,10 @@ module _ (h : List ℕ) (x : Header) (e : read_header h ≡ Whole x) (l : length
           ∙ (λ i. record { verdict = whole h x; taken = p i; stream = tail (x.head + x.body) h })
       go (no d) f = continued_whole n (b ∷ q) (omega arith)
 
-pub continued_broken : (n : ℕ) (h q : List ℕ) (a : ℕ) → read_header h ≡ Broken a
-    → continued (tail n h) q ≡ record { verdict = broken a; taken = 0; stream = tail n h }
+pub continued_broken : (n : ℕ) (h q : List ℕ) (f : Fault) → read_header h ≡ Err (Broken f)
+    → continued (tail n h) q ≡ record { verdict = broken (fault_number f); taken = 0; stream = tail n h }
 unfolding continued
-continued_broken n h q a e = rw e
+continued_broken n h q f e = rw e
 
-pub continued_short : (n : ℕ) (h : List ℕ) → read_header h ≡ Short → continued (tail n h) [] ≡ record { verdict = more; taken = 0; stream = tail n h }
+pub continued_short : (n : ℕ) (h : List ℕ) → read_header h ≡ Err Short → continued (tail n h) [] ≡ record { verdict = more; taken = 0; stream = tail n h }
 continued_short n h e = continued_more (tail n h) [] (rw e) ∙ offer_none tails (tail n h)

@@ -11,12 +11,14 @@ use lib.Seq.{length-take-le}
 use borrow.Author.Tests.{lt-ltb, eq-eqb, ne_eqb, le-leb, lt-leb, eqb-true}
 use Rattle.wire.proofs.Texts.{impossible, agree}
 use Rattle.header.specs.declared.Header.{Header}
-use Rattle.header.specs.declared.Fixed.{Fixed}
-use Rattle.header.specs.declared.Fixed.TheVariants as fixed
-use Rattle.header.specs.declared.Reading.{Reading}
-use Rattle.header.specs.declared.Reading.TheVariants.{Short, Broken, Whole}
-use Rattle.header.specs.Fixed.{fixed_length, head_length, fixed_part}
-use Rattle.header.specs.Header.{read_header}
+use Rattle.std.specs.Prelude.{Ok, Err}
+use Rattle.header.specs.declared.Fault.{Fault}
+use Rattle.header.specs.Faults.{fault_number}
+use Rattle.header.specs.declared.Sizes.{Sizes}
+use Rattle.header.specs.declared.Unread.{Unread}
+use Rattle.header.specs.declared.Unread.TheVariants.{Short, Broken}
+use Rattle.header.specs.Fixed.{fixed_length, head_length, Fixed, measures, fixed_part}
+use Rattle.header.specs.Header.{Reading, read_header}
 use Rattle.header.proofs.Front.{head_low, fixed_number}
 use Rattle.header.proofs.Readings.{read_few, read_broken, read_short}
 use Rattle.stream.specs.Stream.{more, whole}
@@ -51,7 +53,7 @@ module _ (region : List ℕ) (s : Stream) (i : s.stored ≤ length region) where
   not_good end e n = sym (good_is end (fitting (judge (tail_in region s)) s.taken (kept region s)) e refl ∙ rw (ne_eqb s.stored (min s.taken end) n))
 
   -- in the head every byte is kept
-  unread : (end : ℕ) → head_end (kept region s) ≡ end → read_header (kept region s) ≡ Short → s.stored < end
+  unread : (end : ℕ) → head_end (kept region s) ≡ end → read_header (kept region s) ≡ Err Short → s.stored < end
       → eqb s.taken s.stored ≡ good_tail (tail_in region s)
   unread end e q l =
       agree (eqb s.taken s.stored) (eqb s.stored (min s.taken end)) (omega (arith, eqb-true, eq-eqb)) (omega (arith, eqb-true, eq-eqb))
@@ -71,17 +73,20 @@ module _ (region : List ℕ) (s : Stream) (i : s.stored ≤ length region) where
       is_fixed : fixed_part (kept region s) ≡ f
       is_fixed = sym (rw sub-zero at e)
 
-      pub good_fault : {n : ℕ} → f ≡ fixed.Broken n → (eqb s.taken fixed_length && eqb s.stored fixed_length) ≡ good_tail (tail_in region s)
+      pub good_fault : {n : Fault} → f ≡ Err n → (eqb s.taken fixed_length && eqb s.stored fixed_length) ≡ good_tail (tail_in region s)
       good_fault {n} q =
           let h : fixed_length ≤ head_length (kept region s) = head_low (kept region s) in
-          let r : read_header (kept region s) ≡ Broken n = read_broken (kept region s) is_above (is_fixed ∙ q) in
+          let r : read_header (kept region s) ≡ Err (Broken n) = read_broken (kept region s) is_above (is_fixed ∙ q) in
           let l = head_length (kept region s) in
           and_same (eqb s.taken fixed_length) (eqb s.stored fixed_length) (eqb s.stored (min s.taken l))
           (λ p. agree (eqb s.stored fixed_length) (eqb s.stored (min s.taken l)) (omega (arith, eqb-true, eq-eqb)) (omega (arith, eqb-true, eq-eqb)))
           ∙ and_comm (eqb s.taken fixed_length) (eqb s.stored (min s.taken l))
-          ∙ sym (good_is l (eqb s.taken fixed_length) (end_is (kept region s) is_above) (rw (r, le-leb n 6 (fixed_number (kept region s) (is_fixed ∙ q)).1)))
+          ∙ sym (good_is l (eqb s.taken fixed_length) (end_is (kept region s) is_above) (rw (r, le-leb (fault_number n) 6 (fixed_number (kept region s) (is_fixed ∙ q)).1)))
 
-      module _ {end message : ℕ} (q : f ≡ fixed.Sizes end message) where
+      module _ {x : Sizes} (q : f ≡ Ok x) where
+        abbrev end : ℕ
+        end = x.head
+
         is_end : head_end (kept region s) ≡ end
         is_end = sized_end (kept region s) is_above (sized (kept region s) (is_fixed ∙ q))
 
@@ -95,10 +100,10 @@ module _ (region : List ℕ) (s : Stream) (i : s.stored ≤ length region) where
           pub good_below : s.taken < end → false ≡ good_tail (tail_in region s)
           good_below n = not_good end is_end (λ p. omega arith)
 
-          pub good_whole : end ≤ s.taken → WholeTail region s message
+          pub good_whole : end ≤ s.taken → WholeTail region s x.message
           good_whole n =
               let z : end ≡ s.stored = omega arith in
-              record { inside = i; above = a; sizes = is_fixed ∙ q ∙ ap (λ (k : ℕ). fixed.Sizes k message) z; reached = omega arith }
+              record { inside = i; above = a; sizes = is_fixed ∙ q ∙ ap (λ (k : ℕ). measures k x.message) z; reached = omega arith }
 
 -- ---- a whole head
 
@@ -122,15 +127,16 @@ module _ {region : List ℕ} {s : Stream} {message : ℕ} (w : WholeTail region 
       sym (good_is region s w.inside s.stored b (sized_end (kept region s) whole_above whole_sized) f
       ∙ rw (eq-eqb s.stored (min s.taken s.stored) (omega (arith, w.reached))))
 
-  pub whole_short : r ≡ Short → false ≡ good_tail (tail_in region s)
-  whole_short q = absurd (not_short (kept region s) whole_above w.sizes (omega (arith, whole_length)) (whole_read ∙ q))
+  pub whole_short : {u : Unread} → r ≡ Err u → u ≡ Short → false ≡ good_tail (tail_in region s)
+  whole_short q g = absurd (not_short (kept region s) whole_above w.sizes (omega (arith, whole_length)) (whole_read ∙ q ∙ ap (λ (v : Unread). Err v) g))
 
-  pub whole_broken : {n : ℕ} → r ≡ Broken n → eqb s.taken s.stored ≡ good_tail (tail_in region s)
-  whole_broken {n} q =
-      let v : 6 < n = late_fault (kept region s) whole_above w.sizes (omega (arith, whole_length)) (whole_read ∙ q) in
-      whole_good (eqb s.taken s.stored) (rw (whole_read ∙ q, lt-leb n 6 v, ← whole_sized.is_head))
+  pub whole_broken : {u : Unread} {n : Fault} → r ≡ Err u → u ≡ Broken n → eqb s.taken s.stored ≡ good_tail (tail_in region s)
+  whole_broken {u} {n} q g =
+      let b : read_header (kept region s) ≡ Err (Broken n) = whole_read ∙ q ∙ ap (λ (v : Unread). Err v) g in
+      let v : 6 < fault_number n = late_fault (kept region s) whole_above w.sizes (omega (arith, whole_length)) b in
+      whole_good (eqb s.taken s.stored) (rw (b, lt-leb (fault_number n) 6 v, ← whole_sized.is_head))
 
-  pub whole_body : {x : Header} → r ≡ Whole x → ltb s.taken message ≡ good_tail (tail_in region s)
+  pub whole_body : {x : Header} → r ≡ Ok x → ltb s.taken message ≡ good_tail (tail_in region s)
   whole_body {x} q =
       whole_good (ltb s.taken message)
       (rw (whole_read ∙ q, (lengths (kept region s) x s.stored message (whole_read ∙ q) w.sizes).1) (either (ltb s.taken message)))
@@ -146,7 +152,7 @@ module _ {region : List ℕ} {s : Stream} (g : GoodTail region s) where
   closed_length = is_length region s g.inside
 
   -- a stream is open unless its head is broken by its last byte
-  open_unless : ((a : ℕ) → read_header (kept region s) ≡ Broken a → s.taken ≡ s.stored → ⊥) → false ≡ closed (tail_in region s)
+  open_unless : ((f : Fault) → read_header (kept region s) ≡ Err (Broken f) → s.taken ≡ s.stored → ⊥) → false ≡ closed (tail_in region s)
   open_unless h = go (good_kept (tail_in region s) g.good)
     where
       go : Kept (tail_in region s) → false ≡ closed (tail_in region s)
@@ -163,11 +169,11 @@ module _ {region : List ℕ} {s : Stream} (g : GoodTail region s) where
     closed_read : read_header (kept region s) ≡ r
     closed_read = sym (rw sub-zero at e)
 
-    pub closed_short : r ≡ Short → false ≡ closed (tail_in region s)
-    closed_short q = sym (rw (closed_read ∙ q))
+    pub closed_short : {u : Unread} → r ≡ Err u → u ≡ Short → false ≡ closed (tail_in region s)
+    closed_short q g = sym (rw (closed_read ∙ q ∙ ap (λ (v : Unread). Err v) g))
 
-    pub closed_broken : {n : ℕ} → r ≡ Broken n → true ≡ closed (tail_in region s)
-    closed_broken q = sym (rw (closed_read ∙ q))
+    pub closed_broken : {u : Unread} {n : Fault} → r ≡ Err u → u ≡ Broken n → true ≡ closed (tail_in region s)
+    closed_broken q g = sym (rw (closed_read ∙ q ∙ ap (λ (v : Unread). Err v) g))
 
-    pub closed_whole : {x : Header} → r ≡ Whole x → false ≡ closed (tail_in region s)
+    pub closed_whole : {x : Header} → r ≡ Ok x → false ≡ closed (tail_in region s)
     closed_whole q = open_unless (λ a f n. impossible (cc closed_read))

@@ -7,6 +7,7 @@ use Rattle.stream.specs.declared.Event.TheVariants.{More, Broken, Whole}
 use Rattle.stream.specs.declared.Advance.{Advance}
 use Rattle.stream.specs.Stream.{Verdict, more, broken, whole, verdict_answer, Offer, offer}
 use Rattle.stream.specs.Tail.{Tail, judge, tails, good_tail}
+use Rattle.header.specs.Faults.{fault_number}
 use Rattle.header.specs.Fixed.{head_limit, message_limit}
 
 -- the stream of which `taken` bytes were taken, and whose head is the first `stored` bytes of a region
@@ -24,13 +25,13 @@ pub record GoodTail (region : List ℕ) (s : Stream) : Type 0 where
 -- the verdict that an event is, with the head in a region
 abbrev pub verdict_of : List ℕ → Event → Verdict
 verdict_of region More = more
-verdict_of region (Broken a) = broken a
+verdict_of region (Broken f) = broken (fault_number f)
 verdict_of region (Whole x) = whole (take x.head region) x
 
 -- the answer number of each case: a whole message is judged next, and 0 says no more than that (rule 9.1)
 abbrev pub event_answer : Event → ℕ
 event_answer More = 10
-event_answer (Broken a) = a
+event_answer (Broken f) = fault_number f
 event_answer (Whole x) = 0
 
 -- a good open stream; the region is zero behind its head

@@ -1,8 +1,7 @@
 -- What the functions on a stream require and ensure among themselves.
 use Rattle.std.specs.Prelude.{List, ◌++◌, ◌≡◌, ℕ, ◌+◌, ◌-◌, ◌≤◌, ◌<◌, min, length, take, drop}
 use Rattle.wire.specs.Bytes.{pad}
-use Rattle.header.specs.declared.Fixed.TheVariants.{Sizes}
-use Rattle.header.specs.Fixed.{fixed_length, head_limit, message_limit, head_length, fixed_part}
+use Rattle.header.specs.Fixed.{fixed_length, head_limit, message_limit, head_length, fixed_part, measures}
 use Rattle.stream.specs.declared.Stream.{Stream}
 use Rattle.stream.specs.declared.Event.TheVariants.{More}
 use Rattle.stream.specs.declared.Advance.{Advance}
@@ -48,7 +47,7 @@ pub record Begun (region : List ℕ) (s : Stream) (piece : List ℕ) (used : ℕ
 -- the lengths that the fixed part says
 pub record Measured (region : List ℕ) (s : Stream) (piece : List ℕ) (used head message : ℕ) : Type 0 where
   pub started : Started region s piece used
-  pub sizes : fixed_part (take s.stored region) ≡ Sizes head message
+  pub sizes : fixed_part (take s.stored region) ≡ measures head message
   pub small : head ≤ head_limit
   pub below : s.taken ≤ message
   pub few : message ≤ message_limit
@@ -94,5 +93,5 @@ pub record Stored (region : List ℕ) (stored limit : ℕ) (piece : List ℕ) (u
 pub record WholeTail (region : List ℕ) (s : Stream) (message : ℕ) : Type 0 where
   pub inside : s.stored ≤ length region
   pub above : fixed_length ≤ s.stored
-  pub sizes : fixed_part (take s.stored region) ≡ Sizes s.stored message
+  pub sizes : fixed_part (take s.stored region) ≡ measures s.stored message
   pub reached : s.stored ≤ s.taken

@@ -1,9 +1,9 @@
 -- The guard's streams: of the unfinished or broken message, how many bytes were taken and those of them that are its head (rule 9.4).
-use Rattle.std.specs.Prelude.{Bool, true, false, cond, ◌&&◌, List, [], ◌∷◌, ◌++◌, ℕ, ◌+◌, min, length, take, ltb, leb, eqb}
+use Rattle.std.specs.Prelude.{Bool, true, false, cond, ◌&&◌, List, [], ◌∷◌, ◌++◌, ℕ, ◌+◌, min, length, take, ltb, leb, eqb, Ok, Err}
 use Rattle.header.specs.Fixed.{fixed_length, head_length}
-use Rattle.header.specs.Header.{read_header}
-use Rattle.header.specs.declared.Reading.{Reading}
-use Rattle.header.specs.declared.Reading.TheVariants.{Short, Broken, Whole}
+use Rattle.header.specs.Faults.{fault_number}
+use Rattle.header.specs.Header.{Reading, read_header}
+use Rattle.header.specs.declared.Unread.TheVariants.{Short, Broken}
 use Rattle.stream.specs.Stream.{Verdict, more, broken, whole, Streams}
 
 pub record Tail : Type 0 where
@@ -12,9 +12,9 @@ pub record Tail : Type 0 where
 
 -- a message whose head is h and of which n bytes have come: whole once they are as many as its head and its body
 abbrev pub finished : ℕ → List ℕ → Reading → Verdict
-finished n h Short = more
-finished n h (Broken a) = broken a
-finished n h (Whole x) = cond (ltb n (x.head + x.body)) more (whole (take x.head h) x)
+finished n h (Err Short) = more
+finished n h (Err (Broken f)) = broken (fault_number f)
+finished n h (Ok x) = cond (ltb n (x.head + x.body)) more (whole (take x.head h) x)
 
 -- the verdict on a message of which n bytes have come, among them h, its first: all of them, or its whole head and perhaps more
 abbrev pub verdict : ℕ → List ℕ → Verdict

@@ -7,7 +7,7 @@ ghost use Rattle.stream.specs.Tail.{good_tail, closed};
 ghost use Rattle.stream.specs.Promises.{tail_in, GoodTail, Open, Advanced};
 ghost use Rattle.stream.specs.Steps.{WholeTail, Resumed, Room, Stored, Begun, InHead, InBody, AtEnd, all_taken};
 
-use header::{FIXED_LENGTH, Fixed, Header, Reading};
+use header::{FIXED_LENGTH, Fault, Header, Unread};
 
 // Bytes taken of the unfinished message, and how many of them are its head's.
 #[derive(Clone, Copy)]
@@ -16,11 +16,11 @@ pub struct Stream {
     pub stored: usize,
 }
 
-// What a piece comes to: its message is unfinished, its head is broken with that answer number, or it is whole.
+// What a piece comes to: its message is unfinished, its head is broken by that fault, or it is whole.
 #[derive(Clone, Copy)]
 pub enum Event {
     More,
-    Broken(u8),
+    Broken(Fault),
     Whole(Header),
 }
 
@@ -76,12 +76,12 @@ impl Stream {
     {
         let stored = self.stored;
         match reader::fixed_part(&head[0..stored]) {
-            Fixed::Broken(answer) => Advance {
+            Err(fault) => Advance {
                 stream: self,
                 taken: used,
-                event: Event::Broken(answer),
+                event: Event::Broken(fault),
             },
-            Fixed::Sizes(end, message) => self.in_head(head, piece, used, end, message),
+            Ok(sizes) => self.in_head(head, piece, used, sizes.head, sizes.message),
         }
     }
 
@@ -142,12 +142,12 @@ impl Stream {
         ensures { Resumed head.now self piece.now used result head.now }
     {
         match reader::read(&head[0..end]) {
-            Reading::Broken(answer) => Advance {
+            Err(Unread::Broken(fault)) => Advance {
                 stream: self,
                 taken: used,
-                event: Event::Broken(answer),
+                event: Event::Broken(fault),
             },
-            Reading::Whole(x) => {
+            Ok(x) => {
                 let got = self.taken + (piece.len() - used);
                 if message <= got {
                     return Advance {
@@ -162,7 +162,7 @@ impl Stream {
                 self.take_all(piece, used, end)
             }
             // Never: all of the head is there.
-            Reading::Short => self.take_all(piece, used, end),
+            Err(Unread::Short) => self.take_all(piece, used, end),
         }
     }
 
@@ -191,8 +191,9 @@ impl Stream {
             return self.taken == stored;
         }
         match reader::fixed_part(&head[0..stored]) {
-            Fixed::Broken(_) => (self.taken == FIXED_LENGTH) & (stored == FIXED_LENGTH),
-            Fixed::Sizes(end, message) => {
+            Err(_) => (self.taken == FIXED_LENGTH) & (stored == FIXED_LENGTH),
+            Ok(sizes) => {
+                let end = sizes.head;
                 if stored < end {
                     return self.taken == stored;
                 }
@@ -202,7 +203,7 @@ impl Stream {
                 if self.taken < end {
                     return false;
                 }
-                self.is_good_whole(head, message)
+                self.is_good_whole(head, sizes.message)
             }
         }
     }
@@ -215,9 +216,9 @@ impl Stream {
         let stored = self.stored;
         match reader::read(&head[0..stored]) {
             // Never: all of the head is there.
-            Reading::Short => false,
-            Reading::Broken(_) => self.taken == stored,
-            Reading::Whole(_) => self.taken < message,
+            Err(Unread::Short) => false,
+            Err(Unread::Broken(_)) => self.taken == stored,
+            Ok(_) => self.taken < message,
         }
     }
 
@@ -234,9 +235,9 @@ impl Stream {
             return false;
         }
         match reader::read(&head[0..stored]) {
-            Reading::Short => false,
-            Reading::Broken(_) => true,
-            Reading::Whole(_) => false,
+            Err(Unread::Short) => false,
+            Err(Unread::Broken(_)) => true,
+            Ok(_) => false,
         }
     }
 }

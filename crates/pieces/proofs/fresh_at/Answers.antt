@@ -5,9 +5,6 @@ use Rattle.pieces.proofs.fresh_at.Goals as goal
 pub piece_at-requires : goal.piece_at-requires
 piece_at-requires c = search once
 
-pub piece_at-requires-in-Broken : goal.piece_at-requires-in-Broken
-piece_at-requires-in-Broken c = search once
-
 pub length_of-taken-requires : goal.length_of-taken-requires
 length_of-taken-requires c = search once
 

@@ -1,5 +1,6 @@
 -- `reader::read` meets its contract.
 use Rattle.reader.proofs.Whole.{bytes}
+use Rattle.std.proofs.lemmas.Result.{err_from_is_err_and}
 use Rattle.reader.proofs.read.Goals as goal
 
 pub returns-then-bytes-lt-FIXED_LENGTH : goal.returns-then-bytes-lt-FIXED_LENGTH
@@ -7,12 +8,6 @@ returns-then-bytes-lt-FIXED_LENGTH c = search bytes
 
 pub fixed_part-requires : goal.fixed_part-requires
 fixed_part-requires c = search bytes
-
-pub enum_known-n : goal.enum_known-n
-enum_known-n c = search bytes
-
-pub enum_known-head : goal.enum_known-head
-enum_known-head c = search bytes
 
 pub returns-then-bytes-head : goal.returns-then-bytes-head
 returns-then-bytes-head c = search bytes
@@ -29,8 +24,8 @@ slice_bounds-read_head-end c = search bytes
 pub read_head-requires : goal.read_head-requires
 read_head-requires c = search bytes
 
-pub returns-in-Broken : goal.returns-in-Broken
-returns-in-Broken c = search bytes
+pub returns-in_err-head : goal.returns-in_err-head
+returns-in_err-head c = let p = err_from_is_err_and c.from_residual.result c.from_residual.ensures.1 in rw (p.1, p.2) (search bytes)
 
-pub returns-else-bytes-head : goal.returns-else-bytes-head
-returns-else-bytes-head c = search bytes
+pub returns : goal.returns
+returns c = search bytes

@@ -8,5 +8,5 @@ fixed_part-requires c = search long_fixed
 pub in_head-requires : goal.in_head-requires
 in_head-requires c = search sizes_fixed
 
-pub returns-in-Broken : goal.returns-in-Broken
-returns-in-Broken c = search broken_fixed
+pub returns-in-Err : goal.returns-in-Err
+returns-in-Err c = search broken_fixed

@@ -8,11 +8,11 @@ returns-then-stored-lt-FIXED_LENGTH c = search closed_few
 pub returns-then-stored-self : goal.returns-then-stored-self
 returns-then-stored-self c = search closed_body
 
-pub returns-in-Short : goal.returns-in-Short
-returns-in-Short c = search closed_short
+pub returns-in-Err-Short : goal.returns-in-Err-Short
+returns-in-Err-Short c = search closed_short
 
-pub returns-in-Broken : goal.returns-in-Broken
-returns-in-Broken c = search closed_broken
+pub returns-in-Err-Broken : goal.returns-in-Err-Broken
+returns-in-Err-Broken c = search closed_broken
 
-pub returns-in-Whole : goal.returns-in-Whole
-returns-in-Whole c = search closed_whole
+pub returns-in-Ok : goal.returns-in-Ok
+returns-in-Ok c = search closed_whole

@@ -20,5 +20,5 @@ returns-then-self-end c = search good_below
 pub is_good_whole-requires : goal.is_good_whole-requires
 is_good_whole-requires c = search good_whole
 
-pub returns-in-Broken : goal.returns-in-Broken
-returns-in-Broken c = search good_fault
+pub returns-in-Err : goal.returns-in-Err
+returns-in-Err c = search good_fault
