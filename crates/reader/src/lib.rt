@@ -123,7 +123,7 @@ fn value_at(
         if end <= at {
             return None;
         }
-        return text_in(head, end, code, at + 1, wire::wide(head[at]) as usize);
+        return text_in(head, end, code, at + 1, usize::from(head[at]));
     }
     if end < at + 4 {
         return None;
@@ -146,7 +146,7 @@ fn is_framed(head: &[u8], at: usize) -> bool
     requires { (get_or head.now at 0 < code_limit) × (at + 4 ≤ length head.now) }
     ensures { result ≡ framed head.now at }
 {
-    let letter = letter_of(wire::wide(head[at]) as usize);
+    let letter = letter_of(usize::from(head[at]));
     !(letter == 0) & (head[at + 1] == 1) & (head[at + 2] == letter) & (head[at + 3] == 0)
 }
 
@@ -161,7 +161,7 @@ fn known_at(order: Order, head: &[u8], end: usize, at: usize) -> Option<Element>
     if !is_framed(head, at) {
         return None;
     }
-    let code = wire::wide(head[at]) as usize;
+    let code = usize::from(head[at]);
     value_at(order, head, end, code, letter_of(code), at + 4)
 }
 
@@ -187,7 +187,7 @@ fn element_at(order: Order, head: &[u8], end: usize, from: usize) -> Option<Elem
     if !wire::is_zero(head, from, at) {
         return None;
     }
-    let code = wire::wide(head[at]) as usize;
+    let code = usize::from(head[at]);
     if code < CODE_LIMIT {
         return known_at(order, head, end, at);
     }

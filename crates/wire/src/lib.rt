@@ -1,9 +1,9 @@
 // Numbers in bytes, in either byte order; alignment; runs of zeros; equal ranges. Every other crate stands on this one.
 #![tactic(auto)]
 
-ghost use Rattle.std.specs.Prelude.{◌≡◌, ◌++◌, ◌+◌, ◌-◌, ◌*◌, ◌≤◌, ◌<◌, min, length, take, drop, replicate};
+ghost use Rattle.std.specs.Prelude.{◌≡◌, ◌++◌, ◌+◌, ◌-◌, ◌*◌, ◌≤◌, ◌<◌, length, take, drop, replicate};
 ghost use Rattle.wire.specs.Bytes.{front, all_zero, same};
-ghost use Rattle.wire.specs.Words.{joined, word_at, long_at, word_bytes, long_bytes, round_up_8};
+ghost use Rattle.wire.specs.Words.{word_at, long_at, word_bytes, long_bytes, round_up_8};
 
 // The byte order of a message: its first byte says which.
 #[derive(Clone, Copy)]
@@ -12,32 +12,11 @@ pub enum Order {
     Big,
 }
 
-// A byte as a wider number: the bound spares each caller the element's own.
-pub fn wide(x: u8) -> u32
-    ensures { (result ≡ x) × (result < 256) }
-{
-    x as u32
-}
-
 // The byte at i, 0 past the end.
 pub fn peek(s: &[u8], i: usize) -> u8
     ensures { result ≡ front (drop i s.now) }
 {
     if i < s.len() { s[i] } else { 0 }
-}
-
-// The smaller of two numbers.
-pub fn least(a: usize, b: usize) -> usize
-    ensures { result ≡ min a b }
-{
-    a.min(b)
-}
-
-// Four bytes as a number, the lowest first.
-pub fn join(a: u8, b: u8, c: u8, d: u8) -> u32
-    ensures { (result ≡ joined a b c d) × (result < 4294967296) }
-{
-    u32::from_le_bytes([a, b, c, d])
 }
 
 // The number in the four bytes at `at`, in the given byte order.

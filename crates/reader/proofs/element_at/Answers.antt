@@ -17,12 +17,6 @@ returns-then-not-is_zero c = search elements
 pub bounds-head-at : goal.bounds-head-at
 bounds-head-at c = search elements
 
-pub wide-code-requires : goal.wide-code-requires
-wide-code-requires c = search elements
-
-pub overflow_cast-code : goal.overflow_cast-code
-overflow_cast-code c = search elements
-
 pub known_at-requires : goal.known_at-requires
 known_at-requires c = search elements
 
