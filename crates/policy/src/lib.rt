@@ -37,10 +37,7 @@ pub const SEND: u8 = 0;
 pub const RECEIVE: u8 = 1;
 
 // The bus's own name.
-const BUS_NAME: [u8; 20] = [
-    b'o', b'r', b'g', b'.', b'f', b'r', b'e', b'e', b'd', b'e', b's', b'k', b't', b'o', b'p', b'.',
-    b'D', b'B', b'u', b's',
-];
+const BUS_NAME: [u8; 20] = *b"org.freedesktop.DBus";
 
 // The name is the bus's.
 pub fn is_bus(name: &[u8]) -> bool
@@ -57,6 +54,6 @@ pub fn bus_cell() -> [u8; NAME_WIDTH]
     let bus = BUS_NAME;
     let mut cell = [0u8; NAME_WIDTH];
     cell[0] = 20;
-    wire::copy(&mut cell[1..21], &bus);
+    cell[1..21].copy_from_slice(&bus);
     cell
 }
