@@ -1,7 +1,7 @@
 // Numbers in bytes, in either byte order; alignment; runs of zeros; equal ranges. Every other crate stands on this one.
 #![tactic(auto)]
 
-ghost use Rattle.std.specs.Prelude.{◌≡◌, ◌++◌, ◌+◌, ◌-◌, ◌*◌, ◌≤◌, ◌<◌, length, take, drop, replicate};
+ghost use Rattle.std.specs.Prelude.{◌≡◌, ◌++◌, ◌+◌, ◌-◌, ◌*◌, ◌≤◌, ◌<◌, length, take, drop};
 ghost use Rattle.wire.specs.Bytes.{front, all_zero, same};
 ghost use Rattle.wire.specs.Words.{word_at, long_at, word_bytes, long_bytes, round_up_8};
 
@@ -186,19 +186,4 @@ pub fn equal(a: &[u8], b: &[u8]) -> bool
         return equal_short(a, b);
     }
     equal_words(a, b)
-}
-
-// Copies src over dst, which is as long.
-pub fn copy(dst: &mut [u8], src: &[u8])
-    requires { length dst.old ≡ length src.now }
-    ensures { dst.new ≡ src.now }
-{
-    dst.copy_from_slice(src);
-}
-
-// Writes zeros over all of s.
-pub fn wipe(s: &mut [u8])
-    ensures { s.new ≡ replicate (length s.old) 0 }
-{
-    s.fill(0);
 }
