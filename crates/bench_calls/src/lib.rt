@@ -18,19 +18,14 @@ use policy::{Decider, Decision, Uid};
 
 // The form of a number: 0 interface, 1 well-known, 2 unique, 3 either name of a bus, 4 member, else path.
 fn form_of(n: u8) -> Form {
-    if n == 0 {
-        return Form::Interface;
+    match n {
+        0 => Form::Interface,
+        1 => Form::WellKnown,
+        2 => Form::Unique,
+        3 => Form::BusName,
+        4 => Form::Member,
+        _ => Form::Path,
     }
-    if n == 1 {
-        return Form::WellKnown;
-    }
-    if n == 2 {
-        return Form::Unique;
-    }
-    if n == 3 {
-        return Form::BusName;
-    }
-    if n == 4 { Form::Member } else { Form::Path }
 }
 
 #[unsafe(no_mangle)]
@@ -141,12 +136,9 @@ pub extern "C" fn bench_decide(
     head: &[u8],
     places: &[u32; 6],
 ) -> u64 {
-    match image::check(image) {
-        Outcome::Good => {
-            let header = message(kind, places, head);
-            let uid = Uid(uid);
-            decision_number(decide::transact(image, direction, uid, gids, names, head, header))
-        }
-        Outcome::Bad => 1,
-    }
+    let Outcome::Good = image::check(image) else {
+        return 1;
+    };
+    let header = message(kind, places, head);
+    decision_number(decide::transact(image, direction, Uid(uid), gids, names, head, header))
 }
