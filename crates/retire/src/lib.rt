@@ -107,9 +107,9 @@ fn gather(image: &[u8], list: &[u8], starts: &mut [usize]) -> Gathered
         rules += more;
         if MOST < rules {
             return Gathered {
-                names: names,
-                bytes: bytes,
-                rules: rules,
+                names,
+                bytes,
+                rules,
             };
         }
         if 0 < more {
@@ -119,9 +119,9 @@ fn gather(image: &[u8], list: &[u8], starts: &mut [usize]) -> Gathered
         }
     }
     Gathered {
-        names: names,
-        bytes: bytes,
-        rules: rules,
+        names,
+        bytes,
+        rules,
     }
 }
 
@@ -130,10 +130,7 @@ fn gather(image: &[u8], list: &[u8], starts: &mut [usize]) -> Gathered
 fn refused(answer: u8) -> Retired
     ensures { result ≡ record { answer = answer; length = 0 } }
 {
-    Retired {
-        answer: answer,
-        length: 0,
-    }
+    Retired { answer, length: 0 }
 }
 
 // Converts a good image, with a good list: 53 where the result would be too large, else it is written into the room.
