@@ -50,10 +50,8 @@ fn covering(image: &[u8], name: &[u8]) -> usize
     let from = word(image, OWN_OFFSET);
     let count = word(image, OWN_COUNT);
     let mut found = 0;
-    let mut i = 0;
-    while i < count {
+    for i in 0..count {
         let at = from + OWN_SIZE * i;
-        i += 1;
         if covers(image, strings, at, name) {
             found += 1;
         }
@@ -69,10 +67,8 @@ fn kept(image: &[u8]) -> usize
     let from = word(image, OWN_OFFSET);
     let count = word(image, OWN_COUNT);
     let mut found = 0;
-    let mut i = 0;
-    while i < count {
+    for i in 0..count {
         let at = from + OWN_SIZE * i;
-        i += 1;
         if image[at + MATCHER_BYTE] != PREFIX {
             found += 1;
         }
