@@ -32,7 +32,7 @@ fn put_exact(room: &mut [u8], at: usize, rule: &[u8], offset: usize, len: usize)
     requires { ExactAt room.old at rule.now offset len }
     ensures { room.new ≡ put at (exact rule.now offset len) room.old }
 {
-    wire::copy(&mut room[at..at + NAME_SPAN], &rule[0..NAME_SPAN]);
+    room[at..at + NAME_SPAN].copy_from_slice(&rule[0..NAME_SPAN]);
     room[at + MATCHER_BYTE] = 1;
     put_span(room, at + NAME_SPAN, offset, len);
 }
@@ -53,12 +53,10 @@ fn put_exacts(
 {
     let mut at = at;
     let mut offset = offset;
-    let mut k = 0;
-    while k < starts.len() {
-        let name = lists::name_at(list, starts[k]);
+    for &start in starts {
+        let name = lists::name_at(list, start);
         let copy = offset;
         offset += name.len();
-        k += 1;
         if names::in_namespace(prefix, name) {
             put_exact(room, at, rule, copy, name.len());
             at += OWN_SIZE;
@@ -87,7 +85,7 @@ fn put_rule(
         let prefix = image::text(image, strings, place + NAME_SPAN);
         put_exacts(room, at, rule, prefix, image.len() - strings, list, starts)
     } else {
-        wire::copy(&mut room[at..at + OWN_SIZE], rule);
+        room[at..at + OWN_SIZE].copy_from_slice(rule);
         at + OWN_SIZE
     }
 }
@@ -100,10 +98,8 @@ fn put_owns(room: &mut [u8], at: usize, image: &[u8], list: &[u8], starts: &[usi
 {
     let count = word(image, OWN_COUNT);
     let mut at = at;
-    let mut i = 0;
-    while i < count {
+    for i in 0..count {
         at = put_rule(room, at, image, i, list, starts);
-        i += 1;
     }
     at
 }
@@ -114,12 +110,10 @@ fn put_names(room: &mut [u8], at: usize, list: &[u8], starts: &[usize])
     ensures { room.new ≡ put at (joined (names_at list.now starts.now)) room.old }
 {
     let mut at = at;
-    let mut k = 0;
-    while k < starts.len() {
-        let name = lists::name_at(list, starts[k]);
-        wire::copy(&mut room[at..at + name.len()], name);
+    for &start in starts {
+        let name = lists::name_at(list, start);
+        room[at..at + name.len()].copy_from_slice(name);
         at += name.len();
-        k += 1;
     }
 }
 
@@ -150,7 +144,7 @@ fn put_front(room: &mut [u8], image: &[u8], size: usize, owns: usize)
 {
     put_header(room, image, size, owns);
     let to = word(image, OWN_OFFSET);
-    wire::copy(&mut room[SECTIONS_AT..to], &image[SECTIONS_AT..to]);
+    room[SECTIONS_AT..to].copy_from_slice(&image[SECTIONS_AT..to]);
 }
 
 // All that stands behind them, from `at` on.
@@ -160,7 +154,7 @@ fn put_back(room: &mut [u8], at: usize, image: &[u8], list: &[u8], starts: &[usi
 {
     let from = word(image, TRANSACTION_OFFSET);
     let to = at + image.len() - from;
-    wire::copy(&mut room[at..to], &image[from..]);
+    room[at..to].copy_from_slice(&image[from..]);
     put_names(room, to, list, starts);
 }
 

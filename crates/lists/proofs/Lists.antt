@@ -1,26 +1,27 @@
 -- The list of names, from a length byte on: its first name, and the names behind it.
 use mathlib.Core.Path.{◌≡◌, refl, sym, ap, ◌∙◌}
 use mathlib.Core.Bool.{Bool, true, false, not, ◌&&◌, ◌||◌, and-false}
-use mathlib.Core.List.{List, [], ◌∷◌}
+use mathlib.Core.List.{List, [], ◌∷◌, ◌++◌}
 use Prim.Native.Nat.{ℕ, zero, suc, ◌+◌, ◌-◌, ◌*◌, ◌^◌, ◌≤◌, ◌<◌}
 use native.Mathlib.Omega.{arith}
 use lib.Dec.{leb, eqb}
-use lib.ListN.{length, get_or, take, drop, length-drop}
+use lib.ListN.{length, get_or, take, drop, length-drop, length-append}
 use mir.Syntax.{w64}
 use mir.Val.{Fits}
-use lib.Seq.{take_all, length-take-le}
+use lib.Seq.{take_all, length-take-le, take-append_seam, drop-append_seam}
 use borrow.Author.Rules.{rules}
-use borrow.Author.Tests.{not-true, not-false, le-leb, lt-leb, leb-true, leb-false, eq-eqb, ne_eqb}
+use borrow.Author.Tests.{le-leb, lt-leb, leb-true, leb-false, eq-eqb, ne_eqb}
 use Rattle.wire.specs.Bytes.{same}
 use Rattle.wire.specs.Lists.{every, any, distinct}
 use Rattle.wire.proofs.From.{next, past, skip}
 use Rattle.wire.proofs.Texts.{both_first, both_second}
 use Rattle.wire.proofs.Tests.{by_test}
-use Rattle.wire.proofs.Words.{Octets, cut_at, rest_at}
+use Rattle.wire.proofs.Words.{Octets, cut_at}
 use Rattle.names.specs.Names.{valid_name}
 use Rattle.names.specs.declared.Form.TheVariants.{WellKnown}
 use Rattle.prefixes.specs.Names.{Entry, first_entries, entries, listed, whole, good_names, good_list}
-use Rattle.lists.specs.Promises.{name_at}
+use Rattle.lists.specs.Promises.{name_at, First}
+use Rattle.std.proofs.Common.{true≢false}
 
 -- ---- a list has no more entries than bytes, so that counting further finds no more
 
@@ -121,87 +122,101 @@ module _ {list : List ℕ} {at : ℕ} (b : Behind list at) (h : at < length list
         uncut = both_second (leb n (length (drop (at + 1) list))) (whole (drop (at + 1 + n) list)) both_whole;
       }
 
-  -- as the code lends them
-  pub rest_whole : whole (take (length list - (at + 1 + get_or list at 0)) (drop (at + 1 + get_or list at 0) list)) ≡ true
-  rest_whole = rw (rest_at (at + 1 + get_or list at 0) list) behind_next.uncut
+-- ---- the first name of a list
+
+-- a list whose first name is cut
+pub cut_first : {list : List ℕ} (x : ℕ) (l : List ℕ) → list ≡ x ∷ l → length l < x → whole list ≡ true → list ≡ []
+cut_first {list} x l e k w =
+    let f : whole list ≡ false = ap whole e ∙ whole_first x l ∙ rw (lt-leb x (length l) k) in
+    absurd (true≢false (sym w ∙ f))
+
+module _ {list name rest : List ℕ} (f : First list name rest) where
+  pub listed_split : listed list ≡ name ∷ listed rest
+  listed_split = ap listed f.is ∙ listed_first (length name) (name ++ rest) ∙ rw (take-append_seam name rest, drop-append_seam name rest)
+
+  pub whole_split : whole list ≡ whole rest
+  whole_split =
+      ap whole f.is
+      ∙ whole_first (length name) (name ++ rest)
+      ∙ rw (le-leb (length name) (length (name ++ rest)) (omega (arith, length-append name rest)), drop-append_seam name rest)
+
+  pub length_split : length list ≡ 1 + length name + length rest
+  length_split = ap length f.is ∙ omega (arith, length-append name rest)
+
+  pub shorter : length rest < length list
+  shorter = omega (arith, length_split)
 
 -- ---- the loop that tests each name
 
 -- what is left decides
-pub record Naming (list : List ℕ) (at : ℕ) : Type 0 where
-  pub inside : at ≤ length list
-  pub left : good_names list ≡ good_names (drop at list)
+pub record Naming (list left : List ℕ) : Type 0 where
+  pub decides : good_names list ≡ good_names left
 
-pub naming_begins : {list : List ℕ} → Naming list 0
-naming_begins = record { inside = omega arith; left = refl }
+pub naming_begins : {list : List ℕ} → Naming list list
+naming_begins = record { decides = refl }
 
-module _ {list : List ℕ} {at : ℕ} (g : Naming list at) where
-  pub naming_ends : length list ≤ at → true ≡ good_names list
-  unfolding good_names whole listed entries first_entries
-  naming_ends h = sym (g.left ∙ ap good_names (past list at h))
+module _ {left name rest : List ℕ} (f : First left name rest) where
+  good_split : (b : Bool) → valid_name WellKnown name ≡ b → good_names left ≡ b && good_names rest
+  unfolding good_names
+  good_split true e = rw (whole_split f, listed_split f, e)
+  good_split false e = rw (listed_split f, e, and-false)
 
-  module _ (h : at < length list) where
-    good_at : good_names (drop at list)
-        ≡ leb (get_or list at 0) (length (drop (at + 1) list)) && whole (drop (at + 1 + get_or list at 0) list)
-        && (valid_name WellKnown (name_at list at) && every (valid_name WellKnown) (listed (drop (at + 1 + get_or list at 0) list)))
-    unfolding good_names
-    good_at = rw (whole_at list at h, listed_at list at h)
+  module _ {list : List ℕ} (g : Naming list left) {r : Bool} (e : r ≡ valid_name WellKnown name) where
+    pub naming_bad : r ≡ false → false ≡ good_names list
+    naming_bad q = sym (g.decides ∙ good_split false (sym e ∙ q))
 
-    pub naming_cut : length list < at + 1 + get_or list at 0 → false ≡ good_names list
-    naming_cut k =
-        let f : length (drop (at + 1) list) < get_or list at 0 = omega (arith, length-drop (at + 1) list) in
-        sym (g.left ∙ good_at ∙ rw (lt-leb (get_or list at 0) (length (drop (at + 1) list)) f))
+    pub naming_next : r ≡ true → Naming list rest
+    naming_next q = record { decides = g.decides ∙ good_split true (sym e ∙ q) }
 
-    module _ {r : Bool} (e : r ≡ valid_name WellKnown (take (at + 1 + get_or list at 0 - (at + 1)) (drop (at + 1) list))) where
-      valid_is : valid_name WellKnown (name_at list at) ≡ r
-      valid_is = sym (e ∙ ap (valid_name WellKnown) (name_cut list at))
+good_none : good_names [] ≡ true
+unfolding good_names whole listed entries first_entries
+good_none = refl
 
-      pub naming_bad : not r ≡ true → false ≡ good_names list
-      naming_bad f = sym (g.left ∙ good_at ∙ rw (valid_is, not-true r f, and-false))
+good_cut : (list : List ℕ) → whole list ≡ false → good_names list ≡ false
+unfolding good_names
+good_cut list w = rw w
 
-      pub naming_next : at + 1 + get_or list at 0 ≤ length list → not r ≡ false → Naming list (at + 1 + get_or list at 0)
-      unfolding good_names
-      naming_next k f =
-          let n = get_or list at 0 in
-          let i : n ≤ length (drop (at + 1) list) = omega (arith, length-drop (at + 1) list) in
-          record {
-            inside = k;
-            left = g.left ∙ good_at ∙ rw (valid_is, not-false r f, le-leb n (length (drop (at + 1) list)) i);
-          }
+-- nothing is left, or the first name of what is left is cut
+good_left : (left : List ℕ) → (whole left ≡ true → left ≡ []) → eqb (length left) 0 ≡ good_names left
+good_left [] n = sym good_none
+good_left (x ∷ l) n =
+    by_test (whole (x ∷ l)) (λ t. absurd (omega (arith, ap length (n t))))
+    (λ w. ne_eqb (suc (length l)) 0 (λ e. omega arith) ∙ sym (good_cut (x ∷ l) w))
 
-pub ruleset naming = (naming_begins, naming_ends, naming_cut, naming_bad, naming_next, sizes)
+pub naming_ends : {list left : List ℕ} → Naming list left → (whole left ≡ true → left ≡ []) → eqb (length left) 0 ≡ good_names list
+naming_ends {list} {left} g n = good_left left n ∙ sym g.decides
+
+pub ruleset naming = (naming_begins, naming_bad, naming_next, naming_ends, shorter, rules)
 
 -- ---- the loop that looks for a name
 
 -- what is left decides
-pub record Seeking (list name : List ℕ) (at : ℕ) : Type 0 where
-  pub behind : Behind list at
-  pub left : any (same name) (listed list) ≡ any (same name) (listed (drop at list))
+pub record Seeking (list name left : List ℕ) : Type 0 where
+  pub whole : whole left ≡ true
+  pub decides : any (same name) (listed list) ≡ any (same name) (listed left)
 
-pub seeking_begins : {list name : List ℕ} → whole list ≡ true → Seeking list name 0
-seeking_begins w = record { behind = behind_begins w; left = refl }
+pub seeking_begins : {list name : List ℕ} → whole list ≡ true → Seeking list name list
+seeking_begins w = record { whole = w; decides = refl }
 
-module _ {list name : List ℕ} {at : ℕ} (s : Seeking list name at) where
-  pub seeking_ends : length list ≤ at → false ≡ any (same name) (listed list)
-  seeking_ends h = sym (s.left ∙ ap (any (same name)) (listed_past list at h))
+listed_none : {list : List ℕ} → list ≡ [] → listed list ≡ []
+unfolding listed entries first_entries
+listed_none e = ap listed e
 
-  module _ (h : at < length list) where
-    pub seeking_inside : at + 1 + get_or list at 0 ≤ length list
-    seeking_inside = name_ends s.behind h
+module _ {list name left : List ℕ} (s : Seeking list name left) where
+  pub seeking_ends : (whole left ≡ true → left ≡ []) → false ≡ any (same name) (listed list)
+  seeking_ends n = sym (s.decides ∙ ap (any (same name)) (listed_none (n s.whole)))
 
-    module _ {r : Bool} (e : r ≡ same name (take (at + 1 + get_or list at 0 - (at + 1)) (drop (at + 1) list))) where
-      any_at : {b : Bool} → r ≡ b → any (same name) (listed list) ≡ b || any (same name) (listed (drop (at + 1 + get_or list at 0) list))
-      any_at {b} f =
-          let q : same name (name_at list at) ≡ b = sym (e ∙ ap (same name) (name_cut list at)) ∙ f in
-          s.left ∙ rw (listed_at list at h, q)
+  module _ {other rest : List ℕ} (f : First left other rest) {r : Bool} (e : r ≡ same name other) where
+    any_split : {b : Bool} → r ≡ b → any (same name) (listed list) ≡ b || any (same name) (listed rest)
+    any_split q = s.decides ∙ rw (listed_split f, ← e, q)
 
-      pub seeking_found : r ≡ true → true ≡ any (same name) (listed list)
-      seeking_found f = sym (any_at f)
+    pub seeking_found : r ≡ true → true ≡ any (same name) (listed list)
+    seeking_found q = sym (any_split q)
 
-      pub seeking_next : r ≡ false → Seeking list name (at + 1 + get_or list at 0)
-      seeking_next f = record { behind = behind_next s.behind h; left = any_at f }
+    pub seeking_next : r ≡ false → Seeking list name rest
+    seeking_next q = record { whole = sym (whole_split f) ∙ s.whole; decides = any_split q }
 
-pub ruleset seeking = (seeking_begins, seeking_ends, seeking_inside, seeking_found, seeking_next, sizes)
+pub ruleset seeking = (seeking_begins, seeking_ends, seeking_found, seeking_next, shorter, rules)
 
 -- ---- the loop that looks for each name behind it
 
@@ -209,43 +224,34 @@ abbrev apart : List (List ℕ) → Bool
 apart names = distinct (λ x. true) same names
 
 -- what is left decides
-pub record Parting (list : List ℕ) (at : ℕ) : Type 0 where
-  pub behind : Behind list at
-  pub left : apart (listed list) ≡ apart (listed (drop at list))
+pub record Parting (list left : List ℕ) : Type 0 where
+  pub whole : whole left ≡ true
+  pub decides : apart (listed list) ≡ apart (listed left)
 
-pub parting_begins : {list : List ℕ} → whole list ≡ true → Parting list 0
-parting_begins w = record { behind = behind_begins w; left = refl }
+pub parting_begins : {list : List ℕ} → whole list ≡ true → Parting list list
+parting_begins w = record { whole = w; decides = refl }
 
-module _ {list : List ℕ} {at : ℕ} (p : Parting list at) where
-  pub parting_ends : length list ≤ at → true ≡ distinct (λ x. true) same (listed list)
+module _ {list left : List ℕ} (p : Parting list left) where
+  pub parting_ends : (whole left ≡ true → left ≡ []) → true ≡ distinct (λ x. true) same (listed list)
   unfolding distinct
-  parting_ends h = sym (p.left ∙ ap apart (listed_past list at h))
+  parting_ends n = sym (p.decides ∙ ap apart (listed_none (n p.whole)))
 
-  module _ (h : at < length list) where
-    pub parting_inside : at + 1 + get_or list at 0 ≤ length list
-    parting_inside = name_ends p.behind h
+  module _ {name rest : List ℕ} (f : First left name rest) where
+    pub parting_whole : whole rest ≡ true
+    parting_whole = sym (whole_split f) ∙ p.whole
 
-    pub parting_whole : whole (take (length list - (at + 1 + get_or list at 0)) (drop (at + 1 + get_or list at 0) list)) ≡ true
-    parting_whole = rest_whole p.behind h
-
-    module _ {r : Bool}
-        (e : r ≡ any (same (take (at + 1 + get_or list at 0 - (at + 1)) (drop (at + 1) list)))
-        (listed (take (length list - (at + 1 + get_or list at 0)) (drop (at + 1 + get_or list at 0) list)))) where
-      apart_at : {b : Bool} → r ≡ b → apart (listed list) ≡ not b && apart (listed (drop (at + 1 + get_or list at 0) list))
+    module _ {r : Bool} (e : r ≡ any (same name) (listed rest)) where
+      apart_split : {b : Bool} → r ≡ b → apart (listed list) ≡ not b && apart (listed rest)
       unfolding distinct
-      apart_at {b} f =
-          let to = at + 1 + get_or list at 0 in
-          let q : any (same (name_at list at)) (listed (drop to list)) ≡ b
-          = rw (name_cut list at, rest_at to list) at (sym e ∙ f) in
-          p.left ∙ rw (listed_at list at h, q)
+      apart_split q = p.decides ∙ rw (listed_split f, ← e, q)
 
       pub parting_found : r ≡ true → false ≡ distinct (λ x. true) same (listed list)
-      parting_found f = sym (apart_at f)
+      parting_found q = sym (apart_split q)
 
-      pub parting_next : r ≡ false → Parting list (at + 1 + get_or list at 0)
-      parting_next f = record { behind = behind_next p.behind h; left = apart_at f }
+      pub parting_next : r ≡ false → Parting list rest
+      parting_next q = record { whole = parting_whole; decides = apart_split q }
 
-pub ruleset parting = (parting_begins, parting_ends, parting_inside, parting_whole, parting_found, parting_next, sizes)
+pub ruleset parting = (parting_begins, parting_ends, parting_whole, parting_found, parting_next, shorter, rules)
 
 -- ---- the whole list
 

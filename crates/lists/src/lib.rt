@@ -1,11 +1,11 @@
 // The list of names that a conversion is lent: each behind its length byte.
 #![tactic(auto)]
 
-ghost use Rattle.std.specs.Prelude.{◌≡◌, true};
+ghost use Rattle.std.specs.Prelude.{◌≡◌, true, [], IfSome, IfNone};
 ghost use Rattle.wire.specs.Bytes.{same};
 ghost use Rattle.wire.specs.Lists.{any, distinct};
 ghost use Rattle.prefixes.specs.Names.{listed, whole, good_names, good_list};
-ghost use Rattle.lists.specs.Promises.{name_at, NameAt};
+ghost use Rattle.lists.specs.Promises.{name_at, NameAt, First};
 
 use names::Form;
 
@@ -18,62 +18,66 @@ pub fn name_at(list: &[u8], at: usize) -> &[u8]
     &list[at + 1..to]
 }
 
+// The first name, and the list behind it; none where the list is empty or that name is cut.
+#[tactic(auto, using(crate::proofs::Lists::cut_first))]
+pub fn split_name(list: &[u8]) -> Option<(&[u8], &[u8])>
+    ensures first { IfSome result (λ p. First list.now p.0.now p.1.now) }
+    ensures none { IfNone result (whole list.now ≡ true → list.now ≡ []) }
+{
+    let (&size, behind) = list.split_first()?;
+    behind.split_at_checked(size as usize)
+}
+
 // Each name is whole and well-known.
+#[tactic(auto, using(crate::proofs::Lists::naming))]
 fn are_names(list: &[u8]) -> bool
     ensures { result ≡ good_names list.now }
 {
-    let mut at = 0;
-    while at < list.len() {
-        let to = at + 1 + list[at] as usize;
-        if list.len() < to {
+    let mut left = list;
+    while let Some((name, rest)) = split_name(left) {
+        if !names::is_valid(Form::WellKnown, name) {
             return false;
         }
-        if !names::is_valid(Form::WellKnown, &list[at + 1..to]) {
-            return false;
-        }
-        at = to;
+        left = rest;
     }
-    true
+    left.is_empty()
 }
 
 // The name is one of the list.
+#[tactic(auto, using(crate::proofs::Lists::seeking))]
 fn is_listed(list: &[u8], name: &[u8]) -> bool
     requires { whole list.now ≡ true }
     ensures { result ≡ any (same name.now) (listed list.now) }
 {
-    let mut at = 0;
-    while at < list.len() {
-        let to = at + 1 + list[at] as usize;
-        if wire::equal(name, &list[at + 1..to]) {
+    let mut left = list;
+    while let Some((other, rest)) = split_name(left) {
+        if wire::equal(name, other) {
             return true;
         }
-        at = to;
+        left = rest;
     }
     false
 }
 
 // No name is there twice.
+#[tactic(auto, using(crate::proofs::Lists::parting))]
 fn are_distinct(list: &[u8]) -> bool
     requires { whole list.now ≡ true }
     ensures { result ≡ distinct (λ x. true) same (listed list.now) }
 {
-    let mut at = 0;
-    while at < list.len() {
-        let to = at + 1 + list[at] as usize;
-        if is_listed(&list[to..], &list[at + 1..to]) {
+    let mut left = list;
+    while let Some((name, rest)) = split_name(left) {
+        if is_listed(rest, name) {
             return false;
         }
-        at = to;
+        left = rest;
     }
     true
 }
 
+#[tactic(auto, using(crate::proofs::Lists::testing))]
 pub fn is_list(list: &[u8]) -> bool
     ensures { result ≡ good_list list.now }
 {
-    if are_names(list) {
-        are_distinct(list)
-    } else {
-        false
-    }
+    are_names(list) && are_distinct(list)
 }

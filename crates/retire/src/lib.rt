@@ -50,10 +50,8 @@ fn covering(image: &[u8], name: &[u8]) -> usize
     let from = word(image, OWN_OFFSET);
     let count = word(image, OWN_COUNT);
     let mut found = 0;
-    let mut i = 0;
-    while i < count {
+    for i in 0..count {
         let at = from + OWN_SIZE * i;
-        i += 1;
         if covers(image, strings, at, name) {
             found += 1;
         }
@@ -69,10 +67,8 @@ fn kept(image: &[u8]) -> usize
     let from = word(image, OWN_OFFSET);
     let count = word(image, OWN_COUNT);
     let mut found = 0;
-    let mut i = 0;
-    while i < count {
+    for i in 0..count {
         let at = from + OWN_SIZE * i;
-        i += 1;
         if image[at + MATCHER_BYTE] != PREFIX {
             found += 1;
         }
@@ -107,9 +103,9 @@ fn gather(image: &[u8], list: &[u8], starts: &mut [usize]) -> Gathered
         rules += more;
         if MOST < rules {
             return Gathered {
-                names: names,
-                bytes: bytes,
-                rules: rules,
+                names,
+                bytes,
+                rules,
             };
         }
         if 0 < more {
@@ -119,9 +115,9 @@ fn gather(image: &[u8], list: &[u8], starts: &mut [usize]) -> Gathered
         }
     }
     Gathered {
-        names: names,
-        bytes: bytes,
-        rules: rules,
+        names,
+        bytes,
+        rules,
     }
 }
 
@@ -130,10 +126,7 @@ fn gather(image: &[u8], list: &[u8], starts: &mut [usize]) -> Gathered
 fn refused(answer: u8) -> Retired
     ensures { result ≡ record { answer = answer; length = 0 } }
 {
-    Retired {
-        answer: answer,
-        length: 0,
-    }
+    Retired { answer, length: 0 }
 }
 
 // Converts a good image, with a good list: 53 where the result would be too large, else it is written into the room.

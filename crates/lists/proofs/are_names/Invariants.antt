@@ -1,11 +1,10 @@
--- `lists::are_names` meets its contract. The loop's invariant: the names from `at` on decide.
-use Prim.Native.Nat.{◌-◌}
-use lib.ListN.{length}
+-- The names that are left decide.
+use Rattle.std.proofs.Common.{length}
 use Rattle.lists.proofs.Lists.{Naming}
 use Rattle.lists.proofs.are_names.Given as goal
 
-abbrev pub invariant-loop-at : goal.invariant-loop-at
-invariant-loop-at l = Naming l.list l.at
+abbrev pub invariant-loop-name : goal.invariant-loop-name
+invariant-loop-name l = Naming l.list l.left
 
-abbrev pub decreases-loop-at : goal.decreases-loop-at
-decreases-loop-at l = length l.list - l.at
+abbrev pub decreases-loop-name : goal.decreases-loop-name
+decreases-loop-name l = length l.left

@@ -20,23 +20,11 @@ overflow_mul-at c = search covering
 pub overflow_add-at : goal.overflow_add-at
 overflow_add-at c = search covering
 
-pub overflow_add-i : goal.overflow_add-i
-overflow_add-i c = search covering
-
 pub covers-requires : goal.covers-requires
 covers-requires c = search covering
 
 pub overflow_add-found : goal.overflow_add-found
 overflow_add-found c = search covering
-
-pub loop-i-smaller-then-covers : goal.loop-i-smaller-then-covers
-loop-i-smaller-then-covers c = search covering
-
-pub loop-i-preserved-then-covers : goal.loop-i-preserved-then-covers
-loop-i-preserved-then-covers c = search covering
-
-pub loop-i-smaller : goal.loop-i-smaller
-loop-i-smaller c = search covering
 
 pub loop-i-preserved : goal.loop-i-preserved
 loop-i-preserved c = search covering

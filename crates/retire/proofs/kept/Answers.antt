@@ -17,9 +17,6 @@ overflow_mul-at c = search keeping
 pub overflow_add-at : goal.overflow_add-at
 overflow_add-at c = search keeping
 
-pub overflow_add-i : goal.overflow_add-i
-overflow_add-i c = search keeping
-
 pub overflow_add-at-in-loop-i : goal.overflow_add-at-in-loop-i
 overflow_add-at-in-loop-i c = search keeping
 
@@ -28,15 +25,6 @@ bounds-image-at c = search keeping
 
 pub overflow_add-found : goal.overflow_add-found
 overflow_add-found c = search keeping
-
-pub loop-i-smaller-then-image-at-ne-PREFIX : goal.loop-i-smaller-then-image-at-ne-PREFIX
-loop-i-smaller-then-image-at-ne-PREFIX c = search keeping
-
-pub loop-i-preserved-then-image-at-ne-PREFIX : goal.loop-i-preserved-then-image-at-ne-PREFIX
-loop-i-preserved-then-image-at-ne-PREFIX c = search keeping
-
-pub loop-i-smaller : goal.loop-i-smaller
-loop-i-smaller c = search keeping
 
 pub loop-i-preserved : goal.loop-i-preserved
 loop-i-preserved c = search keeping
