@@ -8,16 +8,19 @@ use native.Mathlib.Numerals.{add-one}
 use lib.ListN.{length, take, drop, length-drop, drop_of_length-le}
 use lib.Seq.{drop_at, drop-cons, drop-drop, length-take-le}
 use borrow.Author.Rules.{rules}
-use Rattle.wire.specs.Words.{word_at}
+use Rattle.wire.specs.Words.{word_at, long_at}
 use Rattle.wire.specs.declared.Order.TheVariants.{Little}
 use Rattle.wire.proofs.Words.{Octets, octets_below, cut_at, put_at_lem}
+use Rattle.wire.proofs.Longs.{long_part}
 use Rattle.tables.specs.Tables.{table_bytes, table_of}
+use Rattle.tables.proofs.Words.{word_part}
+use native.Mathlib.Nat.{add-zero}
 use Rattle.wire.proofs.Parts.{drop_past, part_nested, cut_two}
 use Rattle.tables.proofs.Table.{table_take}
 use Rattle.stream.specs.Tail.{Tail}
 use Rattle.rules.specs.State.{Pending, Slot, free, peer}
 use Rattle.rules.specs.Pending.{ended_where, count_where, remove_calls, count_slot, count_in}
-use Rattle.memory.specs.Layout.{slot_length, slot_start, pending_at, call_width, call_room, pending_length, names_at, slots_at}
+use Rattle.memory.specs.Layout.{tick_offset, serial_offset, slot_length, slot_start, pending_at, call_width, call_room, pending_length, names_at, slots_at}
 use Rattle.memory.specs.Encoding.{pending_bytes, pending_of, slot_bytes, peer_of, slot_of, memory_of, state_of}
 use Rattle.memory.specs.Places.{number_at, changed}
 use Rattle.memory.proofs.Reading.{sixteen, slot_at, part_free, part_peer, part_number}
@@ -26,7 +29,20 @@ use Rattle.memory.proofs.Puts.{part_of}
 use Rattle.memory.proofs.Frame.{slot_length_lem, memory_at}
 use Rattle.memory.proofs.Ending.{Ending, ending_ends, ending_counts, calls_removed_free, calls_removed_peer}
 use Rattle.memory.proofs.Sweep.{Sweeping, sweeping_begins, sweeping_again, sweeping_ends}
-use Rattle.endings.specs.Endings.{part_at, PlainSlot, Encoded, ended_at, ended_for, EndedCalls, EndedSlot, EndedAll}
+use Rattle.endings.specs.Endings.{Tells, part_at, PlainSlot, Encoded, ended_at, ended_for, EndedCalls, EndedSlot, EndedAll}
+
+-- ---- a call
+
+-- the closure answers of the call at a place of a table
+pub call_tells : (b : List ℕ) (at : ℕ) (tells : ℕ → ℕ → Bool → Type 0) {t : Pending → Bool} → Tells tells t
+    → {c k : ℕ} → (c ≡ word_at Little b at) × (c < 4294967296) → (k ≡ long_at b (at + tick_offset)) × (k < 18446744073709551616)
+    → {r : Bool} → tells c k r → r ≡ t (pending_of (take call_width (drop at b)))
+call_tells b at tells {t = t} h {c} {k} ec ek {r} p =
+    let part = take call_width (drop at b) in
+    let w : Pending = record { callee = c; serial = word_at Little part serial_offset; tick = k } in
+    let qc : word_at Little part 0 ≡ c = word_part b at call_width 0 (omega arith) ∙ ap (word_at Little b) (add-zero at) ∙ sym ec.0 in
+    let qk : long_at part tick_offset ≡ k = long_part b at call_width tick_offset (omega arith) ∙ sym ek.0 in
+    rw (qc, qk) (h w ec.1 ek.1 r p)
 
 -- ---- in a table
 

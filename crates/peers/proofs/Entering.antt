@@ -4,7 +4,6 @@ use Rattle.std.proofs.Common.{◌≡◌, refl, sym, ap, ◌∙◌, true, false, 
 use borrow.Author.Tests.{not-true, not-false}
 use Rattle.wire.proofs.Words.{Octets, octets_below}
 use Rattle.wire.specs.Words.{word_bytes}
-use Rattle.image.specs.declared.Section.TheVariants.{Connect}
 use Rattle.policy.specs.Decisions.{connect_decision}
 use Rattle.policy.specs.declared.Decision.{Decision}
 use Rattle.stream.specs.Tail.{tails}

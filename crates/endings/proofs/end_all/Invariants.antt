@@ -1,7 +1,10 @@
 -- `endings::end_all` meets its contract.
-use Rattle.endings.specs.Endings.{test_of}
+use Rattle.std.proofs.Common.{Bool}
+use Rattle.rules.specs.State.{Pending}
+use Rattle.endings.specs.Endings.{Tells}
 use Rattle.endings.proofs.Calls.{RemovalInvariant}
 use Rattle.endings.proofs.end_all.Given as goal
 
 abbrev pub invariant-loop-i : goal.invariant-loop-i
-invariant-loop-i l = RemovalInvariant (test_of l.which) l.initial.memory l.memory l.ended l.i
+invariant-loop-i g l =
+    (t : Pending → Bool) → Tells (goal.F-post g l.ends) t → RemovalInvariant t l.initial.memory l.memory l.ended l.i
