@@ -93,7 +93,12 @@ impl Ledger {
 
     // A message passed from a peer to another, or to itself. These count: a call without the flag NO_REPLY_EXPECTED, the lowest bit; a return and an error, for the
     // caller, who receives it.
-    fn passed(&mut self, sender: u32, receiver: u32, message: Result<Header, Unread>) -> Result<(), AllocError> {
+    fn passed(
+        &mut self,
+        sender: u32,
+        receiver: u32,
+        message: Result<Header, Unread>,
+    ) -> Result<(), AllocError> {
         let Ok(header) = message else {
             return Ok(());
         };

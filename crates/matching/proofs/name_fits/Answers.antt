@@ -28,8 +28,8 @@ loop-cell-preserved c =
     record {
       sized = k.0 ∙ c.loop-cell.invariant.sized;
       seeking =
-        seeking_more c.loop-cell.invariant.seeking c.in-Some.cell.now (chunks_exact_rest c.next.new.self) k.1.0 (k.1.1 ∙ c.loop-cell.invariant.sized)
-        c.cell_holds.ensures.byte c.cell_holds.ensures.holds c.if-cell_holds.false;
+          seeking_more c.loop-cell.invariant.seeking c.in-Some.cell.now (chunks_exact_rest c.next.new.self) k.1.0 (k.1.1 ∙ c.loop-cell.invariant.sized)
+          c.cell_holds.ensures.byte c.cell_holds.ensures.holds c.if-cell_holds.false;
     }
 
 pub returns : goal.returns

@@ -9,5 +9,5 @@ abbrev pub invariant-loop-cell : goal.invariant-loop-cell
 invariant-loop-cell l =
     record {
       sized : chunks_exact_size l.cell-iterator ≡ name_width;
-      seeking : Seeking l.image l.at l.names l.name (chunks_exact_rest l.cell-iterator)
+      seeking : Seeking l.image l.at l.names l.name (chunks_exact_rest l.cell-iterator);
     }
