@@ -1,3 +1,4 @@
+pub mod Needs
 pub mod From
 pub mod Tests
 pub mod Texts

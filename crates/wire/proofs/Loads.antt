@@ -102,12 +102,12 @@ module _ (s : List ℕ) (at n : ℕ) where
     zero_missed z = sym zero_load_long ∙ ne_eqb n 0 z
 
 module _ (x y : List ℕ) (at n m : ℕ) where
-  same_load : n ≡ word_at Little x at → m ≡ word_at Little y at → Octets x → Octets y → at + 4 ≤ length x → at + 4 ≤ length y
+  pub same_load : n ≡ word_at Little x at → m ≡ word_at Little y at → Octets x → Octets y → at + 4 ≤ length x → at + 4 ≤ length y
       → eqb n m ≡ same (take 4 (drop at x)) (take 4 (drop at y))
   same_load e f b c h k = rw (e, f) (same_word x y at b c h k)
 
   module _ (e : n ≡ long_at x at) (f : m ≡ long_at y at) (b : Octets x) (c : Octets y) (h : at + 8 ≤ length x) (k : at + 8 ≤ length y) where
-    same_load_long : eqb n m ≡ same (take 8 (drop at x)) (take 8 (drop at y))
+    pub same_load_long : eqb n m ≡ same (take 8 (drop at x)) (take 8 (drop at y))
     same_load_long = rw (e, f) (same_long x y at b c h k)
 
     same_found : n ≡ m → same (take 8 (drop at x)) (take 8 (drop at y)) ≡ true
