@@ -1,9 +1,9 @@
--- `endings::end_all` meets its contract.
+-- `endings::end_where` meets its contract.
 use Rattle.std.proofs.Common.{Bool}
 use Rattle.rules.specs.State.{Pending}
 use Rattle.endings.specs.Endings.{Tells}
 use Rattle.endings.proofs.Calls.{RemovalInvariant}
-use Rattle.endings.proofs.end_all.Given as goal
+use Rattle.endings.proofs.end_where.Given as goal
 
 abbrev pub invariant-loop-i : goal.invariant-loop-i
 invariant-loop-i g l =
