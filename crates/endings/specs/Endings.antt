@@ -15,8 +15,8 @@ test_of (To callee) = is_to callee
 test_of (Aged tick limit) = expired tick limit
 
 -- the closure answers, by a call's callee and tick, whether the call passes the test
-abbrev pub Tells : (ℕ → ℕ → Bool → Type 0) → (Pending → Bool) → Type 0
-Tells tells t = (w : Pending) → w.callee < 4294967296 → w.tick < 18446744073709551616 → (r : Bool) → tells w.callee w.tick r → r ≡ t w
+abbrev pub EndsBy : (ℕ → ℕ → Bool → Type 0) → (Pending → Bool) → Type 0
+EndsBy tells t = (w : Pending) → w.callee < 4294967296 → w.tick < 18446744073709551616 → (r : Bool) → tells w.callee w.tick r → r ≡ t w
 
 -- the bytes of slot i
 abbrev pub part_at : List ℕ → ℕ → List ℕ
