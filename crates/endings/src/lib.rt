@@ -73,7 +73,7 @@ fn end_where<F: Fn(u32, u64) -> bool>(memory: &mut [u8], ends: F) -> u32
     ended
 }
 
-// Ends the calls that end so, of every peer; how many they were.
+// Ends the calls of one ending, of every peer; how many they were.
 pub fn end_all(memory: &mut [u8], which: Ending) -> u32
     requires { Encoded memory.old }
     ensures { EndedAll (test_of which) memory.old result memory.new }
