@@ -22,7 +22,7 @@ use Rattle.calls.specs.declared.Kind.{Kind}
 use Rattle.calls.specs.declared.Kind.TheVariants as kind
 use Rattle.calls.specs.declared.Entry.{Entry}
 use Rattle.calls.specs.Script.{argument_of, well_sized, words, gids_of, peer_call, call_of}
-use Rattle.calls.specs.Steps.{kind_word, First, Reported, Stepped, GidsIn}
+use Rattle.calls.specs.Steps.{kind_word, FirstEntry, Reported, Stepped, GidsIn}
 use Rattle.calls.proofs.Words.{words_length, words_below}
 use Rattle.calls.proofs.Entries.{connect_long, own_long, release_long, piece_long, leave_long, tick_words}
 
@@ -113,7 +113,7 @@ pub ruleset calling =
 
 -- ---- the entry in front
 
-module _ (s : List ℕ) (x : Entry) (f : First s x) where
+module _ (s : List ℕ) (x : Entry) (f : FirstEntry s x) where
   -- its argument, as the code cuts it
   cut_is : take (8 + x.argument - 8) (drop 8 s) ≡ argument_of s
   cut_is = cut_at 8 x.argument s ∙ rw f.argument

@@ -12,7 +12,7 @@ use Rattle.calls.specs.Script.{entry_kind, size_of, argument_of, well_sized, ent
 use Rattle.calls.specs.declared.Kind.{Kind}
 use Rattle.calls.specs.declared.Kind.TheVariants as kind
 use Rattle.calls.specs.declared.Entry.{Entry}
-use Rattle.calls.specs.Steps.{kind_word, First, Counted}
+use Rattle.calls.specs.Steps.{kind_word, FirstEntry, Counted}
 
 -- ---- the length that a kind may have
 
@@ -91,7 +91,7 @@ unfolding entry_size
 size_short s h = rw (lt-ltb (length s) 8 h)
 
 module _ (s : List ℕ) (h : 8 ≤ length s) where
-  size_bad : well_sized (entry_kind s) (size_of s) ≡ false → entry_size s ≡ 0
+  pub size_bad : well_sized (entry_kind s) (size_of s) ≡ false → entry_size s ≡ 0
   unfolding entry_size
   size_bad w = rw (le-ltb (length s) 8 h, w)
 
@@ -110,13 +110,13 @@ module _ (s : List ℕ) (h : 8 ≤ length s) where
       unfolding entry_size
       size_cut l = let x : ltb (length s - 8) (size_of s) ≡ true = rw (← q) (lt-ltb (length s - 8) n l) in rw (le-ltb (length s) 8 h, well, x)
 
-      pub size_good : n ≤ length s - 8 → First s (record { kind = k; argument = n })
+      pub size_good : n ≤ length s - 8 → FirstEntry s (record { kind = k; argument = n })
       size_good l = record { kind = o ∙ p; argument = q; inside = omega arith; sized = sym e ∙ not-false b t }
 
 pub ruleset sizes = (size_short, size_unknown, size_untaken, size_cut, size_good, rules)
 
 -- how many bytes the entry takes
-module _ {s : List ℕ} {x : Entry} (f : First s x) where
+module _ {s : List ℕ} {x : Entry} (f : FirstEntry s x) where
   pub size_is : 8 + x.argument ≡ entry_size s
   unfolding entry_size
   size_is =
@@ -226,7 +226,7 @@ pub counting_begins : (s : List ℕ) → Counting s s 0
 counting_begins s = record { few = omega arith; same = refl; many = λ w image. omega arith }
 
 module _ {s rest : List ℕ} {n : ℕ} (c : Counting s rest n) where
-  pub counting_more : {x : Entry} → First rest x → {k : ℕ} → k ≡ 8 + x.argument → Counting s (take (length rest - k) (drop k rest)) (n + 1)
+  pub counting_more : {x : Entry} → FirstEntry rest x → {k : ℕ} → k ≡ 8 + x.argument → Counting s (take (length rest - k) (drop k rest)) (n + 1)
   counting_more {x} z q =
       let h = size_any z in
       let l = layout_next rest h (size_some z) in

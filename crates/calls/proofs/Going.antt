@@ -16,7 +16,7 @@ use Rattle.book.proofs.Runs.{run_append}
 use Rattle.calls.specs.declared.Entry.{Entry}
 use Rattle.calls.specs.Script.{entry_kind, argument_of, entry_size, layout, script_calls, call_of, decode}
 use Rattle.calls.specs.Places.{words_of, outcome, EndsAs}
-use Rattle.calls.specs.Steps.{Stepped, First, Counted, Ready, Replayed}
+use Rattle.calls.specs.Steps.{Stepped, FirstEntry, Counted, Ready, Replayed}
 use Rattle.calls.proofs.Entries.{front_entry, layout_next, calls_next, calls_end, behind, size_some, size_any}
 
 -- ---- a run has an answer for each call
@@ -69,7 +69,7 @@ module _ {image s m₀ x m y rest : List ℕ} {at : ℕ} (g : Going image s m₀
   written : at ≡ place_length * length g.given
   written = g.place ∙ ap (λ (k : ℕ). place_length * k) (run_length g.ran)
 
-  module _ {e : Entry} (z : First rest e) where
+  module _ {e : Entry} (z : FirstEntry rest e) where
     going_room : at + place_length ≤ length y
     going_room = omega (arith, g.room, g.sized, ap length (calls_next rest (size_any z) image g.whole))
 

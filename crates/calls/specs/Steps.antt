@@ -43,7 +43,7 @@ pub record GidsIn (a : List ℕ) (r : Gids) : Type 0 where
   pub are : take r.count r.list ≡ words r.count (drop 4 a)
 
 -- a whole entry stands in front of s, with this kind and so many bytes behind its first two words
-pub record First (s : List ℕ) (e : Entry) : Type 0 where
+pub record FirstEntry (s : List ℕ) (e : Entry) : Type 0 where
   pub kind : kind_word e.kind ≡ entry_kind s
   pub argument : e.argument ≡ size_of s
   pub inside : 8 + e.argument ≤ length s

@@ -8,7 +8,7 @@ ghost use Rattle.book.specs.Lists.{connects, ticks};
 ghost use Rattle.places.specs.Places.{place_length};
 ghost use Rattle.calls.specs.Script.{well_sized, gids_of, call_of, entry_size};
 ghost use Rattle.calls.specs.Places.{outcome, EndsAs};
-ghost use Rattle.calls.specs.Steps.{kind_word, Reported, Stepped, GidsIn, First, Counted, Ready, Replayed};
+ghost use Rattle.calls.specs.Steps.{kind_word, Reported, Stepped, GidsIn, FirstEntry, Counted, Ready, Replayed};
 
 use places::{PLACE_LENGTH, Report};
 use wire::Order;
@@ -66,7 +66,7 @@ struct Entry {
 impl Entry {
     // The entry in front of a script, where a whole one stands there.
     fn first(script: &[u8]) -> Option<Entry>
-        ensures entry { IfSome result (First script.now) }
+        ensures entry { IfSome result (FirstEntry script.now) }
         ensures broken { IfNone result (entry_size script.now ≡ 0) }
     {
         if script.len() < 8 {
@@ -190,7 +190,7 @@ fn count_calls(script: &[u8]) -> Option<usize>
 
 // The first entry's call, and its answer in the first place of the room.
 fn step(image: &[u8], script: &[u8], entry: Entry, memory: &mut [u8], room: &mut [u8])
-    requires { (First script.now entry) × (place_length ≤ length room.old) }
+    requires { (FirstEntry script.now entry) × (place_length ≤ length room.old) }
     ensures { Stepped image.now script.now memory.old room.old memory.new room.new }
 {
     let end = entry.size();

@@ -29,12 +29,12 @@ use Rattle.memory.proofs.Puts.{part_of}
 use Rattle.memory.proofs.Frame.{slot_length_lem, memory_at}
 use Rattle.memory.proofs.Ending.{Ending, ending_ends, ending_counts, calls_removed_free, calls_removed_peer}
 use Rattle.memory.proofs.Sweep.{Sweeping, sweeping_begins, sweeping_again, sweeping_ends}
-use Rattle.endings.specs.Endings.{Tells, part_at, PlainSlot, Encoded, ended_at, ended_for, EndedCalls, EndedSlot, EndedAll}
+use Rattle.endings.specs.Endings.{EndsBy, part_at, PlainSlot, Encoded, ended_at, ended_for, EndedCalls, EndedSlot, EndedAll}
 
 -- ---- a call
 
 -- the closure answers of the call at a place of a table
-pub call_tells : (b : List ℕ) (at : ℕ) (tells : ℕ → ℕ → Bool → Type 0) {t : Pending → Bool} → Tells tells t
+pub call_tells : (b : List ℕ) (at : ℕ) (tells : ℕ → ℕ → Bool → Type 0) {t : Pending → Bool} → EndsBy tells t
     → {c k : ℕ} → (c ≡ word_at Little b at) × (c < 4294967296) → (k ≡ long_at b (at + tick_offset)) × (k < 18446744073709551616)
     → {r : Bool} → tells c k r → r ≡ t (pending_of (take call_width (drop at b)))
 call_tells b at tells {t = t} h {c} {k} ec ek {r} p =

@@ -1,2 +1,3 @@
+mod Tests
 mod Calls
 mod Ticks

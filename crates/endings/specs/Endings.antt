@@ -1,15 +1,22 @@
 -- Calls that end without a reply: by which test, and what is then left of a table, of a slot and of memory (rules 8.7 and 8.12).
 use Rattle.std.specs.Prelude.{Bool, List, ◌≡◌, ℕ, ◌≤◌, ◌<◌, length, take, drop}
 use Rattle.rules.specs.State.{Pending}
-use Rattle.rules.specs.Pending.{ended_where, count_where, remove_calls, count_slot, count_in}
+use Rattle.rules.specs.Pending.{is_to, expired, ended_where, count_where, remove_calls, count_slot, count_in}
 use Rattle.tables.specs.Tables.{table_bytes}
 use Rattle.memory.specs.Layout.{slot_start, memory_length, slot_length, call_width, call_room}
 use Rattle.memory.specs.Encoding.{pending_bytes, slot_bytes, slot_of, memory_of, state_of}
 use Rattle.memory.specs.Places.{put_at, changed, mapped}
+use Rattle.endings.specs.declared.Ending.{Ending}
+use Rattle.endings.specs.declared.Ending.TheVariants.{To, Aged}
+
+-- which calls end
+abbrev pub test_of : Ending → Pending → Bool
+test_of (To callee) = is_to callee
+test_of (Aged tick limit) = expired tick limit
 
 -- the closure answers, by a call's callee and tick, whether the call passes the test
-abbrev pub Tells : (ℕ → ℕ → Bool → Type 0) → (Pending → Bool) → Type 0
-Tells tells t = (w : Pending) → w.callee < 4294967296 → w.tick < 18446744073709551616 → (r : Bool) → tells w.callee w.tick r → r ≡ t w
+abbrev pub EndsBy : (ℕ → ℕ → Bool → Type 0) → (Pending → Bool) → Type 0
+EndsBy tells t = (w : Pending) → w.callee < 4294967296 → w.tick < 18446744073709551616 → (r : Bool) → tells w.callee w.tick r → r ≡ t w
 
 -- the bytes of slot i
 abbrev pub part_at : List ℕ → ℕ → List ℕ

@@ -20,7 +20,7 @@ use Rattle.memory.proofs.Good.{held_of}
 use Rattle.places.specs.Places.{place_length, places_in, Batched}
 use Rattle.places.proofs.Rooms.{no_places, some_places, filled_none}
 use Rattle.batches.specs.Steps.{pieces, Refused}
-use Rattle.guard.specs.Tested.{memory_test, call_test}
+use Rattle.guard.specs.Tested.{memory_test, tests_before}
 
 -- ---- the tests
 
@@ -38,10 +38,10 @@ module _ (image m : List ℕ) (o : Outcome) (e : o ≡ outcome_of image) where
   unfolding image_answer
   image_answer_is q = ap outcome_answer (sym e ∙ q)
 
-  pub image_passes : o ≡ Good → (r : Result (Unit {0}) ℕ) → r ≡ memory_test m → r ≡ call_test image m
+  pub image_passes : o ≡ Good → (r : Result (Unit {0}) ℕ) → r ≡ memory_test m → r ≡ tests_before image m
   image_passes q r s = rw (image_answer_is q) s
 
-  pub image_fails : o ≡ Bad → Err 50 ≡ call_test image m
+  pub image_fails : o ≡ Bad → Err 50 ≡ tests_before image m
   image_fails q = rw (image_answer_is q) refl
 
 pub ruleset testing = (image_passes, image_fails, rules)
@@ -82,7 +82,7 @@ memory_refused refuse m t e q k o = let b = memory_bad m t e q in rw b.0 (record
 abbrev tested : {R : Type 0} → (ℕ → R) → List ℕ → List ℕ → MemoryStep R → MemoryStep R
 tested refuse image m o = cond (eqb (image_answer image) 0) (cond (good m) o (unchanged m (refuse 51))) (unchanged m (refuse (image_answer image)))
 
-module _ (image m : List ℕ) (t : Result (Unit {0}) ℕ) (e : t ≡ call_test image m) where
+module _ (image m : List ℕ) (t : Result (Unit {0}) ℕ) (e : t ≡ tests_before image m) where
   image_none : t ≡ Ok tt → (eqb (image_answer image) 0 ≡ true) × (t ≡ memory_test m)
   image_none q = by_test (eqb (image_answer image) 0) (λ p. (p, rw p at e)) (λ p. never t (rw p at e) q)
 
@@ -108,7 +108,7 @@ module _ (image m : List ℕ) (t : Result (Unit {0}) ℕ) (e : t ≡ call_test i
       → Did (cond (eqb (image_answer image) 0) (cond (good m) o p) z) r after
   call_done q {o = o} d p z = rw (call_passed q o p z) d
 
-pub image_refused : {R : Type 0} (refuse : ℕ → R) (image m : List ℕ) (t : Result (Unit {0}) ℕ) → t ≡ call_test image m → {a : ℕ} → t ≡ Err a
+pub image_refused : {R : Type 0} (refuse : ℕ → R) (image m : List ℕ) (t : Result (Unit {0}) ℕ) → t ≡ tests_before image m → {a : ℕ} → t ≡ Err a
     → {r : R} → r ≡ refuse a → (o : MemoryStep R) → Did (tested refuse image m o) r m
 image_refused refuse image m t e q k o = rw (call_refused image m t e q refuse o) (record { result = k; memory = refl })
 
@@ -132,7 +132,7 @@ module _ (image m : List ℕ) (n : ℕ) (p room : List ℕ) where
     unfolding taken_by
     refused_with a r y f = record { wrote = record { written = f.one; memory = refl; room = f.written }; taken = f.none }
 
-    module _ (t : Result (Unit {0}) ℕ) (e : t ≡ call_test image m) where
+    module _ (t : Result (Unit {0}) ℕ) (e : t ≡ tests_before image m) where
       pub batch_refused : {a : ℕ} → t ≡ Err a → (r : Batch) (y : List ℕ) → Refused a room r y → batched r m y
       unfolding batch_on
       batch_refused {a} q r y f =

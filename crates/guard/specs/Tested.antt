@@ -8,5 +8,5 @@ abbrev pub memory_test : List ℕ → Result (Unit {0}) ℕ
 memory_test m = cond (good m) (Ok tt) (Err 51)
 
 -- the image's own answer, and behind it that of memory (rules 5.9 and 8.1)
-abbrev pub call_test : List ℕ → List ℕ → Result (Unit {0}) ℕ
-call_test image m = cond (eqb (image_answer image) 0) (memory_test m) (Err (image_answer image))
+abbrev pub tests_before : List ℕ → List ℕ → Result (Unit {0}) ℕ
+tests_before image m = cond (eqb (image_answer image) 0) (memory_test m) (Err (image_answer image))

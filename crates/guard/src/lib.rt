@@ -4,7 +4,7 @@
 ghost use Rattle.std.specs.Prelude.{◌≡◌};
 ghost use Rattle.memory.specs.Calls.{start_on, connect_on, own_on, release_on, piece_on, batch_on, disconnect_on, tick_on, Did};
 ghost use Rattle.places.specs.Places.{places_in, Batched};
-ghost use Rattle.guard.specs.Tested.{memory_test, call_test};
+ghost use Rattle.guard.specs.Tested.{memory_test, tests_before};
 
 use image::Outcome;
 use memory::MEMORY_LENGTH;
@@ -26,7 +26,7 @@ fn test_memory(memory: &[u8]) -> Result<(), u8>
 
 // The image and the memory that a call goes on with: the image is tested first (rules 5.9 and 8.1).
 fn test(image: &[u8], memory: &[u8]) -> Result<(), u8>
-    ensures { result ≡ call_test image.now memory.now }
+    ensures { result ≡ tests_before image.now memory.now }
 {
     match image::check(image) {
         Outcome::Good => test_memory(memory),

@@ -13,6 +13,7 @@ ghost use Rattle.slots.specs.Slots.{At};
 ghost use Rattle.peers.specs.Writes.{new_bytes};
 ghost use Rattle.peers.specs.Steps.{Free, admitted, entered, slots_without};
 
+use endings::Ending;
 use memory::{FIRST_GID, GIDS_AT, SLOT_LENGTH, SLOTS_AT, TAKEN_AT, UID_AT};
 use policy::Uid;
 use rules::{Connected, Gone, connected_by, no_connect, no_gone};
@@ -88,7 +89,7 @@ fn leave(memory: &mut [u8], i: usize, number: u32)
     let from = SLOTS_AT + SLOT_LENGTH * i;
     let to = from + SLOT_LENGTH;
     memory[from..to].fill(0);
-    endings::end_all(memory, |callee, _| callee == number);
+    endings::end_all(memory, Ending::To(number));
 }
 
 // Disconnects a peer: 30 (rule 8.7).
