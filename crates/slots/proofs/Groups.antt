@@ -4,7 +4,7 @@ use mathlib.Core.List.{List, [], ◌∷◌, ◌++◌, append-nil}
 use Prim.Native.Nat.{ℕ, ◌+◌, ◌-◌, ◌*◌, ◌≤◌, ◌<◌, min}
 use native.Mathlib.Omega.{arith}
 use native.Mathlib.Numerals.{add-one}
-use lib.ListN.{length, take, drop, set, replicate, length-set, length-replicate, drop_of_length-le}
+use lib.ListN.{length, take, drop, set, replicate, length-set, drop_of_length-le}
 use lib.Seq.{take-suc-set, append_snoc, drop-drop, drop-set-lt}
 use borrow.Author.Rules.{rules}
 use Rattle.wire.proofs.Parts.{drop_zeros}
@@ -21,19 +21,11 @@ pub record Gathering (m : List ℕ) (i count : ℕ) (list : List ℕ) (k : ℕ) 
   pub inside : k ≤ count
   pub long : length (peer_at m i).gids ≡ count
   pub left : take k list ++ drop k (peer_at m i).gids ≡ (peer_at m i).gids
-  pub zeros : drop k list ≡ replicate (gid_room - k) 0
 
-pub gathering_begins : {m : List ℕ} {i count n : ℕ} {list : List ℕ} → n ≡ word_at Little m (slot_start i + gids_at) → count ≡ min n gid_room → list ≡ replicate gid_room 0
+pub gathering_begins : {m : List ℕ} {i count n : ℕ} {list : List ℕ} → n ≡ word_at Little m (slot_start i + gids_at) → count ≡ min n gid_room → length list ≡ gid_room
     → Gathering m i count list 0
 gathering_begins {m} {i} e c l =
-    record {
-      few = omega arith;
-      sized = rw l (length-replicate {A = ℕ} gid_room 0);
-      inside = omega arith;
-      long = gids_many m (slot_start i) ∙ rw (← e) (sym c);
-      left = refl;
-      zeros = l;
-    }
+    record { few = omega arith; sized = l; inside = omega arith; long = gids_many m (slot_start i) ∙ rw (← e) (sym c); left = refl }
 
 module _ {m : List ℕ} {i count : ℕ} {list : List ℕ} {k : ℕ} (g : Gathering m i count list k) where
   pub gathering_more : k < count → {x : ℕ} → x ≡ word_at Little m (slot_start i + (first_gid + gid_width * k)) → Gathering m i count (set list k x) (k + 1)
@@ -43,7 +35,6 @@ module _ {m : List ℕ} {i count : ℕ} {list : List ℕ} {k : ℕ} (g : Gatheri
       let r = drop (k + 1) (peer_at m i).gids in
       let u : take (k + 1) (set list k x) ≡ take k list ++ (x ∷ []) = rw add-one (take-suc-set list k x (omega arith)) in
       let o : slot_start i + first_gid + gid_width * k ≡ slot_start i + (first_gid + gid_width * k) = omega arith in
-      let z : gid_room - k - 1 ≡ gid_room - (k + 1) = omega arith in
       let d : drop k (peer_at m i).gids ≡ x ∷ r = gid_next m (slot_start i) k (omega (arith, g.long)) ∙ rw (o, e) in
       record {
         few = f;
@@ -51,12 +42,6 @@ module _ {m : List ℕ} {i count : ℕ} {list : List ℕ} {k : ℕ} (g : Gatheri
         inside = omega arith;
         long = g.long;
         left = rw u (append_snoc (take k list) x r ∙ ap (λ (l : List ℕ). take k list ++ l) (sym d) ∙ g.left);
-        zeros =
-            drop-set-lt (k + 1) list k x (omega arith)
-            ∙ sym (drop-drop 1 k list)
-            ∙ ap (drop 1) g.zeros
-            ∙ drop_zeros 1 (gid_room - k)
-            ∙ ap (λ (n : ℕ). replicate n 0) z;
       }
 
   pub gathering_ends : count ≤ k → take count list ≡ (peer_at m i).gids
@@ -65,8 +50,15 @@ module _ {m : List ℕ} {i count : ℕ} {list : List ℕ} {k : ℕ} (g : Gatheri
       let n : drop count (peer_at m i).gids ≡ [] = drop_of_length-le (peer_at m i).gids {i = count} (omega (arith, g.long)) in
       sym (append-nil (take count list)) ∙ ap (λ (l : List ℕ). take count list ++ l) (sym n) ∙ rw e at g.left
 
-  -- the rest of the list is as it was
-  pub gathering_rest : count ≤ k → Filled list count
-  gathering_rest h = let e : k ≡ count = omega arith in record { few = g.few; sized = g.sized; rest = rw e at g.zeros }
+pub ruleset gathering = (gathering_begins, gathering_more, gathering_ends, rules)
 
-pub ruleset gathering = (gathering_begins, gathering_more, gathering_ends, gathering_rest, rules)
+-- ---- the zeros behind the gids, which are the list's own
+
+module _ {m : List ℕ} {i count : ℕ} {list : List ℕ} {k : ℕ} (g : Gathering m i count list k) (z : drop k list ≡ replicate (gid_room - k) 0) where
+  pub zeros_more : (x : ℕ) → drop (k + 1) (set list k x) ≡ replicate (gid_room - (k + 1)) 0
+  zeros_more x =
+      let e : gid_room - k - 1 ≡ gid_room - (k + 1) = omega arith in
+      drop-set-lt (k + 1) list k x (omega arith) ∙ sym (drop-drop 1 k list) ∙ ap (drop 1) z ∙ rw (← e) (drop_zeros 1 (gid_room - k))
+
+  pub gathered_whole : count ≤ k → Filled list count
+  gathered_whole h = let e : k ≡ count = omega (arith, g.inside) in record { few = g.few; sized = g.sized; rest = rw e at z }

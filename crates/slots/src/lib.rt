@@ -149,7 +149,8 @@ pub fn name_at(memory: &[u8], i: usize, j: usize) -> &[u8]
     &memory[from..to]
 }
 
-// The first of the names of slot i from `from` on that is this one.
+// The first of the names of slot i from `from` on that is this one. Inside the search of the slots a call for each would be dearer than the names.
+#[inline(always)]
 pub fn find_name(memory: &[u8], i: usize, name: &[u8], from: usize) -> Option<usize>
     requires { At memory.now i }
     ensures { FoundIn (λ x. same x name.now) (peer_at memory.now i).names from result }
@@ -163,6 +164,7 @@ pub fn find_name(memory: &[u8], i: usize, name: &[u8], from: usize) -> Option<us
 }
 
 // The peer of slot i has the name among those from `from` on.
+#[inline(always)]
 pub fn owns_name(memory: &[u8], i: usize, name: &[u8], from: usize) -> bool
     requires { At memory.now i }
     ensures { result ≡ owns (drop from (peer_at memory.now i).names) name.now }
