@@ -1,7 +1,8 @@
 // Who is meant by a destination: the bus, a peer by its unique name or a name that it owns, or nobody.
 #![tactic(auto)]
 
-ghost use Rattle.std.specs.Prelude.{◌≡◌, ◌≤◌, List, ℕ, length, drop};
+ghost use Rattle.std.specs.Prelude.{◌≡◌, ◌-◌, ◌≤◌, ◌++◌, List, ℕ, length, take, drop, replicate};
+ghost use Rattle.std.proofs.Common.{arith, length-drop, take-append-drop};
 ghost use Rattle.wire.specs.Bytes.{same};
 ghost use Rattle.rules.specs.Addresses.{unique_name, answers_to};
 ghost use Rattle.rules.specs.Calls.{slot_at};
@@ -14,9 +15,9 @@ ghost use Rattle.addresses.specs.Destinations.{Seeks, Resolved};
 use header::Place;
 use std::marker::Model;
 
-// A text at the end of 13 bytes, from `from` on.
-#[derive(Drop)]
-struct Text {
+// A text at the end of 13 bytes, from `from` on, with zeros in front of it, so that the text alone says the fields.
+#[derive(Clone, Copy)]
+pub struct Text {
     bytes: [u8; 13],
     from: usize,
 }
@@ -26,7 +27,12 @@ impl Model for Text {
 
     ghost view = { λ t. drop t.from t.bytes };
 
-    ghost invariant = { λ t. t.from ≤ 13 };
+    ghost invariant = { λ t. (t.from ≤ 13) × (length t.bytes ≡ 13) × (take t.from t.bytes ≡ replicate t.from 0) };
+
+    ghost inverse = { λ text. record { bytes = replicate (13 - length text) 0 ++ text; from = 13 - length text } };
+
+    ghost inverse_ok = { λ t h. let n : 13 - length (drop t.from t.bytes) ≡ t.from = omega (arith, length-drop t.from t.bytes, h.0, h.1) in
+        rw (n, ← h.2, take-append-drop t.from t.bytes) };
 }
 
 impl Text {

@@ -17,6 +17,12 @@ use Rattle.memory.proofs.Reading.{sixteen}
 use Rattle.memory.specs.Places.{FoundSlot}
 use Rattle.slots.proofs.Cells.{before}
 
+pub not_ltb : (a b : ℕ) → not (ltb a b) ≡ leb b a
+not_ltb a b = elim (dec_le b a) [
+  | yes h ↦ ap not (le-ltb a b h) ∙ sym (le-leb b a h)
+  | no h ↦ ap not (lt-ltb a b (omega arith)) ∙ sym (lt-leb b a (omega arith))
+]
+
 pub not_not : (z : Bool) → z ≡ not (not z)
 not_not true = refl
 not_not false = refl

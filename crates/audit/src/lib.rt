@@ -34,7 +34,8 @@ fn is_name_good(memory: &[u8], i: usize, j: usize) -> bool
     slots::find_owner(memory, name, i + 1).is_none()
 }
 
-// Every name of slot i is ownable, and stands once from there on.
+// Every name of slot i is ownable, and stands once from there on. By itself, since a search for each name is inside it.
+#[inline(never)]
 fn are_names_good(memory: &[u8], i: usize) -> bool
     requires { At memory.now i }
     ensures { result ≡ good_names (peer_at memory.now i).names (drop (i + 1) (state_of memory.now).slots) }

@@ -12,16 +12,16 @@ use Rattle.memory.proofs.Reading.{sixteen}
 -- ---- of any list
 
 module _ {A : Type 0} (t : A → Bool) where
-  first_hit : (l : List A) (i : ℕ) (d : A) → i < length l → t (get_or l i d) ≡ true → first_by t (drop i l) ≡ 0
+  pub first_hit : (l : List A) (i : ℕ) (d : A) → i < length l → t (get_or l i d) ≡ true → first_by t (drop i l) ≡ 0
   unfolding first_by
   first_hit l i d h e = rw (drop-cons l i d h, e)
 
-  first_miss : (l : List A) (i : ℕ) (d : A) → i < length l → t (get_or l i d) ≡ false
+  pub first_miss : (l : List A) (i : ℕ) (d : A) → i < length l → t (get_or l i d) ≡ false
       → first_by t (drop i l) ≡ suc (first_by t (drop (i + 1) l))
   unfolding first_by
   first_miss l i d h e = rw (drop-cons l i d h, e, add-one i)
 
-  first_none : (l : List A) (i : ℕ) → length l ≤ i → first_by t (drop i l) ≡ 0
+  pub first_none : (l : List A) (i : ℕ) → length l ≤ i → first_by t (drop i l) ≡ 0
   unfolding first_by
   first_none l i e = rw (drop_of_length-le l e)
 

@@ -1,7 +1,8 @@
 // Readings of the guard's memory: the words of a slot, and which slot a peer has.
 #![tactic(auto)]
 
-ghost use Rattle.std.specs.Prelude.{◌≡◌, ◌+◌, ◌*◌, ◌≤◌, ◌<◌, List, ℕ, length, take, drop, get_or};
+ghost use Rattle.std.specs.Prelude.{◌≡◌, ◌+◌, ◌-◌, ◌*◌, ◌≤◌, ◌<◌, ◌++◌, List, ℕ, length, take, drop, replicate, get_or};
+ghost use Rattle.std.proofs.Common.{arith, take-append-drop, length-take-le};
 ghost use Rattle.wire.specs.Words.{word_at, long_at};
 ghost use Rattle.wire.specs.declared.Order.TheVariants.{Little};
 ghost use Rattle.rules.specs.State.{is_free, is_peer};
@@ -12,7 +13,7 @@ ghost use Rattle.policy.specs.Names.{owns, name_width};
 ghost use Rattle.memory.specs.Layout.{memory_length, slot_length, slot_start, call_room, first_name, name_room, gid_room};
 ghost use Rattle.memory.specs.Encoding.{state_of};
 ghost use Rattle.memory.specs.Places.{number_at, FoundSlot};
-ghost use Rattle.slots.specs.Slots.{peer_at, name_at, At, FoundIn};
+ghost use Rattle.slots.specs.Slots.{peer_at, name_at, At, FoundIn, Filled};
 
 use memory::{
     CALL_ROOM, CALL_WIDTH, FIRST_CALLEE, FIRST_GID, FIRST_NAME, FIRST_SERIAL, GID_ROOM, GID_WIDTH,
@@ -21,8 +22,8 @@ use memory::{
 use std::marker::Model;
 use wire::Order;
 
-// A peer's gids: the first `count` of the list.
-#[derive(Drop)]
+// A peer's gids: the first `count` of the list, with zeros behind them, so that the gids alone say the fields.
+#[derive(Clone, Copy)]
 pub struct Gids {
     list: [u32; GID_ROOM],
     count: usize,
@@ -33,7 +34,12 @@ impl Model for Gids {
 
     ghost view = { λ g. take g.count g.list };
 
-    ghost invariant = { λ g. g.count ≤ gid_room };
+    ghost invariant = { λ g. Filled g.list g.count };
+
+    ghost inverse = { λ gids. record { list = gids ++ replicate (gid_room - length gids) 0; count = length gids } };
+
+    ghost inverse_ok = { λ g h. let n : length (take g.count g.list) ≡ g.count = length-take-le g.count g.list (omega (arith, h.few, h.sized)) in
+        rw (n, ← h.rest, take-append-drop g.count g.list) };
 }
 
 impl Gids {
@@ -143,15 +149,22 @@ pub fn name_at(memory: &[u8], i: usize, j: usize) -> &[u8]
     &memory[from..to]
 }
 
-// The first of the names of slot i from `from` on that is this one.
+// The first of the names of slot i from `from` on that is this one. Inside the search of the slots a call for each would be dearer than the names.
+#[inline(always)]
 pub fn find_name(memory: &[u8], i: usize, name: &[u8], from: usize) -> Option<usize>
     requires { At memory.now i }
     ensures { FoundIn (λ x. same x name.now) (peer_at memory.now i).names from result }
 {
-    (from..count_names(memory, i)).find(|&j| wire::equal(name_at(memory, i, j), name))
+    for j in from..count_names(memory, i) {
+        if wire::equal(name_at(memory, i, j), name) {
+            return Some(j);
+        }
+    }
+    None
 }
 
 // The peer of slot i has the name among those from `from` on.
+#[inline(always)]
 pub fn owns_name(memory: &[u8], i: usize, name: &[u8], from: usize) -> bool
     requires { At memory.now i }
     ensures { result ≡ owns (drop from (peer_at memory.now i).names) name.now }
@@ -172,7 +185,12 @@ pub fn find_owner(memory: &[u8], name: &[u8], from: usize) -> Option<usize>
     requires { (length memory.now ≡ memory_length) × (from ≤ 16) }
     ensures { FoundSlot (is_owner name.now) memory.now from result }
 {
-    (from..16).find(|&i| is_owner(memory, i, name))
+    for i in from..16 {
+        if is_owner(memory, i, name) {
+            return Some(i);
+        }
+    }
+    None
 }
 
 // The first pending call from `from` on of slot i that is for this callee and serial.
