@@ -1,18 +1,19 @@
 -- The search of a section, from its last rule to its first and from the highest context to the lowest.
 use Rattle.std.proofs.Common.{◌≡◌, ℕ, zero, suc, ◌+◌, ◌-◌, ◌*◌, ◌/◌, ◌≤◌, ◌<◌, Bool, true, false, List, length, get_or, eqb, refl, sym, rules, arith, ◌∙◌}
 use mathlib.Core.Bool.{false≢true}
-use Rattle.std.proofs.lemmas.Bool.{cases_lt}
-use mathlib.Core.Logic.{inl, inr, ⊎_elim}
+use mathlib.Core.Logic.{⊎_elim}
+use mathlib.Core.Option.{some}
+use mathlib.Core.Path.{subst}
 use native.Mathlib.Nat.{eq-or-lt_of_le, mul-suc, mul-div_cancel_left}
 use Rattle.image.specs.Image.{rule_count, rule_offset, rule_size, rule_place}
 use Rattle.image.specs.Promises.{GoodImage}
 use Rattle.image.specs.declared.Section.{Section}
 use Rattle.image.specs.declared.Section.TheVariants.{Connect, Own, Transaction}
 use Rattle.image.proofs.RuleHolds.{rule_context, rule_verdict_lem, own_holds, transaction_holds}
-use Rattle.policy.specs.Precedence.{deciding, Beats}
+use Rattle.policy.specs.Precedence.{deciding}
 use Rattle.policy.specs.Decisions.{context_in, decides_in, decision_in}
 use Rattle.policy.specs.declared.Decider.TheVariants.{Nobody, Rule}
-use Rattle.policy.proofs.Decides.{deciding_only, deciding_nothing}
+use Rattle.policy.proofs.Precedence.{Searching, begin, down, over, pass, found}
 use Rattle.header.specs.declared.Header.{Header}
 use Rattle.matching.specs.Promises.{OwnAt, TransactionAt, RuleAsked}
 use Rattle.decide.specs.Promises.{Asked, Tells, NoneFrom, IsLast}
@@ -126,45 +127,62 @@ module _ {tells : ℕ → Bool → Type 0} {s : Section} {image : List ℕ} {con
 
 -- ---- down through the contexts
 
--- no rule of a context or a higher one matches
-abbrev pub NoneAbove : Section → List ℕ → (ℕ → Bool) → ℕ → Type 0
-NoneAbove s image matches c = (j : ℕ) → j < rule_count s image → c ≤ context_in s image j → matches j ≡ false
+-- the search has come to the contexts below c, each with all its rules; below 0 there is none, and all has been gone through
+abbrev pub SearchingBelow : Section → List ℕ → (ℕ → Bool) → ℕ → Type 0
+SearchingBelow s image matches zero = Searching (context_in s image) matches (rule_count s image) 0 0
+SearchingBelow s image matches (suc c) = Searching (context_in s image) matches (rule_count s image) c (rule_count s image)
 
-pub above_begins : {image : List ℕ} → GoodImage image → (s : Section) (matches : ℕ → Bool) → NoneAbove s image matches 4
-above_begins g s matches j l h = absurd (omega (arith, rule_context g s j l))
+few : {image : List ℕ} → GoodImage image → (s : Section) → rule_count s image ≤ 512
+few g Connect = omega (arith, g.header.connects)
+few g Own = omega (arith, g.header.owns)
+few g Transaction = g.header.transactions
+
+pub above_begins : {image : List ℕ} → GoodImage image → (s : Section) (matches : ℕ → Bool) → SearchingBelow s image matches 4
+above_begins g s matches = begin (omega (arith, few g s)) (λ j l. omega (arith, rule_context g s j l))
+
+-- the search passes the rules from a position on, of which none is of the context and matches
+passed : {context_of : ℕ → ℕ} {matches : ℕ → Bool} {n context : ℕ} (low d : ℕ) → Searching context_of matches n context (low + d)
+    → NoneFrom context_of matches context n low → Searching context_of matches n context low
+passed low zero u v = let e : low + 0 ≡ low = omega arith in rw e at u
+passed low (suc d) u v =
+    let e : low + suc d - 1 ≡ low + d = omega arith in
+    passed low d
+    (rw e at (pass u (λ z. omega arith) (λ h m. false≢true (sym (v (low + suc d - 1) (omega arith) (omega (arith, u.inside)) h) ∙ m)))) v
 
 module _ (s : Section) (image : List ℕ) (matches : ℕ → Bool) where
-  pub above_over : {c : ℕ} → c ≤ 0 → NoneAbove s image matches c → record { allow = false; rule = Nobody } ≡ decision_in s image (decides_in s image matches)
+  pub above_over : (c : ℕ) → c ≤ 0 → SearchingBelow s image matches c → record { allow = false; rule = Nobody } ≡ decision_in s image (decides_in s image matches)
   unfolding decides_in
-  above_over z u = rw (deciding_nothing (context_in s image) matches (rule_count s image) (λ j l. u j l (omega arith)))
+  above_over zero z u = rw (over u refl refl)
+  above_over (suc c) z u = absurd (omega arith)
 
-  module _ {c : ℕ} (z : 0 < c) (u : NoneAbove s image matches c) where
-    pub above_more : NoneFrom (context_in s image) matches (c - 1) (rule_count s image) 0 → NoneAbove s image matches (c - 1)
-    above_more v j l h =
-        ⊎_elim (λ (q : c - 1 ≡ context_in s image j). v j (omega arith) l (sym q)) (λ (q : c - 1 < context_in s image j). u j l (omega arith))
-        (eq-or-lt_of_le h)
+  -- from a context to the next
+  next : (c : ℕ) → Searching (context_in s image) matches (rule_count s image) c 0 → SearchingBelow s image matches c
+  next zero u = u
+  next (suc c) u = let e : suc c - 1 ≡ c = omega arith in rw e at (down u refl (λ z. omega arith))
 
-    module _ {i : ℕ} (k : IsLast (context_in s image) matches (c - 1) (rule_count s image) i) where
-      -- every other rule that matches is of a lower context or stands before it
-      beaten : (j : ℕ) → j < rule_count s image → matches j ≡ true → (j ≡ i → ⊥) → Beats (context_in s image) i j
-      beaten j l m d =
-          ⊎_elim
-          (λ (q : context_in s image j < c - 1). inl (omega (arith, k.here)))
-          (λ (q : c - 1 ≤ context_in s image j).
-          ⊎_elim
-          (λ (e : c - 1 ≡ context_in s image j).
-          inr (
-            sym e ∙ sym k.here,
-            ⊎_elim (λ (b : j < i). b) (λ (b : i ≤ j). absurd (false≢true (sym (k.none_behind j (omega (arith, d)) l (sym e)) ∙ m)))
-                (cases_lt j i),
-          ))
-          (λ (b : c - 1 < context_in s image j). absurd (false≢true (sym (u j l (omega arith)) ∙ m)))
-          (eq-or-lt_of_le q))
-          (cases_lt (context_in s image j) (c - 1))
+  pub above_more : (c d : ℕ) {context : ℕ} → d + 1 ≡ c → context ≡ d → SearchingBelow s image matches c
+      → NoneFrom (context_in s image) matches context (rule_count s image) 0 → SearchingBelow s image matches d
+  above_more zero d z e u v = absurd (omega arith)
+  above_more (suc c) d z e u v =
+      let q : d ≡ c = omega arith in
+      let all : rule_count s image ≡ 0 + rule_count s image = omega arith in
+      rw q
+      (next c (passed 0 (rule_count s image) (subst (Searching (context_in s image) matches (rule_count s image) c) all u) (rw (e, q) at v)))
 
-      pub above_found : record { allow = eqb (get_or image (rule_place s image i + 1) 0) 1; rule = Rule s i } ≡ decision_in s image (decides_in s image matches)
-      unfolding decides_in
-      above_found = rw (deciding_only (context_in s image) matches (rule_count s image) i (record { inside = k.inside; fits = k.fits; beats = beaten }))
+  first : {c i : ℕ} → Searching (context_in s image) matches (rule_count s image) c (rule_count s image)
+      → IsLast (context_in s image) matches c (rule_count s image) i → deciding (context_in s image) matches (rule_count s image) ≡ some i
+  first {c} {i} u k =
+      let e : rule_count s image ≡ i + 1 + (rule_count s image - (i + 1)) = omega (arith, k.inside) in
+      let p : i + 1 - 1 ≡ i = omega arith in
+      rw p at (found (passed (i + 1) (rule_count s image - (i + 1)) (subst (Searching (context_in s image) matches (rule_count s image) c) e u) k.none_behind)
+      (λ z. omega arith) (rw p k.here) (rw p k.fits))
+
+  pub above_found : (c d : ℕ) {context i : ℕ} → d + 1 ≡ c → context ≡ d → SearchingBelow s image matches c
+      → IsLast (context_in s image) matches context (rule_count s image) i
+      → record { allow = eqb (get_or image (rule_place s image i + 1) 0) 1; rule = Rule s i } ≡ decision_in s image (decides_in s image matches)
+  unfolding decides_in
+  above_found zero d z e u k = absurd (omega arith)
+  above_found (suc c) d z e u k = let q : d ≡ c = omega arith in rw (first u (rw (e, q) at k))
 
 -- ---- where the rules of a good image may be read
 

@@ -1,1 +1,2 @@
 mod Down
+mod Rulings

@@ -293,14 +293,16 @@ pub fn text(image: &[u8], strings: usize, at: usize) -> &[u8]
 
 // ---- the image
 
-// Every rule of the section.
+// Every rule of the section, from the last to the first; the first bad one that is met ends it.
 fn are_rules(section: Section, image: &[u8]) -> bool
     requires { GoodImageHeader image.now }
     ensures { result ≡ good_section section image.now }
 {
     let strings = word(image, STRING_OFFSET);
     let from = section.offset(image);
-    (0..section.count(image)).all(|i| is_rule(section, image, strings, from, i))
+    (0..section.count(image))
+        .rev()
+        .all(|i| is_rule(section, image, strings, from, i))
 }
 
 // The whole image is tested, whatever its caller goes on to read.

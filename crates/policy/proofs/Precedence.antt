@@ -1,4 +1,4 @@
--- A search from the highest precedence down finds the rule that decides, in any section, however it is written; `decide` proves its own two loops. A precedence is one number: the context, times
+-- A search from the highest precedence down finds the rule that decides, in any section. A precedence is one number: the context, times
 -- 2 ^ 64, and the position, which is below 2 ^ 64.
 use mathlib.Core.Path.{◌≡◌, refl, subst}
 use mathlib.Core.Logic.{inl, inr, ⊎_elim}
