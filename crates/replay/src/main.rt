@@ -20,6 +20,8 @@ mod shown;
 use capture::Capture;
 use fault::Fault;
 use host::Host;
+use ledger::Ledger;
+use memory::MEMORY_LENGTH;
 use session::Session;
 use std::fs::File;
 use std::io::{BufWriter, Write};
@@ -32,7 +34,45 @@ const GATHERED: usize = 65536;
 // Of an image so many bytes are kept: one more than an image can have, so that too long stays too long.
 const IMAGE_ROOM: usize = 65537;
 
-// The lines of a capture up to its end or its first fault.
+// The answers of the calls, and what the ledger has behind them, where one is kept.
+fn answer(
+    capture: Capture,
+    image: &[u8],
+    memory: &mut [u8; MEMORY_LENGTH],
+    ledger: Option<&mut Ledger>,
+    out: &mut impl Write,
+) -> Result<(), Fault> {
+    let host = Host::new(image, memory, ledger);
+    Session::new(capture, host, out).run()
+}
+
+fn answer_with_waits(
+    capture: Capture,
+    image: &[u8],
+    memory: &mut [u8; MEMORY_LENGTH],
+    out: &mut impl Write,
+) -> Result<(), Fault> {
+    let mut ledger = Ledger::new();
+    answer(capture, image, memory, Some(&mut ledger), out)
+}
+
+// The lines of a capture up to its end or its first fault. All the room that its calls can need is there before the first.
+fn answer_all(
+    mut capture: Capture,
+    shows_waits: bool,
+    out: &mut impl Write,
+) -> Result<(), Fault> {
+    let mut image = [0; IMAGE_ROOM];
+    let mut memory = [0; MEMORY_LENGTH];
+    let length = capture.next_u32()?;
+    let image = capture.bytes(length, &mut image)?;
+    if shows_waits {
+        answer_with_waits(capture, image, &mut memory, out)
+    } else {
+        answer(capture, image, &mut memory, None, out)
+    }
+}
+
 fn replay(
     rt: &(impl Files<File = File> + AllocGlobal),
     path: Option<String>,
@@ -41,11 +81,7 @@ fn replay(
 ) -> Result<(), Fault> {
     let path = path.ok_or(Fault::BadCapture)?;
     let file = File::open(rt, path).map_err(|_| Fault::BadCapture)?;
-    let mut capture = Capture::new(rt.alloc(), file)?;
-    let length = capture.next_u32()?;
-    let image = capture.bytes(length, IMAGE_ROOM)?;
-    let host = Host::new(rt.alloc(), image, shows_waits)?;
-    Session::new(capture, host, out).run()
+    answer_all(Capture::new(rt.alloc(), file)?, shows_waits, out)
 }
 
 // The capture that this argument names.
