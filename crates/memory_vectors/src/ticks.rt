@@ -4,7 +4,7 @@ ghost use Rattle.std.specs.Prelude.{◌<◌};
 use crate::bench::Bench;
 use crate::change::Change;
 use crate::change::Change::{Byte, Long, Word};
-use memory::{CALL_ROOM, CALL_WIDTH, FIRST_TICK, PENDING_AT, SLOT_LENGTH, SLOTS_AT, TICK_AT};
+use memory::{CALL_ROOM, CALL_WIDTH, FIRST_TICK, PENDING_AT, SLOT_LENGTH, SLOTS_AT};
 use std::alloc::AllocError;
 use std::io;
 use wire::Order;
@@ -15,6 +15,8 @@ pub const FIRST: u64 = 3;
 /// That of its second call, at 116, and the last tick, at 4. Its bytes are 1, 2 and on to 8, so that each can be one more or one less with no carry.
 pub const LAST: u64 = 0x0807_0605_0403_0201;
 
+const LAST_TICK: usize = 4;
+
 const FIRST_CALL: usize = 100;
 
 const SECOND_CALL: usize = 116;
@@ -22,15 +24,15 @@ const SECOND_CALL: usize = 116;
 /// The memory that the calls leave, with the last tick or a call's another.
 pub fn show(bench: &Bench<impl Print>) -> io::Result<()> {
     bench.cases(&[
-        ("last tick one more", Long(TICK_AT, LAST + 1)),
+        ("last tick one more", Long(LAST_TICK, LAST + 1)),
         (
             "last tick 18,446,744,073,709,551,615",
-            Long(TICK_AT, u64::MAX),
+            Long(LAST_TICK, u64::MAX),
         ),
-        ("last tick one less", Long(TICK_AT, LAST - 1)),
-        ("last tick 0", Long(TICK_AT, 0)),
+        ("last tick one less", Long(LAST_TICK, LAST - 1)),
+        ("last tick 0", Long(LAST_TICK, 0)),
     ])?;
-    show_bytes(bench, "last tick", TICK_AT)?;
+    show_bytes(bench, "last tick", LAST_TICK)?;
     bench.cases(&[
         ("call of tick 0", Long(FIRST_CALL, 0)),
         ("call of the last tick", Long(FIRST_CALL, LAST)),
@@ -73,7 +75,7 @@ fn show_bytes(bench: &Bench<impl Print>, what: &str, at: usize) -> io::Result<()
 fn show_pairs(bench: &Bench<impl Print>) -> io::Result<()> {
     bench.case(
         "both ticks 18,446,744,073,709,551,615",
-        &[Long(TICK_AT, u64::MAX), Long(FIRST_CALL, u64::MAX)],
+        &[Long(LAST_TICK, u64::MAX), Long(FIRST_CALL, u64::MAX)],
     )?;
     bench.case(
         "the same call twice, of one tick",

@@ -5,6 +5,9 @@ use image::Section;
 use policy::NAME_WIDTH;
 use std::alloc::{AllocError, Global};
 
+// How many bytes an image has.
+const IMAGE_LENGTH: u32 = 637;
+
 #[derive(Drop)]
 struct ImageWriter {
     seed: usize,
@@ -30,7 +33,7 @@ impl ImageWriter {
 
     // The total, and the count and the offset of each section and of the strings.
     fn push_header(&mut self) -> Result<(), AllocError> {
-        for word in [637, 4, 32, 4, 64, 12, 128, 608] {
+        for word in [IMAGE_LENGTH, 4, 32, 4, 64, 12, 128, 608] {
             self.push_word(word)?;
         }
         Ok(())
@@ -98,7 +101,7 @@ impl ImageWriter {
 }
 
 pub fn image(alloc: Global, seed: usize) -> Result<Vec<u8>, AllocError> {
-    let bytes = Vec::new(alloc);
+    let bytes = Vec::with_capacity(alloc, IMAGE_LENGTH as usize)?;
     let mut image = ImageWriter { seed, bytes };
     image.push_header()?;
     image.push_rules(Section::Connect, 4)?;
@@ -111,7 +114,7 @@ pub fn image(alloc: Global, seed: usize) -> Result<Vec<u8>, AllocError> {
 // Four cells, each empty or with a name behind its length.
 pub fn names(alloc: Global, seed: usize) -> Result<Vec<u8>, AllocError> {
     let choices = Choices::new(seed, 3000);
-    let mut names = Vec::new(alloc);
+    let mut names = Vec::with_capacity(alloc, 4 * NAME_WIDTH)?;
     for cell in 0..4 {
         let name = choices.pick(
             cell,

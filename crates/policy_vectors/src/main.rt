@@ -16,7 +16,7 @@ use std::io;
 fn letters(alloc: Global, seed: usize) -> Result<String, AllocError> {
     let image = images::image(alloc, seed)?;
     let names = images::names(alloc, seed)?;
-    let mut letters = String::new(alloc);
+    let mut letters = String::with_capacity(alloc, 63)?;
     if let Some(questions) = Questions::new(seed, &image, &names) {
         questions.ask(&mut letters)?;
     }

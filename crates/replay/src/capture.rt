@@ -12,7 +12,6 @@ const PART: usize = 65536;
 // A read that fails, and an end of the file inside what is asked for, are a bad capture.
 #[derive(Drop)]
 pub struct Capture {
-    alloc: Global,
     input: BufReader<File>,
 }
 
@@ -20,7 +19,7 @@ impl Capture {
     // Nothing of the file is read yet.
     pub fn new(alloc: Global, file: File) -> Result<Capture, Fault> {
         let input = BufReader::with_capacity(alloc, PART, file)?;
-        Ok(Capture { alloc, input })
+        Ok(Capture { input })
     }
 
     // What is read of the file and not yet used. Once all of that is used the next part is read, and none is left at the end.
@@ -53,16 +52,23 @@ impl Capture {
         self.input.read_exact(into).map_err(|_| Fault::BadCapture)
     }
 
-    pub fn next_u32(&mut self) -> Result<u32, Fault> {
-        let mut bytes = [0; 4];
+    // The next `N` bytes. They are mostly read already.
+    fn chunk<const N: usize>(&mut self) -> Result<[u8; N], Fault> {
+        if let Some(&bytes) = self.input.buffer().first_chunk::<N>() {
+            self.consume(N);
+            return Ok(bytes);
+        }
+        let mut bytes = [0; N];
         self.read_exact(&mut bytes)?;
-        Ok(u32::from_le_bytes(bytes))
+        Ok(bytes)
+    }
+
+    pub fn next_u32(&mut self) -> Result<u32, Fault> {
+        Ok(u32::from_le_bytes(self.chunk()?))
     }
 
     pub fn next_u64(&mut self) -> Result<u64, Fault> {
-        let mut bytes = [0; 8];
-        self.read_exact(&mut bytes)?;
-        Ok(u64::from_le_bytes(bytes))
+        Ok(u64::from_le_bytes(self.chunk()?))
     }
 
     pub fn skip(&mut self, length: usize) -> Result<(), Fault> {
@@ -75,25 +81,23 @@ impl Capture {
         Ok(())
     }
 
-    // The next `length` bytes, of which the first `room` are kept.
-    pub fn bytes(&mut self, length: u32, room: usize) -> Result<Vec<u8>, Fault> {
+    // The next `length` bytes, of which those are kept that fit into the room.
+    pub fn bytes<'a>(&mut self, length: u32, room: &'a mut [u8]) -> Result<&'a [u8], Fault> {
         let length = length as usize;
-        let kept = length.min(room);
-        let mut bytes = vec![in self.alloc; 0u8; kept]?;
-        self.read_exact(bytes.as_mut_slice())?;
+        let kept = length.min(room.len());
+        self.read_exact(&mut room[..kept])?;
         self.skip(length - kept)?;
-        Ok(bytes)
+        Ok(&room[..kept])
     }
 
-    // The next `count` numbers, of which the first `room` are kept.
-    pub fn words(&mut self, count: u32, room: usize) -> Result<Vec<u32>, Fault> {
+    // The next `count` numbers, of which those are kept that fit into the room.
+    pub fn words<'a>(&mut self, count: u32, room: &'a mut [u32]) -> Result<&'a [u32], Fault> {
         let count = count as usize;
-        let kept = count.min(room);
-        let mut words = Vec::with_capacity(self.alloc, kept)?;
-        for _ in 0..kept {
-            words.push(self.next_u32()?)?;
+        let kept = count.min(room.len());
+        for word in &mut room[..kept] {
+            *word = self.next_u32()?;
         }
         self.skip(4 * (count - kept))?;
-        Ok(words)
+        Ok(&room[..kept])
     }
 }

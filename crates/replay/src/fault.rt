@@ -1,5 +1,4 @@
 // What ends a replay before the capture's end.
-use std::alloc::{AllocError, AllocFailed};
 use std::io;
 
 #[derive(Drop)]
@@ -13,17 +12,5 @@ pub enum Fault {
 impl From<io::Error> for Fault {
     fn from(error: io::Error) -> Fault {
         Fault::Io(error)
-    }
-}
-
-impl From<AllocError> for Fault {
-    fn from(error: AllocError) -> Fault {
-        Fault::Io(io::Error::from(error))
-    }
-}
-
-impl<T: Drop> From<AllocFailed<T>> for Fault {
-    fn from(error: AllocFailed<T>) -> Fault {
-        Fault::from(AllocError::from(error))
     }
 }

@@ -8,6 +8,8 @@
 // passed to a peer, how many of those were replied to, and how many ended otherwise: the callee disconnected, or a tick found them old enough.
 #![tactic(auto)]
 
+ghost use Rattle.std.specs.Prelude.{◌≤◌};
+
 mod call;
 mod capture;
 mod fault;
@@ -20,6 +22,8 @@ mod shown;
 use capture::Capture;
 use fault::Fault;
 use host::Host;
+use ledger::Ledger;
+use memory::MEMORY_LENGTH;
 use session::Session;
 use std::fs::File;
 use std::io::{BufWriter, Write};
@@ -32,6 +36,51 @@ const GATHERED: usize = 65536;
 // Of an image so many bytes are kept: one more than an image can have, so that too long stays too long.
 const IMAGE_ROOM: usize = 65537;
 
+// An image of at most so many bytes gets room for these alone, which is sooner cleared.
+const SHORT_IMAGE: usize = 4096;
+
+// The answers of the calls, and what the ledger has behind them, where one is kept.
+fn answer(
+    capture: Capture,
+    image: &[u8],
+    memory: &mut [u8; MEMORY_LENGTH],
+    ledger: Option<&mut Ledger>,
+    out: &mut impl Write,
+) -> Result<(), Fault> {
+    let host = Host::new(image, memory, ledger);
+    Session::new(capture, host, out).run()
+}
+
+// Apart, so that a run that keeps no ledger clears no room for one.
+fn answer_with_waits(
+    capture: Capture,
+    image: &[u8],
+    memory: &mut [u8; MEMORY_LENGTH],
+    out: &mut impl Write,
+) -> Result<(), Fault> {
+    let mut ledger = Ledger::new();
+    answer(capture, image, memory, Some(&mut ledger), out)
+}
+
+// The answers to a capture from its image on. Of the image `ROOM` bytes are kept. All the room that the calls can need is there before the first.
+fn answer_all<const ROOM: usize>(
+    mut capture: Capture,
+    length: u32,
+    shows_waits: bool,
+    out: &mut impl Write,
+) -> Result<(), Fault>
+    requires { ROOM ≤ 65537 }
+{
+    let mut image = [0; ROOM];
+    let mut memory = [0; MEMORY_LENGTH];
+    let image = capture.bytes(length, &mut image)?;
+    if shows_waits {
+        answer_with_waits(capture, image, &mut memory, out)
+    } else {
+        answer(capture, image, &mut memory, None, out)
+    }
+}
+
 // The lines of a capture up to its end or its first fault.
 fn replay(
     rt: &(impl Files<File = File> + AllocGlobal),
@@ -43,9 +92,11 @@ fn replay(
     let file = File::open(rt, path).map_err(|_| Fault::BadCapture)?;
     let mut capture = Capture::new(rt.alloc(), file)?;
     let length = capture.next_u32()?;
-    let image = capture.bytes(length, IMAGE_ROOM)?;
-    let host = Host::new(rt.alloc(), image, shows_waits)?;
-    Session::new(capture, host, out).run()
+    if length as usize <= SHORT_IMAGE {
+        answer_all::<SHORT_IMAGE>(capture, length, shows_waits, out)
+    } else {
+        answer_all::<IMAGE_ROOM>(capture, length, shows_waits, out)
+    }
 }
 
 // The capture that this argument names.

@@ -16,7 +16,7 @@ const NAME_ROOM: usize = 256;
 #[derive(Drop)]
 pub struct Session<'a, W: Write> {
     capture: Capture,
-    host: Host,
+    host: Host<'a>,
     out: &'a mut W,
 }
 
@@ -28,7 +28,7 @@ struct Fed {
 }
 
 impl<'a, W: Write> Session<'a, W> {
-    pub fn new(capture: Capture, host: Host, out: &'a mut W) -> Session<'a, W> {
+    pub fn new(capture: Capture, host: Host<'a>, out: &'a mut W) -> Session<'a, W> {
         Session { capture, host, out }
     }
 
@@ -65,8 +65,9 @@ impl<'a, W: Write> Session<'a, W> {
 
     fn connect(&mut self, count: u32) -> Result<(), Fault> {
         let uid = self.capture.next_u32()?;
-        let gids = self.capture.words(count, GID_ROOM)?;
-        let report = self.host.connect(uid, &gids)?;
+        let mut room = [0; GID_ROOM];
+        let gids = self.capture.words(count, &mut room)?;
+        let report = self.host.connect(uid, gids);
         let rule = RuleNumbers(report.rule);
         writeln!(
             self.out,
@@ -78,8 +79,9 @@ impl<'a, W: Write> Session<'a, W> {
 
     fn own(&mut self, length: u32) -> Result<(), Fault> {
         let peer = self.capture.next_u32()?;
-        let name = self.capture.bytes(length, NAME_ROOM)?;
-        let report = self.host.own(peer, &name);
+        let mut room = [0; NAME_ROOM];
+        let name = self.capture.bytes(length, &mut room)?;
+        let report = self.host.own(peer, name);
         writeln!(
             self.out,
             "own {} {}",
@@ -91,8 +93,9 @@ impl<'a, W: Write> Session<'a, W> {
 
     fn release(&mut self, length: u32) -> Result<(), Fault> {
         let peer = self.capture.next_u32()?;
-        let name = self.capture.bytes(length, NAME_ROOM)?;
-        let answer = self.host.release(peer, &name);
+        let mut room = [0; NAME_ROOM];
+        let name = self.capture.bytes(length, &mut room)?;
+        let answer = self.host.release(peer, name);
         writeln!(self.out, "release {answer}")?;
         Ok(())
     }
@@ -118,7 +121,7 @@ impl<'a, W: Write> Session<'a, W> {
         loop {
             let bytes = self.capture.part(left)?;
             let count = bytes.len();
-            let part = self.host.piece(peer, bytes)?;
+            let part = self.host.piece(peer, bytes);
             self.capture.consume(count);
             left -= count;
             taken = taken.wrapping_add(part.taken as u64);
