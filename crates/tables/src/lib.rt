@@ -6,22 +6,12 @@ ghost use Rattle.wire.specs.Words.{word_bytes};
 ghost use Rattle.tables.specs.Tables.{cells};
 ghost use Rattle.tables.specs.Cut.{cut_out, Cell};
 
-// Moves the bytes from `at` + w up to `end` down by w. Cells are short: a loop needs no memmove of a C library, which `copy_within` would call.
-fn shift(s: &mut [u8], at: usize, w: usize, end: usize)
-    requires { Cell s.old at w end }
-    ensures { s.new ≡ take at s.old ++ (take (end - (at + w)) (drop (at + w) s.old) ++ drop (end - w) s.old) }
-{
-    for i in 0..end - (at + w) {
-        s[at + i] = s[at + w + i];
-    }
-}
-
 // Takes the w bytes at `at` out of the first `end`: the later ones move down, and the last w of them are zero.
 fn cut_out(s: &mut [u8], at: usize, w: usize, end: usize)
     requires { Cell s.old at w end }
     ensures { s.new ≡ cut_out w end at s.old }
 {
-    shift(s, at, w, end);
+    s.copy_within(at + w..end, at);
     let from = end - w;
     s[from..end].fill(0);
 }
