@@ -6,12 +6,11 @@ use Prim.Native.Nat.{ℕ, zero, suc, ◌+◌, ◌-◌, ◌/◌, ◌%◌, ◌≤�
 use native.Mathlib.Omega.{arith}
 use native.Mathlib.Numerals.{add-one}
 use lib.Dec.{ltb, eqb}
-use lib.ListN.{length, take, drop, set, replicate, length-set, drop_of_length-le}
-use lib.Seq.{sets-eq, drop-cons, drop_at, get_or-set_same, drop-set-lt, take-set-le, length-take-le, take-take}
+use lib.ListN.{length, take, drop, set, length-set, drop_of_length-le}
+use lib.Seq.{sets-eq, drop-cons, drop_at, get_or-set_same, drop-set-lt, length-take-le}
 use borrow.Author.Rules.{rules}
 use borrow.Author.Tests.{ltb-true, lt-ltb, eqb-true, eq-eqb, ne_eqb, not-true, not-false}
 use Rattle.wire.specs.Bytes.{byte, front, same}
-use Rattle.wire.proofs.Parts.{take_zeros}
 use Rattle.wire.proofs.Texts.{both_first, both_second}
 use Rattle.rules.specs.Addresses.{digits, unique_name}
 
@@ -84,27 +83,6 @@ module _ {number : ℕ} {bytes : List ℕ} {k n : ℕ} (s : Spelling number byte
     spelled = put_prefix bytes (k - 3) k (omega arith) (omega arith) ∙ rw (s.left ∙ none_left)
 
 pub ruleset spelling = (spelling_begins, spelling_more, spelled, rules)
-
--- ---- the zeros in front of the digits, which are the text's own
-
-module _ {number : ℕ} {bytes : List ℕ} {k n : ℕ} (s : Spelling number bytes k n) (z : take k bytes ≡ replicate k 0) where
-  front_zeros : (j : ℕ) → j ≤ k → take j bytes ≡ replicate j 0
-  front_zeros j h = sym (take-take j k bytes h) ∙ ap (take j) z ∙ take_zeros j k h
-
-  pub zeros_more : (x : ℕ) → take (k - 1) (set bytes (k - 1) x) ≡ replicate (k - 1) 0
-  zeros_more x = take-set-le (k - 1) bytes (k - 1) x (omega arith) ∙ front_zeros (k - 1) (omega arith)
-
-  pub spelled_whole : (a b c : ℕ)
-      → (k - 3 ≤ 13) × (length (set (set (set bytes (k - 3) a) (k - 3 + 1) b) (k - 3 + 2) c) ≡ 13)
-      × (take (k - 3) (set (set (set bytes (k - 3) a) (k - 3 + 1) b) (k - 3 + 2) c) ≡ replicate (k - 3) 0)
-  spelled_whole a b c =
-      let i = k - 3 in
-      let s₁ = set bytes i a in
-      let s₂ = set s₁ (i + 1) b in (
-        omega (arith, s.high),
-        simp length-set s.sized,
-        take-set-le i s₂ (i + 2) c (omega arith) ∙ take-set-le i s₁ (i + 1) b (omega arith) ∙ take-set-le i bytes i a (omega arith) ∙ front_zeros i (omega arith),
-      )
 
 -- ---- a text compared with it
 

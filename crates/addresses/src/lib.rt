@@ -1,8 +1,7 @@
 // Who is meant by a destination: the bus, a peer by its unique name or a name that it owns, or nobody.
 #![tactic(auto)]
 
-ghost use Rattle.std.specs.Prelude.{◌≡◌, ◌-◌, ◌≤◌, ◌++◌, List, ℕ, length, take, drop, replicate};
-ghost use Rattle.std.proofs.Common.{arith, length-drop, take-append-drop};
+ghost use Rattle.std.specs.Prelude.{◌≡◌, ◌≤◌, List, ℕ, length, drop};
 ghost use Rattle.wire.specs.Bytes.{same};
 ghost use Rattle.rules.specs.Addresses.{unique_name, answers_to};
 ghost use Rattle.rules.specs.Calls.{slot_at};
@@ -15,29 +14,27 @@ ghost use Rattle.addresses.specs.Destinations.{Seeks, Resolved};
 use header::Place;
 use std::marker::Model;
 
-// A text at the end of 13 bytes, from `from` on, with zeros in front of it, so that the text alone says the fields.
+// A text at the end of 13 bytes, from `from` on.
 #[derive(Clone, Copy)]
 pub struct Text {
     bytes: [u8; 13],
     from: usize,
 }
 
+// The value has both fields, so that the text may be copied.
 impl Model for Text {
-    ghost Value = { List ℕ };
+    ghost Value = { List ℕ × ℕ };
 
-    ghost view = { λ t. drop t.from t.bytes };
+    ghost view = { λ t. (t.bytes, t.from) };
 
-    ghost invariant = { λ t. (t.from ≤ 13) × (length t.bytes ≡ 13) × (take t.from t.bytes ≡ replicate t.from 0) };
+    ghost invariant = { λ t. t.from ≤ 13 };
 
-    ghost inverse = { λ text. record { bytes = replicate (13 - length text) 0 ++ text; from = 13 - length text } };
-
-    ghost inverse_ok = { λ t h. let n : 13 - length (drop t.from t.bytes) ≡ t.from = omega (arith, length-drop t.from t.bytes, h.0, h.1) in
-        rw (n, ← h.2, take-append-drop t.from t.bytes) };
+    ghost inverse = { λ v. record { bytes = v.0; from = v.1 } };
 }
 
 impl Text {
     fn as_slice(&self) -> &[u8]
-        ensures { result.now ≡ self.now }
+        ensures { result.now ≡ drop self.now.1 self.now.0 }
     {
         &self.bytes[self.from..]
     }
@@ -54,7 +51,7 @@ pub enum Destination {
 
 // The unique name of a peer (rule 7.2), written from its last digit on, and then the prefix.
 fn unique_name(number: u32) -> Text
-    ensures { result ≡ unique_name number }
+    ensures { drop result.1 result.0 ≡ unique_name number }
 {
     let mut bytes = [0u8; 13];
     let mut k = 13;

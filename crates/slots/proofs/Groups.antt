@@ -1,17 +1,16 @@
 -- The gids of a slot, copied in front of a list of sixteen.
 use mathlib.Core.Path.{◌≡◌, refl, sym, ap, ◌∙◌}
 use mathlib.Core.List.{List, [], ◌∷◌, ◌++◌, append-nil}
-use Prim.Native.Nat.{ℕ, ◌+◌, ◌-◌, ◌*◌, ◌≤◌, ◌<◌, min}
+use Prim.Native.Nat.{ℕ, ◌+◌, ◌*◌, ◌≤◌, ◌<◌, min}
 use native.Mathlib.Omega.{arith}
 use native.Mathlib.Numerals.{add-one}
-use lib.ListN.{length, take, drop, set, replicate, length-set, drop_of_length-le}
-use lib.Seq.{take-suc-set, append_snoc, drop-drop, drop-set-lt}
+use lib.ListN.{length, take, drop, set, length-set, drop_of_length-le}
+use lib.Seq.{take-suc-set, append_snoc}
 use borrow.Author.Rules.{rules}
-use Rattle.wire.proofs.Parts.{drop_zeros}
 use Rattle.wire.specs.Words.{word_at}
 use Rattle.wire.specs.declared.Order.TheVariants.{Little}
 use Rattle.memory.specs.Layout.{slot_start, gids_at, first_gid, gid_width, gid_room}
-use Rattle.slots.specs.Slots.{peer_at, Filled}
+use Rattle.slots.specs.Slots.{peer_at}
 use Rattle.memory.proofs.Reading.{gid_next, gids_many}
 
 -- k of the gids are copied, and the rest stands in memory
@@ -51,14 +50,3 @@ module _ {m : List ℕ} {i count : ℕ} {list : List ℕ} {k : ℕ} (g : Gatheri
       sym (append-nil (take count list)) ∙ ap (λ (l : List ℕ). take count list ++ l) (sym n) ∙ rw e at g.left
 
 pub ruleset gathering = (gathering_begins, gathering_more, gathering_ends, rules)
-
--- ---- the zeros behind the gids, which are the list's own
-
-module _ {m : List ℕ} {i count : ℕ} {list : List ℕ} {k : ℕ} (g : Gathering m i count list k) (z : drop k list ≡ replicate (gid_room - k) 0) where
-  pub zeros_more : (x : ℕ) → drop (k + 1) (set list k x) ≡ replicate (gid_room - (k + 1)) 0
-  zeros_more x =
-      let e : gid_room - k - 1 ≡ gid_room - (k + 1) = omega arith in
-      drop-set-lt (k + 1) list k x (omega arith) ∙ sym (drop-drop 1 k list) ∙ ap (drop 1) z ∙ rw (← e) (drop_zeros 1 (gid_room - k))
-
-  pub gathered_whole : count ≤ k → Filled list count
-  gathered_whole h = let e : k ≡ count = omega (arith, g.inside) in record { few = g.few; sized = g.sized; rest = rw e at z }

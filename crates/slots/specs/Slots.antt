@@ -1,8 +1,8 @@
 -- What stands in slot i of a memory.
-use Rattle.std.specs.Prelude.{Bool, ◌≡◌, List, ℕ, ◌+◌, ◌-◌, ◌*◌, ◌≤◌, ◌<◌, length, take, drop, replicate, get_or, Option, IfSome, unwrap_or}
+use Rattle.std.specs.Prelude.{Bool, ◌≡◌, List, ℕ, ◌+◌, ◌*◌, ◌<◌, length, take, drop, get_or, Option, IfSome, unwrap_or}
 use Rattle.stream.specs.Tail.{Tail}
 use Rattle.rules.specs.State.{Peer, first_by}
-use Rattle.memory.specs.Layout.{memory_length, slot_start, first_name, gid_room}
+use Rattle.memory.specs.Layout.{memory_length, slot_start, first_name}
 use Rattle.policy.specs.Names.{name_width}
 use Rattle.memory.specs.Sound.{Held}
 use Rattle.memory.specs.Places.{number_at, peer_from}
@@ -31,9 +31,3 @@ pub record Seated (m : List ℕ) (i : ℕ) : Type 0 where
 pub record FoundIn {A : Type 0} (t : A → Bool) (xs : List A) (from : ℕ) (r : Option ℕ) : Type 0 where
   pub inside : IfSome r (λ i. i < length xs)
   pub is : unwrap_or r (from + length (drop from xs)) ≡ from + first_by t (drop from xs)
-
--- a peer's gids, `count` of them, stand first in a list of sixteen, with zeros behind them
-pub record Filled (list : List ℕ) (count : ℕ) : Type 0 where
-  pub few : count ≤ gid_room
-  pub sized : length list ≡ gid_room
-  pub rest : drop count list ≡ replicate (gid_room - count) 0

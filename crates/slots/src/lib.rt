@@ -1,8 +1,7 @@
 // Readings of the guard's memory: the words of a slot, and which slot a peer has.
 #![tactic(auto)]
 
-ghost use Rattle.std.specs.Prelude.{◌≡◌, ◌+◌, ◌-◌, ◌*◌, ◌≤◌, ◌<◌, ◌++◌, List, ℕ, length, take, drop, replicate, get_or};
-ghost use Rattle.std.proofs.Common.{arith, take-append-drop, length-take-le};
+ghost use Rattle.std.specs.Prelude.{◌≡◌, ◌+◌, ◌*◌, ◌≤◌, ◌<◌, List, ℕ, length, take, drop, get_or};
 ghost use Rattle.wire.specs.Words.{word_at, long_at};
 ghost use Rattle.wire.specs.declared.Order.TheVariants.{Little};
 ghost use Rattle.rules.specs.State.{is_free, is_peer};
@@ -13,7 +12,7 @@ ghost use Rattle.policy.specs.Names.{owns, name_width};
 ghost use Rattle.memory.specs.Layout.{memory_length, slot_length, slot_start, call_room, first_name, name_room, gid_room};
 ghost use Rattle.memory.specs.Encoding.{state_of};
 ghost use Rattle.memory.specs.Places.{number_at, FoundSlot};
-ghost use Rattle.slots.specs.Slots.{peer_at, name_at, At, FoundIn, Filled};
+ghost use Rattle.slots.specs.Slots.{peer_at, name_at, At, FoundIn};
 
 use memory::{
     CALL_ROOM, CALL_WIDTH, FIRST_CALLEE, FIRST_GID, FIRST_NAME, FIRST_SERIAL, GID_ROOM, GID_WIDTH,
@@ -22,29 +21,27 @@ use memory::{
 use std::marker::Model;
 use wire::Order;
 
-// A peer's gids: the first `count` of the list, with zeros behind them, so that the gids alone say the fields.
+// A peer's gids: the first `count` of the list.
 #[derive(Clone, Copy)]
 pub struct Gids {
     list: [u32; GID_ROOM],
     count: usize,
 }
 
+// The value has both fields, so that the gids may be copied.
 impl Model for Gids {
-    ghost Value = { List ℕ };
+    ghost Value = { List ℕ × ℕ };
 
-    ghost view = { λ g. take g.count g.list };
+    ghost view = { λ g. (g.list, g.count) };
 
-    ghost invariant = { λ g. Filled g.list g.count };
+    ghost invariant = { λ g. g.count ≤ gid_room };
 
-    ghost inverse = { λ gids. record { list = gids ++ replicate (gid_room - length gids) 0; count = length gids } };
-
-    ghost inverse_ok = { λ g h. let n : length (take g.count g.list) ≡ g.count = length-take-le g.count g.list (omega (arith, h.few, h.sized)) in
-        rw (n, ← h.rest, take-append-drop g.count g.list) };
+    ghost inverse = { λ v. record { list = v.0; count = v.1 } };
 }
 
 impl Gids {
     pub fn as_slice(&self) -> &[u32]
-        ensures { result.now ≡ self.now }
+        ensures { result.now ≡ take self.now.1 self.now.0 }
     {
         &self.list[..self.count]
     }
@@ -112,7 +109,7 @@ pub fn find_free(memory: &[u8]) -> Option<usize>
 // The gids of the peer in slot i.
 pub fn gids_at(memory: &[u8], i: usize) -> Gids
     requires { At memory.now i }
-    ensures { result ≡ (peer_at memory.now i).gids }
+    ensures { take result.1 result.0 ≡ (peer_at memory.now i).gids }
 {
     let mut list = [0u32; GID_ROOM];
     let count = (word_at(memory, i, GIDS_AT) as usize).min(GID_ROOM);
