@@ -2,6 +2,7 @@
 use Rattle.std.proofs.Common.{◌≡◌, ℕ, Bool, true, false, refl, eqb, ◌∙◌}
 use mathlib.Core.Bool.{◌&&◌}
 use borrow.Author.Tests.{eq-eqb, ne_eqb}
+use Rattle.image.specs.Rules.{rule_from}
 use Rattle.policy.specs.Matching.{transaction_matches}
 use Rattle.matching.proofs.transaction_matches.Goals as goal
 use Rattle.matching.proofs.transaction_matches.Goals.{then-image-at, else-image-at}
@@ -17,14 +18,14 @@ pub returns-then-rule_fits : goal.returns-then-rule_fits
 unfolding transaction_matches
 returns-then-rule_fits c =
     elim c.if-image-at.branch [
-      | then-image-at w ↦ rw (← both_hold _ _ w.if-image-at.true w.value-is w.rule_fits.ensures, c.if-rule_fits.true) c.name_fits.ensures
-      | else-image-at w ↦ rw (← first_fails _ _ w.if-image-at.false _ w.value-is, c.if-rule_fits.true) c.name_fits.ensures
+      | then-image-at w ↦ rw (← both_hold (rule_from c.args.image.now c.args.at).direction _ w.if-image-at.true w.value-is w.rule_fits.ensures, c.if-rule_fits.true) c.name_fits.ensures
+      | else-image-at w ↦ rw (← first_fails (rule_from c.args.image.now c.args.at).direction _ w.if-image-at.false _ w.value-is, c.if-rule_fits.true) c.name_fits.ensures
     ]
 
 pub returns-else-rule_fits : goal.returns-else-rule_fits
 unfolding transaction_matches
 returns-else-rule_fits c =
     elim c.if-image-at.branch [
-      | then-image-at w ↦ rw (← both_hold _ _ w.if-image-at.true w.value-is w.rule_fits.ensures, c.if-rule_fits.false) refl
-      | else-image-at w ↦ rw (← first_fails _ _ w.if-image-at.false _ w.value-is, c.if-rule_fits.false) refl
+      | then-image-at w ↦ rw (← both_hold (rule_from c.args.image.now c.args.at).direction _ w.if-image-at.true w.value-is w.rule_fits.ensures, c.if-rule_fits.false) refl
+      | else-image-at w ↦ rw (← first_fails (rule_from c.args.image.now c.args.at).direction _ w.if-image-at.false _ w.value-is, c.if-rule_fits.false) refl
     ]
