@@ -5,6 +5,7 @@ pub mod Below
 pub mod Parts
 pub mod Words
 pub mod Longs
+mod Runs
 pub mod Ranges
 pub mod Blocks
 mod Loads
