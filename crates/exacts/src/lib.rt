@@ -32,7 +32,7 @@ fn put_exact(room: &mut [u8], at: usize, rule: &[u8], offset: usize, len: usize)
     requires { ExactAt room.old at rule.now offset len }
     ensures { room.new ≡ put at (exact rule.now offset len) room.old }
 {
-    room[at..at + NAME_SPAN].copy_from_slice(&rule[0..NAME_SPAN]);
+    wire::copy(&mut room[at..at + NAME_SPAN], &rule[0..NAME_SPAN]);
     room[at + MATCHER_BYTE] = 1;
     put_span(room, at + NAME_SPAN, offset, len);
 }
@@ -85,7 +85,7 @@ fn put_rule(
         let prefix = image::text(image, strings, place + NAME_SPAN);
         put_exacts(room, at, rule, prefix, image.len() - strings, list, starts)
     } else {
-        room[at..at + OWN_SIZE].copy_from_slice(rule);
+        wire::copy(&mut room[at..at + OWN_SIZE], rule);
         at + OWN_SIZE
     }
 }
@@ -112,7 +112,7 @@ fn put_names(room: &mut [u8], at: usize, list: &[u8], starts: &[usize])
     let mut at = at;
     for &start in starts {
         let name = lists::name_at(list, start);
-        room[at..at + name.len()].copy_from_slice(name);
+        wire::copy(&mut room[at..at + name.len()], name);
         at += name.len();
     }
 }
@@ -144,7 +144,7 @@ fn put_front(room: &mut [u8], image: &[u8], size: usize, owns: usize)
 {
     put_header(room, image, size, owns);
     let to = word(image, OWN_OFFSET);
-    room[SECTIONS_AT..to].copy_from_slice(&image[SECTIONS_AT..to]);
+    wire::copy(&mut room[SECTIONS_AT..to], &image[SECTIONS_AT..to]);
 }
 
 // All that stands behind them, from `at` on.
@@ -154,7 +154,7 @@ fn put_back(room: &mut [u8], at: usize, image: &[u8], list: &[u8], starts: &[usi
 {
     let from = word(image, TRANSACTION_OFFSET);
     let to = at + image.len() - from;
-    room[at..to].copy_from_slice(&image[from..]);
+    wire::copy(&mut room[at..to], &image[from..]);
     put_names(room, to, list, starts);
 }
 

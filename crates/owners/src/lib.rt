@@ -40,7 +40,7 @@ fn put_name(memory: &mut [u8], at: usize, name: &[u8])
     memory[at] = name.len() as u8;
     let from = at + 1;
     let to = from + name.len();
-    memory[from..to].copy_from_slice(name);
+    wire::copy(&mut memory[from..to], name);
 }
 
 // Gives the name, which is nobody's, to the peer of slot i: 34.

@@ -81,7 +81,7 @@ fn head_of(memory: &[u8], i: usize, n: usize) -> [u8; HEAD_ROOM]
     let mut head = [0u8; HEAD_ROOM];
     let from = SLOTS_AT + SLOT_LENGTH * i + FIRST_BYTE;
     let to = from + n;
-    head[0..n].copy_from_slice(&memory[from..to]);
+    wire::copy(&mut head[0..n], &memory[from..to]);
     head
 }
 

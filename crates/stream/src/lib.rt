@@ -40,7 +40,7 @@ fn store(head: &mut [u8], stored: usize, limit: usize, piece: &[u8], used: usize
     let k = (limit - stored).min(piece.len() - used);
     let to = stored + k;
     let end = used + k;
-    head[stored..to].copy_from_slice(&piece[used..end]);
+    wire::copy(&mut head[stored..to], &piece[used..end]);
     k
 }
 

@@ -6,6 +6,7 @@ pub mod Below
 pub mod Parts
 pub mod Words
 pub mod Longs
+mod Runs
 pub mod Ranges
 pub mod Blocks
 mod Loads

@@ -187,3 +187,13 @@ pub fn equal(a: &[u8], b: &[u8]) -> bool
     }
     equal_words(a, b)
 }
+
+// Copies src over dst, which is as long. A loop: `copy_from_slice` calls memmove, and of a C library this one is to need memcpy and memset alone.
+pub fn copy(dst: &mut [u8], src: &[u8])
+    requires { length dst.old ≡ length src.now }
+    ensures { dst.new ≡ src.now }
+{
+    for i in 0..src.len() {
+        dst[i] = src[i];
+    }
+}

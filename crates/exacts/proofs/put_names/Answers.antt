@@ -1,8 +1,8 @@
 use Rattle.exacts.proofs.Adding.{adding}
 use Rattle.exacts.proofs.put_names.Goals as goal
 
-pub slice_bounds-copy_from_slice-end : goal.slice_bounds-copy_from_slice-end
-slice_bounds-copy_from_slice-end c = search adding
+pub slice_bounds-copy-end : goal.slice_bounds-copy-end
+slice_bounds-copy-end c = search adding
 
 pub returns : goal.returns
 returns c = search adding

@@ -7,8 +7,8 @@ text-prefix-requires c = search becoming
 pub put_exacts-requires : goal.put_exacts-requires
 put_exacts-requires c = search becoming
 
-pub slice_bounds-copy_from_slice-end : goal.slice_bounds-copy_from_slice-end
-slice_bounds-copy_from_slice-end c = search becoming
+pub slice_bounds-copy-end : goal.slice_bounds-copy-end
+slice_bounds-copy-end c = search becoming
 
 pub returns-then-rule-eq-PREFIX : goal.returns-then-rule-eq-PREFIX
 returns-then-rule-eq-PREFIX c = search becoming

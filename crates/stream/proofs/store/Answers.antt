@@ -2,8 +2,8 @@
 use Rattle.stream.proofs.Regions.{same_lengths, stores}
 use Rattle.stream.proofs.store.Goals as goal
 
-pub copy_from_slice-requires : goal.copy_from_slice-requires
-copy_from_slice-requires c = search same_lengths
+pub copy-requires : goal.copy-requires
+copy-requires c = search same_lengths
 
 pub returns : goal.returns
 returns c = search stores
