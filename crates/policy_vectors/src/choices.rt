@@ -1,5 +1,5 @@
 // What is chosen: a seed and a place determine it.
-ghost use Rattle.std.specs.Prelude.{◌<◌, ◌≤◌};
+ghost use Rattle.std.specs.Prelude.{◌<◌};
 
 // The choices of a seed from a place on.
 #[derive(Clone, Copy)]
@@ -18,17 +18,15 @@ impl Choices {
         }
     }
 
-    fn number(self, offset: usize) -> usize
-        requires { offset ≤ 32 }
-    {
-        let place = self.place + offset;
+    fn number(self, offset: usize) -> usize {
+        let place = self.place + offset % 4096;
         let spread = (self.seed % 256 * 4096 + place % 4096) * 2654435761 / 65536 % 65536;
         spread * 40503 / 64 % 65536
     }
 
     // One of these, by the number so far behind the place.
     pub fn pick<T: Copy, const N: usize>(self, offset: usize, from: [T; N]) -> T
-        requires { (0 < N) × (offset ≤ 32) }
+        requires { 0 < N }
     {
         from[self.number(offset) % N]
     }
